@@ -19,7 +19,7 @@ use Rattle.qimg_core.specs.declared.check.CheckFault.{CheckFault}
 use Rattle.qimg_core.specs.declared.check.CheckFault.TheVariants.{Table, Memory, Storage}
 use Rattle.qimg_core.specs.declared.check.names.Tallies.{Tallies}
 use Rattle.qimg_core.specs.Files.{file}
-use Rattle.qimg_core.specs.Names.{KeepsCells, named_by, structure_part, mapped_part, copied_part}
+use Rattle.qimg_core.specs.Names.{KeepsCells, SparesLists, named_by, structure_part, mapped_part, copied_part}
 use Rattle.qimg_core.specs.CheckParts.{IsDamagedTable, IsOneDamaged, AreTables, sum_over}
 use Rattle.qimg_core.specs.Check.{Found}
 use Rattle.qimg_core.proofs.PlacesNamed.{places-step}
@@ -32,6 +32,7 @@ pub record NamedTo (old now : StorageState) (h : Fields) (before names : Tallies
   pub few : times ≤ i
   pub last : i ≡ length places → times ≡ 0
   pub cells : KeepsCells before names
+  pub spares : SparesLists before → SparesLists names
   pub structure : (c : ℕ) → named_by structure_part c names ≡ named_by structure_part c before
   pub mapped : (c : ℕ) → named_by mapped_part c names + times * of_table (file old) h (of_mapping h (meets h c)) (slice_index places i) ≡ named_by mapped_part c before + sum_over (of_table (file old) h (of_mapping h (meets h c))) (take i places)
   pub copied : (c : ℕ) → named_by copied_part c names + times * of_table (file old) h (of_copied h (meets h c)) (slice_index places i) ≡ named_by copied_part c before + sum_over (of_table (file old) h (of_copied h (meets h c))) (take i places)
@@ -50,6 +51,7 @@ module _ (old now : StorageState) (h : Fields) (before names : Tallies) (places 
     few = omega (arith, so_far.few);
     last = λ all. absurd (omega arith);
     cells = so_far.cells;
+    spares = so_far.spares;
     structure = so_far.structure;
     mapped = λ c. one-more (of_table (file old) h (of_mapping h (meets h c))) _ _ (so_far.mapped c);
     copied = λ c. one-more (of_table (file old) h (of_copied h (meets h c))) _ _ (so_far.copied c);
@@ -83,6 +85,7 @@ module _ (old now : StorageState) (h : Fields) (before names : Tallies) (places 
     few = omega arith;
     last = λ all. refl;
     cells = own.cells ∙ so_far.cells;
+    spares = λ spared. own.spares (so_far.spares spared);
     structure = λ c. own.structure c ∙ (no-more (named_by structure_part c names) ∙ so_far.structure c);
     mapped = λ c. all-now (of_table (file old) h (of_mapping h (meets h c))) _ _ _ (own.mapped c) (so_far.mapped c);
     copied = λ c. all-now (of_table (file old) h (of_copied h (meets h c))) _ _ _ (own.copied c) (so_far.copied c);
@@ -118,6 +121,7 @@ module _ (old now : StorageState) (h : Fields) (before names : Tallies) (places 
       mapped = λ c. whole (of_table (file old) h (of_mapping h (meets h c))) _ _ (so_far.mapped c);
       copied = λ c. whole (of_table (file old) h (of_copied h (meets h c))) _ _ (so_far.copied c);
       cells = so_far.cells;
+      spares = so_far.spares;
     }
       where
         step : (a b s s' x times' : ℕ) → times' ≡ 0 → s ≡ s' → a + times' * x ≡ b + s → a ≡ b + s'

@@ -1,5 +1,5 @@
 -- One cluster and one more are entered.
-use Rattle.std.proofs.Common.{◌≡◌, ◌≢◌, ℕ, ◌+◌, ◌*◌, ◌<◌, ◌≤◌, refl, arith, ap, sym, ◌∙◌, List, [], length, inl, inr}
+use Rattle.std.proofs.Common.{◌≡◌, ◌≢◌, ℕ, ◌+◌, ◌*◌, ◌<◌, ◌≤◌, refl, arith, ap, sym, subst, ◌∙◌, List, [], length, inl, inr}
 use Rattle.std.specs.Prelude.{slice_index_or, slice_set, replicate}
 use Rattle.std.specs.List.{sum_by}
 use Rattle.std.specs.List.Sorted.{IsPermutation, IsSorted}
@@ -12,7 +12,7 @@ use Rattle.qimg_core.specs.declared.check.names.Times.{Times}
 use Rattle.qimg_core.specs.declared.check.names.FewTimes.{FewTimes}
 use Rattle.qimg_core.specs.declared.check.names.Tallies.{Tallies}
 use Rattle.qimg_core.specs.declared.check.names.Others.{Others}
-use Rattle.qimg_core.specs.Names.{structure_part, mapped_part, copied_part, no_few_times, cell_at, weight_in, weight_of, other_at, together, times_at, named_by, is_between, KeepsCells, IsSum, IsFewSum, IsRising, TellsNothing, Total, Adds, AddsClusters, AddsWeight, AddsEntry}
+use Rattle.qimg_core.specs.Names.{structure_part, mapped_part, copied_part, no_times, no_few_times, cell_at, weight_in, weight_of, other_at, together, times_at, named_by, is_between, FitsCell, SparesLists, HasRoom, HasRoomAt, KeepsCells, IsSum, IsFewSum, IsRising, TellsNothing, Total, Adds, AddsClusters, AddsWeight, AddsEntry}
 
 -- a range of no clusters
 pub adds-none : (names : Tallies) (low : ℕ) (times : Times) → AddsClusters names names low low times
@@ -21,6 +21,7 @@ adds-none names low times = record {
   mapped = λ c. none (named_by mapped_part c names) times.mapped c;
   copied = λ c. none (named_by copied_part c names) times.copied c;
   cells = refl;
+  spares = λ spared. spared;
 }
   where
     between : (c : ℕ) → is_between low low c ≡ 0
@@ -36,6 +37,7 @@ adds-more old now new low k times le before here = record {
   mapped = λ c. more times.mapped c _ _ _ (before.mapped c) (here.mapped c);
   copied = λ c. more times.copied c _ _ _ (before.copied c) (here.copied c);
   cells = here.cells ∙ before.cells;
+  spares = λ spared. here.spares (before.spares spared);
 }
   where
     between : (x c : ℕ) → x * is_between low (k + 1) c ≡ x * is_between low k c + x * is_between k (k + 1) c
@@ -50,8 +52,9 @@ times-of s m p = record { structure = s; mapped = m; copied = p }
 pub as-times : {s t m n p q : ℕ} → s ≡ t → m ≡ n → p ≡ q → times-of s m p ≡ times-of t n q
 as-times {s} {t} {m} {n} {p} {q} is is-2 is-3 = ap (λ x. times-of x m p) is ∙ (ap (λ x. times-of t x p) is-2 ∙ ap (times-of t n) is-3)
 
--- One cluster is entered, where no other changes.
-module _ (old new : Tallies) (k : ℕ) (times : Times) (sum : IsSum (times_at old k) times (times_at new k)) (apart : (c : ℕ) → c ≢ k → times_at new c ≡ times_at old c) (kept : KeepsCells old new) where
+-- One cluster is entered, where no other changes, and the lists go on to name none that a cell can count.
+module _ (old new : Tallies) (k : ℕ) (times : Times) (sum : IsSum (times_at old k) times (times_at new k)) (apart : (c : ℕ) → c ≢ k → times_at new c ≡ times_at old c) (kept : KeepsCells old new)
+    (spared : (c : ℕ) → c < length old.cells.items → FitsCell (times_at new c) → other_at old.others c ≡ no_times → other_at new.others c ≡ no_times) where
   at-one : (part : Times → ℕ) (x : ℕ) → part (times_at new k) ≡ part (times_at old k) + x → (c : ℕ) → part (times_at new c) ≡ part (times_at old c) + x * is_between k (k + 1) c
   at-one part x here c = elim (cases_eq c k) [
     | inl is ↦
@@ -71,7 +74,12 @@ module _ (old new : Tallies) (k : ℕ) (times : Times) (sum : IsSum (times_at ol
     mapped = at-one mapped_part times.mapped sum.mapped;
     copied = at-one copied_part times.copied sum.copied;
     cells = kept;
+    spares = λ before c lt fits. let has : c < length old.cells.items = omega (arith, lt, kept) in spared c has fits (before c has (less c fits));
   }
+    where
+      -- it was named less often
+      less : (c : ℕ) → FitsCell (times_at new c) → FitsCell (times_at old c)
+      less c fits = (omega (arith, fits.0, at-one structure_part times.structure sum.structure c), omega (arith, fits.1, at-one mapped_part times.mapped sum.mapped c), omega (arith, fits.2, at-one copied_part times.copied sum.copied c))
 
 -- in its cell
 pub adds-in-cell : (old new : Tallies) (k : ℕ) (times : Times) (cell sum : FewTimes) → k < length old.cells.items → cell ≡ slice_index_or old.cells.items k cell → IsFewSum cell times sum → new.cells.items ≡ slice_set old.cells.items k sum → new.others ≡ old.others
@@ -88,6 +96,7 @@ adds-in-cell old new k times cell sum lt is room cells others =
     ap (λ x. together x (other_at new.others c)) (ap (λ l. cell_at l c) cells ∙ get_or-set_other old.cells.items k c sum no_few_times ne)
     ∙ ap (λ o. together (cell_at old.cells.items c) (other_at o c)) others)
     (ap (λ (l : List FewTimes). length l) cells ∙ length-set old.cells.items k sum)
+    (λ c lt fits none. ap (λ o. other_at o c) others ∙ none)
   where
     here : cell_at new.cells.items k ≡ sum
     here = ap (λ l. slice_index_or l k no_few_times) cells ∙ get_or-set_same old.cells.items k sum no_few_times lt
@@ -101,10 +110,10 @@ adds-in-cell old new k times cell sum lt is room cells others =
     step : (a b d e s r x : ℕ) → a ≡ s → b ≡ r → d ≡ e → s ≡ r + x → a + d ≡ b + e + x
     step a b d e s r x p q u t = omega (arith, p, q, u, t)
 
--- in its entry
-pub adds-in-entry : (old new : Tallies) (k : ℕ) (times : Times) → AddsEntry old.others new.others k times → new.cells.items ≡ old.cells.items → AddsClusters old new k (k + 1) times
+-- in the lists, where it has no cell or that no room
+pub adds-in-entry : (old new : Tallies) (k : ℕ) (times : Times) → (HasRoomAt old k times → ⊥) → AddsEntry old.others new.others k times → new.cells.items ≡ old.cells.items → AddsClusters old new k (k + 1) times
 unfolding times_at
-adds-in-entry old new k times adds cells =
+adds-in-entry old new k times full adds cells =
     adds-one old new k times
     (record {
       structure = step _ _ _ _ _ (ap (λ (n : FewTimes). n.structure) same) adds.here.structure;
@@ -113,12 +122,27 @@ adds-in-entry old new k times adds cells =
     })
     (λ c ne. ap (λ x. together x (other_at new.others c)) (ap (λ l. cell_at l c) cells) ∙ ap (together (cell_at old.cells.items c)) (adds.others c ne))
     (ap (λ (l : List FewTimes). length l) cells)
+    (λ c lt fits none. elim (cases_eq c k) [
+      | inl is ↦ absurd (full (omega (arith, lt, is), roomy (subst (λ i. FitsCell (times_at new i)) is fits)))
+      | inr ne ↦ adds.others c ne ∙ none
+    ])
   where
     same : cell_at new.cells.items k ≡ cell_at old.cells.items k
     same = ap (λ l. cell_at l k) cells
 
     step : (a b d e x : ℕ) → a ≡ b → d ≡ e + x → a + d ≡ b + e + x
     step a b d e x p q = omega (arith, p, q)
+
+    less : (a b d e x n : ℕ) → a ≡ b → d ≡ e + x → a + d < n → b + x < n
+    less a b d e x n p q lt = omega (arith, p, q, lt)
+
+    -- what it is named in all would have had room
+    roomy : FitsCell (times_at new k) → HasRoom (cell_at old.cells.items k) times
+    roomy fits = (
+      less _ _ _ _ _ _ (ap (λ (n : FewTimes). n.structure) same) adds.here.structure fits.0,
+      less _ _ _ _ _ _ (ap (λ (n : FewTimes). n.mapped) same) adds.here.mapped fits.1,
+      less _ _ _ _ _ _ (ap (λ (n : FewTimes). n.copied) same) adds.here.copied fits.2,
+    )
 
 -- it is entered in each list
 pub adds-entry : (old new : Others) (k : ℕ) (times : Times) → AddsWeight old.structure.items new.structure.items k times.structure → AddsWeight old.mapped.items new.mapped.items k times.mapped → AddsWeight old.copied.items new.copied.items k times.copied → AddsEntry old new k times
@@ -128,12 +152,17 @@ adds-entry old new k times structure mapped copied = record {
   others = λ d ne. as-times (structure.others d ne) (mapped.others d ne) (copied.others d ne);
 }
 
+-- no name stands in the lists
+pub no-others : (others : Others) (c : ℕ) → others.structure.items ≡ [] → others.mapped.items ≡ [] → others.copied.items ≡ [] → other_at others c ≡ no_times
+unfolding other_at
+no-others others c structure mapped copied = as-times (ap (sum_by (weight_in c)) structure) (ap (sum_by (weight_in c)) mapped) (ap (sum_by (weight_in c)) copied)
+
 -- no name, with n cells
 pub no-names : (names : Tallies) (n : ℕ) → names.cells.items ≡ replicate n no_few_times → names.others.structure.items ≡ [] → names.others.mapped.items ≡ [] → names.others.copied.items ≡ [] → TellsNothing names
-unfolding times_at cell_at other_at
+unfolding times_at cell_at
 no-names names n cells structure mapped copied c =
     ap (λ x. together x (other_at names.others c)) (ap (λ l. slice_index_or l c no_few_times) cells ∙ blank)
-    ∙ ap (together no_few_times) (as-times (ap (sum_by (weight_in c)) structure) (ap (sum_by (weight_in c)) mapped) (ap (sum_by (weight_in c)) copied))
+    ∙ ap (together no_few_times) (no-others names.others c structure mapped copied)
   where
     blank : slice_index_or (replicate n no_few_times) c no_few_times ≡ no_few_times
     blank = elim (cases_lt c n) [
@@ -142,14 +171,22 @@ no-names names n cells structure mapped copied c =
     ]
 
 -- the lists are put in order
-pub sorted-same : (old new : Tallies) → new.cells.items ≡ old.cells.items → IsPermutation old.others.structure.items new.others.structure.items → IsPermutation old.others.mapped.items new.others.mapped.items → IsPermutation old.others.copied.items new.others.copied.items → (c : ℕ) → times_at new c ≡ times_at old c
-unfolding times_at other_at
-sorted-same old new cells structure mapped copied c =
-    ap (λ l. together (cell_at l c) (other_at new.others c)) cells
-    ∙ ap (together (cell_at old.cells.items c)) (as-times (sum_by-IsPermutation (weight_in c) _ _ structure) (sum_by-IsPermutation (weight_in c) _ _ mapped) (sum_by-IsPermutation (weight_in c) _ _ copied))
+module _ (old new : Tallies) (cells : new.cells.items ≡ old.cells.items) (structure : IsPermutation old.others.structure.items new.others.structure.items) (mapped : IsPermutation old.others.mapped.items new.others.mapped.items) (copied : IsPermutation old.others.copied.items new.others.copied.items) where
+  sorted-others : (c : ℕ) → other_at new.others c ≡ other_at old.others c
+  unfolding other_at
+  sorted-others c = as-times (sum_by-IsPermutation (weight_in c) _ _ structure) (sum_by-IsPermutation (weight_in c) _ _ mapped) (sum_by-IsPermutation (weight_in c) _ _ copied)
 
-pub adds-since : (h : Fields) (old now new : Tallies) (s m p : Total) → ((c : ℕ) → times_at new c ≡ times_at now c) → KeepsCells now new → Adds h old now s m p → Adds h old new s m p
-adds-since h old now new s m p same kept adds = record { structure = λ c. ap structure_part (same c) ∙ adds.structure c; mapped = λ c. ap mapped_part (same c) ∙ adds.mapped c; copied = λ c. ap copied_part (same c) ∙ adds.copied c; cells = kept ∙ adds.cells }
+  pub sorted-same : (c : ℕ) → times_at new c ≡ times_at old c
+  unfolding times_at
+  sorted-same c = ap (λ l. together (cell_at l c) (other_at new.others c)) cells ∙ ap (together (cell_at old.cells.items c)) (sorted-others c)
+
+  pub sorted-spares : SparesLists old → SparesLists new
+  sorted-spares spared c lt fits =
+      let has : c < length old.cells.items = omega (arith, lt, ap (λ (l : List FewTimes). length l) cells) in
+      sorted-others c ∙ spared c has (subst FitsCell (sorted-same c) fits)
+
+pub adds-since : (h : Fields) (old now new : Tallies) (s m p : Total) → ((c : ℕ) → times_at new c ≡ times_at now c) → KeepsCells now new → (SparesLists now → SparesLists new) → Adds h old now s m p → Adds h old new s m p
+adds-since h old now new s m p same kept spares adds = record { structure = λ c. ap structure_part (same c) ∙ adds.structure c; mapped = λ c. ap mapped_part (same c) ∙ adds.mapped c; copied = λ c. ap copied_part (same c) ∙ adds.copied c; cells = kept ∙ adds.cells; spares = λ spared. spares (adds.spares spared) }
 
 pub sorted-rising : (list : List ℕ) → IsSorted nat_cmp list → IsRising list
 sorted-rising list sorted i j d le lt = let up = IsNonDecreasingBy-from_sort (λ n. n) list sorted i j d le lt in omega (arith, up)

@@ -26,6 +26,7 @@ adds-no-place h old now places i lt none adds = record {
   mapped = adds.mapped;
   copied = adds.copied;
   cells = adds.cells;
+  spares = adds.spares;
 }
   where
     nothing : (c a b : ℕ) → a ≡ b + sum_over (of_cluster h (meets h c)) (take i places) → sum_over (of_cluster h (meets h c)) (take (i + 1) places) ≡ sum_over (of_cluster h (meets h c)) (take i places) + of_cluster h (meets h c) (slice_index places i)
@@ -39,6 +40,7 @@ adds-place h old now new places i place lt is some before here = record {
   mapped = λ c. as-before _ _ _ _ (here.mapped c) (before.mapped c);
   copied = λ c. as-before _ _ _ _ (here.copied c) (before.copied c);
   cells = here.cells ∙ before.cells;
+  spares = λ spared. here.spares (before.spares spared);
 }
   where
     own : (c : ℕ) → of_cluster h (meets h c) (slice_index places i) ≡ meets h c place (cluster_size h)
@@ -54,10 +56,27 @@ adds-place h old now new places i place lt is some before here = record {
     as-before b d e x q r = omega arith
 
 pub adds-no-places : (h : Fields) (xs : Tallies) (places : List ℕ) → AddsPlaces h xs xs (take 0 places)
-adds-no-places h xs places = record { structure = λ c. omega arith; mapped = λ c. omega arith; copied = λ c. omega arith; cells = refl }
+adds-no-places h xs places = record { structure = λ c. omega arith; mapped = λ c. omega arith; copied = λ c. omega arith; cells = refl; spares = λ spared. spared }
 
 pub adds-all-places : (h : Fields) (old new : Tallies) (places : List ℕ) (i : ℕ) → i ≡ length places → AddsPlaces h old new (take i places) → AddsPlaces h old new places
 adds-all-places h old new places i all adds = subst (AddsPlaces h old new) (take_all i places (omega arith)) adds
+
+-- The first cluster and the two tables, one after the other, are the start.
+pub adds_start : (h : Fields) (old one two new : Tallies) (size l1 l1_size table table_size : ℕ) → size ≡ cluster_size h → l1 ≡ h.l1_offset → l1_size ≡ h.l1_entries * 8 → table ≡ h.refcount_table_offset → table_size ≡ h.refcount_table_clusters * cluster_size h
+    → AddsRange h old one 0 size once → AddsRange h one two l1 l1_size once → AddsRange h two new table table_size once → AddsStart h old new
+adds_start h old one two new size l1 l1_size table table_size is is-2 is-3 is-4 is-5 a b d = record {
+  structure = λ c. all _ _ _ _ (ap (meets h c 0) is) (ap (λ p. meets h c p l1_size) is-2 ∙ ap (meets h c h.l1_offset) is-3) (ap (λ p. meets h c p table_size) is-4 ∙ ap (meets h c h.refcount_table_offset) is-5) (a.structure c) (b.structure c) (d.structure c);
+  mapped = λ c. none _ _ _ _ _ _ _ (a.mapped c) (b.mapped c) (d.mapped c);
+  copied = λ c. none _ _ _ _ _ _ _ (a.copied c) (b.copied c) (d.copied c);
+  cells = d.cells ∙ (b.cells ∙ a.cells);
+  spares = λ spared. d.spares (b.spares (a.spares spared));
+}
+  where
+    all : (k l m n : ℕ) {x y z x' y' z' : ℕ} → x ≡ x' → y ≡ y' → z ≡ z' → l ≡ k + 1 * x → m ≡ l + 1 * y → n ≡ m + 1 * z → n ≡ k + (x' + y' + z')
+    all k l m n e f g p q r = omega (arith, e, f, g, p, q, r)
+
+    none : (k l m n x y z : ℕ) → l ≡ k + 0 * x → m ≡ l + 0 * y → n ≡ m + 0 * z → n ≡ k + 0
+    none k l m n x y z p q r = omega (arith, p, q, r)
 
 -- The start, the blocks and the tables, one after the other, are the structure.
 pub adds_structure : (h : Fields) (old start with_blocks new : Tallies) (tables blocks : List ℕ)
@@ -71,6 +90,7 @@ adds_structure h old start with_blocks new tables blocks a b d = record {
   mapped = λ c. chain _ _ _ _ 0 0 0 (a.mapped c) (b.mapped c) (d.mapped c);
   copied = λ c. chain _ _ _ _ 0 0 0 (a.copied c) (b.copied c) (d.copied c);
   cells = d.cells ∙ (b.cells ∙ a.cells);
+  spares = λ spared. d.spares (b.spares (a.spares spared));
 }
   where
     chain : (k l m n x y z : ℕ) → l ≡ k + x → m ≡ l + y → n ≡ m + z → n ≡ k + (x + y + z)

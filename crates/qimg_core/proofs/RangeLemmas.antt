@@ -1,15 +1,16 @@
 -- The clusters that a range of bytes meets.
 use Rattle.std.proofs.Common.{◌≡◌, ℕ, ◌+◌, ◌-◌, ◌*◌, ◌/◌, ◌^◌, ◌<◌, ◌≤◌, refl, arith, ap, sym, ◌∙◌, inl, inr}
-use Rattle.std.specs.Prelude.{◌&&◌, nat_lt, if◌then◌else◌}
+use Rattle.std.specs.Prelude.{Bool, true, false, ◌&&◌, nat_lt, if◌then◌else◌}
 use Rattle.std.proofs.lemmas.Bool.{cases_lt, lt-ltb, le-ltb, le-leb, lt-leb}
 use Rattle.std.proofs.Math.Nat.{div-mul-le_self, lt-div-mul-add, pow-le-pow_right, mul-le-mul_left}
 use Rattle.std.proofs.lemmas.Nat.{pow_pos, mul-le}
 use Rattle.qcow2_types.specs.Header.{Fields, cluster_size}
-use Rattle.qcow2_types.specs.References.{meets}
+use Rattle.qcow2_types.specs.Words.{data_at}
+use Rattle.qcow2_types.specs.References.{Weight, meets, of_copied}
 use Rattle.qimg_core.specs.declared.check.names.Tallies.{Tallies}
 use Rattle.qimg_core.specs.declared.check.names.Times.{Times}
 use Rattle.qimg_core.specs.Names.{named_by, structure_part, mapped_part, copied_part, is_between, AddsClusters}
-use Rattle.qimg_core.specs.Entering.{AddsRange}
+use Rattle.qimg_core.specs.Entering.{AddsRange, AddsMapping}
 
 -- a range meets the clusters from that of its first byte to that of its last, with clusters of s bytes
 between : (s c first length : ℕ) → 0 < s → 0 < length
@@ -50,10 +51,32 @@ adds-range h old new first length low high times long at til adds = record {
   mapped = λ c. adds.mapped c ∙ ap (λ n. named_by mapped_part c old + times.mapped * n) (sym (same c));
   copied = λ c. adds.copied c ∙ ap (λ n. named_by copied_part c old + times.copied * n) (sym (same c));
   cells = adds.cells;
+  spares = adds.spares;
 }
   where
     same : (c : ℕ) → meets h c first length ≡ is_between low (high + 1) c
     same c = meets-between h c first length long ∙ ap (λ a. is_between a ((first + (length - 1)) / cluster_size h + 1) c) (sym at) ∙ ap (λ b. is_between low (b + 1) c) (sym til)
+
+-- so a cluster that a word names, so often, is
+pub adds-data : (h : Fields) (old new : Tallies) (place size cluster times marked : ℕ) (copied : Bool) → place ≡ cluster * cluster_size h → size ≡ cluster_size h → marked ≡ (if copied then times else 0)
+    → AddsRange h old new place size (record { structure = 0; mapped = times; copied = marked }) → AddsMapping h times old new (data_at cluster copied)
+adds-data h old new place size cluster times marked copied at is marks adds = record {
+  structure = λ c. none _ _ _ (adds.structure c);
+  mapped = λ c. adds.mapped c ∙ ap (λ n. named_by mapped_part c old + times * n) (here c);
+  copied = λ c. adds.copied c ∙ ap (λ n. named_by copied_part c old + n) (ap (λ n. n * meets h c place size) marks ∙ ap (λ n. (if copied then times else 0) * n) (here c) ∙ by-mark copied (meets h c));
+  cells = adds.cells;
+  spares = adds.spares;
+}
+  where
+    here : (c : ℕ) → meets h c place size ≡ meets h c (cluster * cluster_size h) (cluster_size h)
+    here c = ap (λ p. meets h c p size) at ∙ ap (meets h c (cluster * cluster_size h)) is
+
+    none : (a b x : ℕ) → a ≡ b + 0 * x → a ≡ b + 0
+    none a b x p = omega (arith, p)
+
+    by-mark : (mark : Bool) (w : Weight) → (if mark then times else 0) * w (cluster * cluster_size h) (cluster_size h) ≡ times * of_copied h w (data_at cluster mark)
+    by-mark true w = refl
+    by-mark false w = omega arith
 
 -- the cluster of an offset below 2 to the 62 leaves room for a digit and its place
 pub cluster-small : (n k : ℕ) → 9 ≤ k → n < 2 ^ 62 → n / 2 ^ k + 1 ≤ 2 ^ 53

@@ -59,6 +59,7 @@ adds-table f h times old new place words is adds = record {
   mapped = λ c. adds.mapped c ∙ ap (λ n. named_by mapped_part c old + times * n) (table-summed f h (of_mapping h (meets h c)) place words is);
   copied = λ c. adds.copied c ∙ ap (λ n. named_by copied_part c old + times * n) (table-summed f h (of_copied h (meets h c)) place words is);
   cells = adds.cells;
+  spares = adds.spares;
 }
 
 -- past the file's end
@@ -78,6 +79,7 @@ module _ (bytes : List ℕ) (h : Fields) (place : ℕ) (past : length bytes ≤ 
     mapped = λ c. nothing _ _ (past-table (of_mapping h (meets h c)) refl);
     copied = λ c. nothing _ _ (past-table (of_copied h (meets h c)) refl);
     cells = refl;
+    spares = λ spared. spared;
   }
     where
       nothing : (n x : ℕ) → x ≡ 0 → n ≡ n + times * x

@@ -32,6 +32,7 @@ adds-no-words h times xs words = record {
   mapped = λ c. none (named_by mapped_part c xs) (words-none h (of_mapping h (meets h c)) words);
   copied = λ c. none (named_by copied_part c xs) (words-none h (of_copied h (meets h c)) words);
   cells = refl;
+  spares = λ spared. spared;
 }
   where
     none : (n : ℕ) {x : ℕ} → x ≡ 0 → n ≡ n + times * x
@@ -44,6 +45,7 @@ adds-word h times old now new words i m lt is before here = record {
   mapped = λ c. more (of_mapping h (meets h c)) _ _ _ (before.mapped c) (here.mapped c);
   copied = λ c. more (of_copied h (meets h c)) _ _ _ (before.copied c) (here.copied c);
   cells = here.cells ∙ before.cells;
+  spares = λ spared. here.spares (before.spares spared);
 }
   where
     step : (a b d x y z : ℕ) → d ≡ b + times * x → b ≡ a + times * y → z ≡ y + x → d ≡ a + times * z

@@ -64,7 +64,7 @@ pub record AreRising (others : Others) : Type 0 where
   pub mapped : IsRising others.mapped.items
   pub copied : IsRising others.copied.items
 
--- a cell and an entry together
+-- a cell and the lists together
 abbrev pub together : FewTimes → Times → Times
 together cell entry = record { structure = cell.structure + entry.structure; mapped = cell.mapped + entry.mapped; copied = cell.copied + entry.copied }
 
@@ -88,6 +88,14 @@ Total = Weight → ℕ
 abbrev pub nothing_named : Total
 nothing_named w = 0
 
+-- A cell can count so often.
+abbrev pub FitsCell : Times → Type 0
+FitsCell n = (n.structure < 2 ^ 8) × (n.mapped < 2 ^ 16) × (n.copied < 2 ^ 8)
+
+-- The lists name no cluster that has a cell and is named no more often than that can count.
+abbrev pub SparesLists : Tallies → Type 0
+SparesLists names = (c : ℕ) → c < length names.cells.items → FitsCell (times_at names c) → other_at names.others c ≡ no_times
+
 -- as many cells as before
 abbrev pub KeepsCells : Tallies → Tallies → Type 0
 KeepsCells old new = length new.cells.items ≡ length old.cells.items
@@ -98,6 +106,7 @@ pub record Adds (h : Fields) (old new : Tallies) (of_structure of_mapped of_copi
   pub mapped : (c : ℕ) → named_by mapped_part c new ≡ named_by mapped_part c old + of_mapped (meets h c)
   pub copied : (c : ℕ) → named_by copied_part c new ≡ named_by copied_part c old + of_copies (meets h c)
   pub cells : KeepsCells old new
+  pub spares : SparesLists old → SparesLists new
 
 -- 1 for the clusters from low up to end, else 0
 abbrev pub is_between : ℕ → ℕ → ℕ → ℕ
@@ -109,6 +118,7 @@ pub record AddsClusters (old new : Tallies) (low end : ℕ) (times : Times) : Ty
   pub mapped : (c : ℕ) → named_by mapped_part c new ≡ named_by mapped_part c old + times.mapped * is_between low end c
   pub copied : (c : ℕ) → named_by copied_part c new ≡ named_by copied_part c old + times.copied * is_between low end c
   pub cells : KeepsCells old new
+  pub spares : SparesLists old → SparesLists new
 
 -- two together
 pub record IsSum (one other sum : Times) : Type 0 where
@@ -124,7 +134,7 @@ pub record IsFewSum (cell : FewTimes) (more : Times) (sum : FewTimes) : Type 0 w
 
 -- A cell can count so much more.
 abbrev pub HasRoom : FewTimes → Times → Type 0
-HasRoom cell more = (cell.structure + more.structure < 2 ^ 8) × (cell.mapped + more.mapped < 2 ^ 16) × (cell.copied + more.copied < 2 ^ 8)
+HasRoom cell more = FitsCell (together cell more)
 
 -- so can that of cluster c
 abbrev pub HasRoomAt : Tallies → ℕ → Times → Type 0

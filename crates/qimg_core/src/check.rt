@@ -4,7 +4,7 @@ ghost use Rattle.imago_storage.specs.Calls.{Kept};
 ghost use Rattle.qcow2_types.specs.Header.{header_of, has_external_data};
 ghost use Rattle.qcow2_types.specs.Consistency.{IsVerdict, Nowhere, tables_sound};
 ghost use Rattle.qimg_core.specs.Files.{file};
-ghost use Rattle.qimg_core.specs.Names.{AreRising};
+ghost use Rattle.qimg_core.specs.Names.{AreRising, SparesLists};
 ghost use Rattle.qimg_core.specs.Searches.{is_such};
 ghost use Rattle.qimg_core.specs.CheckParts.{Tells, IsBlocksEnd, counted_clusters, HasCells, HoldsPlaces, IsUnsound, SharesFirst, fault_of_load};
 ghost use Rattle.qimg_core.specs.Check.{Found, IsFinding};
@@ -143,6 +143,7 @@ fn names_of<S: Storage>(
     requires places { HoldsPlaces (file (S.state image.old)) header.now.fields places.tables.items places.blocks.items }
     ensures told { IfOk result (λ found. Tells (file (S.state image.old)) header.now.fields found.0) }
     ensures cells { IfOk result (λ found. HasCells (length (S.state image.old).bytes) header.now.fields places.blocks.items found.0) }
+    ensures spares { IfOk result (λ found. SparesLists found.0) }
     ensures rising { IfOk result (λ found. AreRising found.0.others) }
     ensures blocks { IfOk result (λ found. found.1.items ≡ places.blocks.items) }
     ensures sound { OnOk result (IsTrue (tables_sound (file (S.state image.old)) header.now.fields)) }

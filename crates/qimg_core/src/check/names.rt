@@ -1,7 +1,7 @@
 // How often each host cluster is named.
-ghost use Rattle.std.specs.Prelude.{◌≡◌, ℕ, ◌+◌, ◌*◌, ◌<◌, ◌≤◌, ◌^◌, length, OnOk, IfOk, IfSome, IsSome, IsOkUnless};
+ghost use Rattle.std.specs.Prelude.{◌≡◌, ℕ, ◌+◌, ◌*◌, ◌<◌, ◌≤◌, ◌^◌, length, OnOk, IfOk, IsOk, IfSome, IsSome, IsOkUnless};
 ghost use Rattle.qimg_core.specs.Entering.{AddsRange};
-ghost use Rattle.qimg_core.specs.Names.{AddsClusters, AddsEntry, KeepsCells, IsFewSum, HasRoom, HasRoomAt, AreRising, TellsNothing, all_times, cell_at, times_at as times_told};
+ghost use Rattle.qimg_core.specs.Names.{AddsClusters, AddsEntry, KeepsCells, IsFewSum, HasRoom, HasRoomAt, SparesLists, AreRising, TellsNothing, all_times, cell_at, times_at as times_told};
 
 use super::CheckFault;
 use super::entries::{enter, weight_at};
@@ -42,7 +42,7 @@ const NO_FEW_TIMES: FewTimes = FewTimes {
     copied: 0,
 };
 
-/// How often each cluster is named: what its cell and its entry say, together.
+/// How often each cluster is named: what its cell and the lists say, together.
 #[derive(Drop)]
 pub struct Tallies {
     /// Four bytes for each cluster, from the first one of the file on.
@@ -64,6 +64,7 @@ pub struct Others {
 pub fn no_names(alloc: Global, count: usize) -> Result<Tallies, CheckFault>
     ensures ok { IfOk result TellsNothing }
     ensures cells { IfOk result (λ names. length names.cells.items ≡ count) }
+    ensures spares { IfOk result SparesLists }
     ensures err { IsOkUnless result CheckFault.Memory }
 {
     Ok(Tallies {
@@ -120,7 +121,7 @@ fn enter_other(others: &mut Others, cluster: u64, times: Times) -> Result<(), Ch
 fn name_cluster(names: &mut Tallies, cluster: u64, times: Times) -> Result<(), CheckFault>
     requires { cluster < 2 ^ 53 }
     ensures ok { OnOk result (AddsClusters names.old names.new cluster (cluster + 1) times) }
-    ensures room { HasRoomAt names.old cluster times → names.new.others ≡ names.old.others }
+    ensures room { HasRoomAt names.old cluster times → IsOk result × (names.new.others ≡ names.old.others) }
     ensures err { IsOkUnless result CheckFault.Memory }
 {
     if cluster < names.cells.len() as u64 {
@@ -171,6 +172,7 @@ pub fn name_range(
 pub fn sort_names(names: &mut Tallies)
     ensures same { (c : ℕ) → times_told names.new c ≡ times_told names.old c }
     ensures cells { KeepsCells names.old names.new }
+    ensures spares { SparesLists names.old → SparesLists names.new }
     ensures rising { AreRising names.new.others }
 {
     names.others.structure.sort_unstable();

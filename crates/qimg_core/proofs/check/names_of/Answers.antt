@@ -35,7 +35,10 @@ returns-in_err-name_contents-clause-err g c =
     rw (p.1, p.2) (damaged-finding (g.S.Storage.state c.args.image.now) (g.S.Storage.state c.name_contents.new.image) c.args.header.now.fields c.args.places.tables.items c.requires.places.in_order c.in_err-name_contents.field-0.0 c.in_err-name_contents.ensures.err)
 
 pub returns-clause-told : goal.returns-clause-told
-returns-clause-told g c = given-tells _ c.args.header.now _ _ c.requires.places c.in_ok-names.names _ c.sort_names.new.names c.in_ok-names.ensures.ok c.in_ok-name_structure.ensures.ok (adds-since _ _ c.name_contents.new.names _ _ _ _ c.sort_names.ensures.same c.sort_names.ensures.cells c.in_ok-name_contents.ensures.ok)
+returns-clause-told g c = given-tells _ c.args.header.now _ _ c.requires.places c.in_ok-names.names _ c.sort_names.new.names c.in_ok-names.ensures.ok c.in_ok-name_structure.ensures.ok (adds-since _ _ c.name_contents.new.names _ _ _ _ c.sort_names.ensures.same c.sort_names.ensures.cells c.sort_names.ensures.spares c.in_ok-name_contents.ensures.ok)
+
+pub returns-clause-spares : goal.returns-clause-spares
+returns-clause-spares g c = c.sort_names.ensures.spares (c.in_ok-name_contents.ensures.ok.spares (c.in_ok-name_structure.ensures.ok.spares c.in_ok-names.ensures.spares))
 
 pub returns-clause-cells : goal.returns-clause-cells
 returns-clause-cells g c = (c.blocks_end.result, subst (λ l. IsBlocksEnd l c.blocks_end.result) c.deref.ensures.value c.blocks_end.ensures, c.sort_names.ensures.cells ∙ c.in_ok-name_contents.ensures.ok.cells ∙ c.in_ok-name_structure.ensures.ok.cells ∙ c.in_ok-names.ensures.cells ∙ c.cell_count-count.ensures ∙ ap (λ n. counted_clusters c.args.header.now.fields n c.blocks_end.result) c.size.ensures.value)
