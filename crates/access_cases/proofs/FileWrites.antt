@@ -1,6 +1,6 @@
 -- What writes to its file leave of an image of one cluster, at each stop in them.
-use Rattle.std.proofs.Common.{◌≡◌, ◌⊎◌, refl, inl, inr, ⊎_elim, ℕ, ◌+◌, ◌<◌, ◌≤◌, List, [], ◌∷◌, length, map, arith, sym, ◌∙◌, ap}
-use Rattle.std.specs.Prelude.{⊤, IsTrue, Bool, false, Option, None, Result, OnOk, IfErr, slice_index, ltb, if◌then◌else◌}
+use Rattle.std.proofs.Common.{◌≡◌, ◌⊎◌, refl, inl, inr, ⊎_elim, ℕ, ◌+◌, ◌<◌, ◌≤◌, List, [], ◌∷◌, length, map, arith, ◌∙◌, ap}
+use Rattle.std.specs.Prelude.{⊤, IsTrue, Bool, false, Option, Result, OnOk, IfErr, slice_index, if◌then◌else◌}
 use Rattle.std.specs.Option.{unwrap_or}
 use Rattle.std.proofs.lemmas.List.{length-map}
 use Rattle.std.proofs.lemmas.Bool.{cases_lt, lt-ltb}

@@ -1,6 +1,6 @@
 -- A driver of one kind, seen as a driver of several.
 use Rattle.std.proofs.Common.{◌≡◌, ℕ, List, ◌++◌, subst, sym, inl, inr}
-use Rattle.std.specs.Prelude.{⊤, IsTrue, Result, Ok, Err, Option, OnOk, IfErr, IfOk}
+use Rattle.std.specs.Prelude.{⊤, Result, Ok, Err, Option, OnOk, IfErr, IfOk}
 use Rattle.imago_storage.specs.Steps.{Call, IsIn, shrink}
 use Rattle.imago_storage.specs.declared.fault.Fault.{Fault}
 use Rattle.imago_storage.specs.declared.fault.Fault.TheVariants.{Memory, Storage}
@@ -142,15 +142,15 @@ module _ {D E St Su : Type 0} (f : D → E) (h : Ghosts E Su) (g : Ghosts D St) 
   marks_as (Err e) marks = marks_one e (subst (λ k. Marks k a b e) (sym same) marks)
 
   -- what refuses it, where each driver for which a call has begun has the causes of one of this kind
-  pub refused_as : (offset n : ℕ) (result : Result (ℕ × ℕ) Fault)
+  pub refused_as : (call : PartCall) (offset n : ℕ) (result : Result (ℕ × ℕ) Fault)
       → ((below : List Layer) (x : E) (whole : Call) → h.began x whole (f a) → (d : D) × g.began d whole a × (g.own_cause d below whole ≡ h.own_cause x below whole))
-      → PartRefused g offset n result a b → PartRefused h offset n result (f a) (f b)
-  refused_as offset n result causes refused = let k = subst (λ x. PartRefused x offset n result a b) (sym same) refused in record {
+      → PartRefused call g offset n result a b → PartRefused call h offset n result (f a) (f b)
+  refused_as call offset n result causes refused = let k = subst (λ x. PartRefused call x offset n result a b) (sym same) refused in record {
     failed = k.failed;
     marks = marks_as result refused.marks;
-    cause = λ safe below x whole begun part.
+    cause = λ safe below x whole begun part is_for.
         let own = causes below x whole begun in
-        subst (λ c. IfErr result (DeclinableCause below (h.layer (f a)) offset n c (files h (f a)) (files h (f b)))) own.2 (k.cause safe below own.0 whole own.1 part);
+        subst (λ c. IfErr result (DeclinableCause below (h.layer (f a)) offset n c (files h (f a)) (files h (f b)))) own.2 (k.cause safe below own.0 whole own.1 part is_for);
   }
 
   -- a write to a mapping

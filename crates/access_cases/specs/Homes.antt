@@ -1,10 +1,10 @@
 -- Where the places of an image of one cluster can be written, what is held of them, and what room they have.
-use Rattle.std.specs.Prelude.{◌≡◌, ◌⊎◌, ℕ, ◌<◌, ◌≤◌, max, ◌&&◌, Bool, true, false, Option, Some, None, IsSome, if◌then◌else◌, ltb, leb}
+use Rattle.std.specs.Prelude.{◌≡◌, ◌⊎◌, ℕ, ◌<◌, ◌≤◌, max, ◌&&◌, Bool, true, false, Some, None, IsSome, if◌then◌else◌, ltb, leb}
 use Rattle.std.proofs.Common.{ap, refl, inl, inr, arith}
 use Rattle.std.proofs.lemmas.Bool.{ltb-true, le-ltb}
 use Rattle.std.proofs.Math.Nat.{le_refl}
 use Rattle.imago_storage.specs.Disk.{byte}
-use Rattle.imago_access.specs.Layer.{Cell, own, unmapped, Held, loose}
+use Rattle.imago_access.specs.Layer.{own, unmapped, loose}
 use Rattle.access_cases.specs.declared.clusters.Content.{Content}
 use Rattle.access_cases.specs.declared.clusters.Content.TheVariants.{Unmapped, Zeroed, Barred, Prepared, Mapped}
 use Rattle.access_cases.specs.Clusters.{blank_of, home_in, home_of, held_of, unspent_of, IsBare, HasRoom}

@@ -173,7 +173,7 @@ impl<S: Storage> OneCluster<S> {
         ensures does { (call : PartCall) → DoesPart call ⟦<OneCluster<S> as Seen>⟧ offset length result self.now self.now }
         ensures at_once { let d = ⟦<OneCluster<S> as Seen>⟧ in
             AtOnce d (own_refusal (d.layer self.now) offset length) (length ≡ 0) result self.now self.now }
-        ensures refused { PartRefused ⟦<OneCluster<S> as Seen>⟧ offset length result self.now self.now }
+        ensures refused { (call : PartCall) → PartRefused call ⟦<OneCluster<S> as Seen>⟧ offset length result self.now self.now }
     {
         match self.check(offset, length) {
             Ok(()) => {}

@@ -1,7 +1,7 @@
 -- The four calls of a driver that zero or discard a part of a range, by what they differ in.
 use Rattle.std.specs.Prelude.{◌≡◌, ⊤, ◌⊎◌, ℕ, ◌+◌, ◌≤◌, List, Result, IfOk, IfErr}
 use Rattle.imago_storage.specs.Disk.{Value}
-use Rattle.imago_storage.specs.Steps.{Call, IsIn, IsOut}
+use Rattle.imago_storage.specs.Steps.{Call, write_zeroes, discard_to_zero, discard_to_any, discard_to_backing, IsIn, IsOut}
 use Rattle.imago_storage.specs.declared.fault.Fault.{Fault}
 use Rattle.imago_access.specs.declared.seen.Seen.{Ghosts}
 use Rattle.imago_access.specs.Layer.{Layer, Cell, IsLike}
@@ -53,6 +53,14 @@ abbrev pub IsDone : {D St : Type 0} → PartCall → Ghosts D St → D → ℕ �
 IsDone ensures_zero g = g.zeroed
 IsDone call g = g.vacant
 
+-- the call of a disk that is done by such parts
+abbrev pub IsFor : PartCall → Call → Type 0
+IsFor ensures_zero (write_zeroes offset n) = ⊤
+IsFor discards_to_zero (discard_to_zero offset n) = ⊤
+IsFor discards_to_any (discard_to_any offset n) = ⊤
+IsFor discards_to_backing (discard_to_backing offset n) = ⊤
+IsFor call whole = ⊥
+
 -- the part that the call answers: it lies in the range, and is none at its start where the range is empty
 pub record IsPart (offset n : ℕ) (part : ℕ × ℕ) : Type 0 where
   pub inside : (offset ≤ part.0) × ((part.1 ≡ 0) ⊎ (part.0 + part.1 ≤ offset + n))
@@ -72,9 +80,10 @@ pub record DoesPart {D St : Type 0} (call : PartCall) (g : Ghosts D St) (offset 
   pub stops : g.safe old → (below : List Layer) → IsToldOver call below (g.layer old)
       → KeepsStops g below (PartGives call below offset n) old new
 
--- why it is refused
-pub record PartRefused {D St : Type 0} (g : Ghosts D St) (offset n : ℕ) (result : Result (ℕ × ℕ) Fault) (old new : D) : Type 0 where
+-- why it is refused, as part of a call that is done by such parts
+pub record PartRefused {D St : Type 0} (call : PartCall) (g : Ghosts D St) (offset n : ℕ)
+    (result : Result (ℕ × ℕ) Fault) (old new : D) : Type 0 where
   pub failed : IfErr result (ImageCause (files g old) (files g new))
   pub marks : IfErr result (Marks g old new)
-  pub cause : g.safe old → (below : List Layer) (d : D) (whole : Call) → g.began d whole old → IsPartOf whole offset n
+  pub cause : g.safe old → (below : List Layer) (d : D) (whole : Call) → g.began d whole old → IsPartOf whole offset n → IsFor call whole
       → IfErr result (DeclinableCause below (g.layer old) offset n (g.own_cause d below whole) (files g old) (files g new))

@@ -1,5 +1,5 @@
 -- Calls of a driver as parts of a call of a chain.
-use Rattle.std.specs.Prelude.{◌≡◌, ⊤, ℕ, ◌+◌, ◌<◌, ◌≤◌, Bool, true, false, Some, List, [], ◌∷◌, IsFalse}
+use Rattle.std.specs.Prelude.{◌≡◌, ⊤, ℕ, ◌+◌, ◌<◌, ◌≤◌, Bool, true, Option, Some, None, List, [], ◌∷◌, IsFalse}
 use Rattle.imago_storage.specs.State.{StorageState}
 use Rattle.imago_storage.specs.Through.{Overflows}
 use Rattle.imago_storage.specs.Steps.{Call, write, write_zeroes, discard_to_zero, prepare, ensure}
@@ -22,14 +22,14 @@ pub record IsUncutPart (layer : Layer) (call : Call) (offset n : ℕ) : Type 0 w
   pub start : IsUncutAt layer.fixed.unit layer.size (offset_of call) (length_of call) offset
   pub end : IsUncutAt layer.fixed.unit layer.size (offset_of call) (length_of call) (offset + n)
 
--- the call announces that the whole of its range will be written
-abbrev pub announces : Call → Bool
-announces (write offset bytes) = true
-announces (write_zeroes offset n) = true
-announces (discard_to_zero offset n) = true
-announces (prepare offset n overwrite) = overwrite
-announces (ensure offset n overwrite) = overwrite
-announces call = false
+-- what a call that prepares announces: whether the whole of its range will be written
+abbrev pub announces : Call → Option Bool
+announces (write offset bytes) = Some true
+announces (write_zeroes offset n) = Some true
+announces (discard_to_zero offset n) = Some true
+announces (prepare offset n overwrite) = Some overwrite
+announces (ensure offset n overwrite) = Some overwrite
+announces call = None
 
 -- Why a call of a driver over a range is refused, with the layers below that it reads: by what the image is and the range, or by a cause
 -- of the driver's own. It spends no mapping, so none is foreign to it, and nothing that it needs is more than the format can do.

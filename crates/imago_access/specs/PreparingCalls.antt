@@ -31,7 +31,7 @@ pub record RunRefused {D St B T : Type 0} (g : Ghosts D St) (u : GhostsBelow B) 
   pub failed : IfErr result (FailsOver g u old new)
   pub marks : IfErr result (MarksOver g old.0 new.0)
   pub cause : g.safe old.0 → u.sees_under old.1 → (d : D) (call : Call) → g.began d call old.0
-      → IsUncutPart (g.layer old.0) call asked.offset asked.length → asked.overwrite ≡ announces call
+      → IsUncutPart (g.layer old.0) call asked.offset asked.length → Some asked.overwrite ≡ announces call
       → IfErr result (PartCause (u.under old.1) (g.layer old.0) asked.offset asked.length (g.own_cause d (u.under old.1) call)
       (files g old.0 ++ u.files_under old.1) (files g new.0 ++ u.files_under new.1))
 

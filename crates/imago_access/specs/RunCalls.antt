@@ -1,5 +1,5 @@
 -- What changes of a range do that are carried out run by run, to a driver and to the layers below it.
-use Rattle.std.specs.Prelude.{◌≡◌, ◌⊎◌, ⊤, ℕ, ◌+◌, ◌<◌, ◌≤◌, List, ◌∷◌, ◌++◌, Option, Result, OnOk, IfOk, IfErr, IsTrue, length, true}
+use Rattle.std.specs.Prelude.{◌≡◌, ◌⊎◌, ⊤, ℕ, ◌+◌, ◌<◌, ◌≤◌, List, ◌∷◌, ◌++◌, Option, Some, Result, OnOk, IfOk, IfErr, IsTrue, length, true}
 use Rattle.imago_storage.specs.Disk.{Value, Shows, byte}
 use Rattle.imago_storage.specs.Steps.{Call, IsIn, IsOut}
 use Rattle.imago_storage.specs.declared.fault.Fault.{Fault}
@@ -13,15 +13,16 @@ use Rattle.imago_access.specs.declared.access.discarding.Discarding.{Discarding}
 use Rattle.imago_access.specs.Chain.{at, IsBacked}
 use Rattle.imago_access.specs.ChainLooks.{ShowBytes}
 use Rattle.imago_access.specs.Changes.{Committed, Cancelled}
-use Rattle.imago_access.specs.Discards.{GivesDiscarded}
+use Rattle.imago_access.specs.Discards.{GivesDiscarded, discard_by}
 use Rattle.imago_access.specs.Failing.{FailsOver}
 use Rattle.imago_access.specs.Files.{WasNotCutOff, SomeRose, files}
 use Rattle.imago_access.specs.Parts.{IsPartOf, IsUncutPart, announces, PartCause, MappedCause}
+use Rattle.imago_access.specs.PartCalls.{PartCall, IsFor}
 use Rattle.imago_access.specs.Room.{IsApart, IsUncutAt, Reaches, IsUndeclined, IsGivenUp, IsGivenUpTo, IsGivenUpBehind, LeavesRoom}
 use Rattle.imago_access.specs.Running.{IsIntact, IsBetween, Ran, RanAlone}
 use Rattle.imago_access.specs.Spending.{Spends}
 use Rattle.imago_access.specs.Stops.{KeepsStops, GivesBytes, GivesZero, GivesSettled}
-use Rattle.imago_access.specs.Zeroings.{IsZeroedBy}
+use Rattle.imago_access.specs.Zeroings.{IsZeroedBy, zero_by}
 
 -- a change of a range, in bytes
 pub data Work : Type 0 where
@@ -79,13 +80,19 @@ MarksTop g u old new Storage = IsTrue (g.layer old.0).fixed.marks
 MarksTop g u old new Memory = IsTrue (g.layer old.0).fixed.marks → IsTrue (g.layer new.0).failed ⊎ (IsIntact g u old.0 old.1 → g.safe new.0)
 MarksTop g u old new fault = ⊤
 
--- why it is refused, as part of a call that was begun and announces that all of its range will be written
+-- the call is one that such work is part of, and announces that all of its range will be written
+abbrev pub IsWorkOf : Work → Call → Type 0
+IsWorkOf (writing offset bytes) call = Some true ≡ announces call
+IsWorkOf (writing_zeroes offset n) call = Some true ≡ announces call
+IsWorkOf (zeroing_by how offset n) call = IsFor (zero_by how) call × (Some true ≡ announces call)
+
+-- why it is refused, as part of a call that was begun
 pub record WorkRefused {D St B T : Type 0} (g : Ghosts D St) (u : GhostsBelow B) (work : Work)
     (result : Result T Fault) (old new : D × B) : Type 0 where
   pub failed : IfErr result (FailsOver g u old new)
   pub marks : IfErr result (MarksTop g u old new)
   pub cause : IsIntact g u old.0 old.1 → (d : D) (call : Call) → g.began d call old.0
-      → IsUncutPart (g.layer old.0) call (start_of work) (extent_of work) → true ≡ announces call
+      → IsUncutPart (g.layer old.0) call (start_of work) (extent_of work) → IsWorkOf work call
       → IfErr result (PartCause (u.under old.1) (g.layer old.0) (start_of work) (extent_of work) (g.own_cause d (u.under old.1) call)
       (files g old.0 ++ u.files_under old.1) (files g new.0 ++ u.files_under new.1))
 
@@ -151,9 +158,9 @@ MappedRefused g guest place n result old new = g.safe old
     → IfErr result (MappedCause (g.layer old) guest place n (files g old) (files g new))
 
 -- why a driver refuses a range, as part of a call that was begun, over whatever layers below
-abbrev pub RangeRefused : {D St T : Type 0} → Ghosts D St → ℕ → ℕ → Result T Fault → D → D → Type 0
-RangeRefused {D} g offset n result old new = g.safe old → (below : List Layer) (d : D) (call : Call)
-    → g.began d call old → IsPartOf call offset n
+abbrev pub RangeRefused : {D St T : Type 0} → PartCall → Ghosts D St → ℕ → ℕ → Result T Fault → D → D → Type 0
+RangeRefused {D} part g offset n result old new = g.safe old → (below : List Layer) (d : D) (call : Call)
+    → g.began d call old → IsPartOf call offset n → IsFor part call
     → IfErr result (PartCause below (g.layer old) offset n (g.own_cause d below call) (files g old) (files g new))
 
 -- What a driver alone zeroes, and what it discards, over layers below that it shows, and at a stop: places of the range take what is given.
@@ -183,25 +190,26 @@ abbrev pub IsLeftIn : {D St : Type 0} → Ghosts D St → Zeroing → D → ℕ 
 IsLeftIn g how new part = (p : ℕ) → IsIn part.0 part.1 p → IsZeroedBy how (g.vacant new) (g.zeroed new) p
 
 -- P, where this range is part of a call that was begun and that the driver has no cause of its own to decline
-abbrev pub UnlessDeclined : {D St : Type 0} → Ghosts D St → List Layer → ℕ → ℕ → D → Type 0 → Type 0
-UnlessDeclined {D} g below offset n old P = (d : D) (call : Call) → g.began d call old → IsPartOf call offset n
+abbrev pub UnlessDeclined : {D St : Type 0} → PartCall → Ghosts D St → List Layer → ℕ → ℕ → D → Type 0 → Type 0
+UnlessDeclined {D} part g below offset n old P = (d : D) (call : Call) → g.began d call old → IsPartOf call offset n → IsFor part call
     → IsUndeclined (g.own_cause d below call) → P
 
 -- Then each whole unit of the range is given up by a discard,
-abbrev pub GivesUnitsUpAlone : {D St : Type 0} → Ghosts D St → ℕ → ℕ → Result Unit Fault → D → D → Type 0
-GivesUnitsUpAlone g offset n result old new = g.safe old → (below : List Layer)
-    → UnlessDeclined g below offset n old (OnOk result (IsGivenUp (g.vacant new) (g.layer old).fixed.unit (g.layer old).size offset n))
+abbrev pub GivesUnitsUpAlone : {D St : Type 0} → Ghosts D St → Discarding → ℕ → ℕ → Result Unit Fault → D → D → Type 0
+GivesUnitsUpAlone g how offset n result old new = g.safe old → (below : List Layer)
+    → UnlessDeclined (discard_by how) g below offset n old
+    (OnOk result (IsGivenUp (g.vacant new) (g.layer old).fixed.unit (g.layer old).size offset n))
 
 -- and left by a zeroing as its way says: by a driver alone between two places, so far up to a place, and in the whole range.
 abbrev pub LeavesUnitsBehind : {D St : Type 0} → Ghosts D St → Zeroing → ℕ → ℕ → Result (ℕ × ℕ) Fault → D → D → Type 0
-LeavesUnitsBehind g how offset n result old new = g.safe old → (below : List Layer) → UnlessDeclined g below offset n old
+LeavesUnitsBehind g how offset n result old new = g.safe old → (below : List Layer) → UnlessDeclined (zero_by how) g below offset n old
     (IfOk result (λ r. IsGivenUpBehind (IsZeroedBy how (g.vacant new) (g.zeroed new)) (g.layer old).fixed.unit (g.layer old).size
     offset n r.0 r.1))
 
 abbrev pub LeavesUnitsTo : {D St B : Type 0} → Ghosts D St → GhostsBelow B → Zeroing → ℕ → ℕ → Result ℕ Fault → D × B → D × B → Type 0
-LeavesUnitsTo g u how offset n result old new = IsIntact g u old.0 old.1 → UnlessDeclined g (u.under old.1) offset n old.0
+LeavesUnitsTo g u how offset n result old new = IsIntact g u old.0 old.1 → UnlessDeclined (zero_by how) g (u.under old.1) offset n old.0
     (IfOk result (IsGivenUpTo (IsZeroedBy how (g.vacant new.0) (g.zeroed new.0)) (g.layer old.0).fixed.unit (g.layer old.0).size offset n))
 
 abbrev pub LeavesUnits : {D St B : Type 0} → Ghosts D St → GhostsBelow B → Zeroing → ℕ → ℕ → Result Unit Fault → D × B → D × B → Type 0
-LeavesUnits g u how offset n result old new = IsIntact g u old.0 old.1 → UnlessDeclined g (u.under old.1) offset n old.0
+LeavesUnits g u how offset n result old new = IsIntact g u old.0 old.1 → UnlessDeclined (zero_by how) g (u.under old.1) offset n old.0
     (OnOk result (IsGivenUp (IsZeroedBy how (g.vacant new.0) (g.zeroed new.0)) (g.layer old.0).fixed.unit (g.layer old.0).size offset n))

@@ -256,7 +256,7 @@ pub trait FormatDriverInstance: Seen {
 
         // When it ends at once, and why it is refused.
         ensures at_once { RangeAtOnce Self.Seen offset length result self.old self.new }
-        ensures refused { PartRefused Self.Seen offset length result self.old self.new };
+        ensures refused { PartRefused ensures_zero Self.Seen offset length result self.old self.new };
 
     /// Makes a part of the range read as 0 and gives up what is allocated for it. Nothing may be prepared.
     ///
@@ -279,7 +279,7 @@ pub trait FormatDriverInstance: Seen {
 
         // When it ends at once, and why it is refused.
         ensures at_once { RangeAtOnce Self.Seen offset length result self.old self.new }
-        ensures refused { PartRefused Self.Seen offset length result self.old self.new };
+        ensures refused { PartRefused discards_to_zero Self.Seen offset length result self.old self.new };
 
     /// Gives up a part of the range, whose bytes may then be any. Nothing may be prepared.
     ///
@@ -302,7 +302,7 @@ pub trait FormatDriverInstance: Seen {
 
         // When it ends at once, and why it is refused.
         ensures at_once { RangeAtOnce Self.Seen offset length result self.old self.new }
-        ensures refused { PartRefused Self.Seen offset length result self.old self.new };
+        ensures refused { PartRefused discards_to_any Self.Seen offset length result self.old self.new };
 
     /// Gives up a part of the range to the layer below. Nothing may be prepared.
     ///
@@ -325,7 +325,7 @@ pub trait FormatDriverInstance: Seen {
 
         // When it ends at once, and why it is refused.
         ensures at_once { RangeAtOnce Self.Seen offset length result self.old self.new }
-        ensures refused { PartRefused Self.Seen offset length result self.old self.new };
+        ensures refused { PartRefused discards_to_backing Self.Seen offset length result self.old self.new };
 
     /// Hands all that waits in memory to its files, and flushes these. While nothing is prepared, its files alone then mean what the
     /// layer shows.

@@ -151,10 +151,10 @@ module _ {D St : Type 0} (g : Ghosts D St) where
     stops = λ safe below told. stops_same below (PartGives call below offset n) d;
   }
 
-  pub part_refused : (offset n : ℕ) (e : Fault) (d : D) → IsFalse (g.layer d).fixed.writable → Refuses (g.layer d) n e → PartRefused g offset n (Err e) d d
-  part_refused offset n MissingData d closed why = record { failed = tt; marks = tt; cause = λ safe below x whole b part. inl why }
-  part_refused offset n ReadOnly d closed why = record { failed = tt; marks = tt; cause = λ safe below x whole b part. (why.1, closed) }
-  part_refused offset n e d closed why = absurd why
+  pub part_refused : (call : PartCall) (offset n : ℕ) (e : Fault) (d : D) → IsFalse (g.layer d).fixed.writable → Refuses (g.layer d) n e → PartRefused call g offset n (Err e) d d
+  part_refused call offset n MissingData d closed why = record { failed = tt; marks = tt; cause = λ safe below x whole b part is_for. inl why }
+  part_refused call offset n ReadOnly d closed why = record { failed = tt; marks = tt; cause = λ safe below x whole b part is_for. (why.1, closed) }
+  part_refused call offset n e d closed why = absurd why
 
 -- ---- Calls without a range.
 

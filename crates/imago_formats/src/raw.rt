@@ -8,7 +8,7 @@ ghost use Rattle.imago_storage.specs.declared.fault.Fault.{Fault};
 ghost use Rattle.imago_storage.specs.declared.fault.Fault.TheVariants.{ReadOnly, Unsupported};
 ghost use Rattle.imago_access.specs.Files.{WasNotCutOff, files};
 ghost use Rattle.imago_access.specs.Going.{AtOnce, RangeAtOnce, Looked, LookedUnder, Marks};
-ghost use Rattle.imago_access.specs.PartCalls.{DoesPart, PartRefused, ensures_zero};
+ghost use Rattle.imago_access.specs.PartCalls.{DoesPart, PartCall, PartRefused, ensures_zero};
 ghost use Rattle.imago_access.specs.Refusals.{own_refusal, barrier};
 ghost use Rattle.imago_access.specs.declared.mapping.ShallowMapping.TheVariants as shallow;
 ghost use Rattle.imago_access.specs.Mappings.{IsOneOf, IsRun, LooksIn, NamesRoomIn};
@@ -158,7 +158,7 @@ impl<S: Storage> Raw<S> {
         ensures all { IfOk result (λ r. r ≡ (offset, length)) }
         ensures does { DoesPart ensures_zero ⟦<Raw<S> as Seen>⟧ offset length result self.old self.new }
         ensures at_once { RangeAtOnce ⟦<Raw<S> as Seen>⟧ offset length result self.old self.new }
-        ensures refused { PartRefused ⟦<Raw<S> as Seen>⟧ offset length result self.old self.new }
+        ensures refused { (call : PartCall) → PartRefused call ⟦<Raw<S> as Seen>⟧ offset length result self.old self.new }
     {
         if length == 0 {
             return Ok((offset, 0));

@@ -1,6 +1,7 @@
 // Discards that may leave parts of their range as they are.
 ghost use Rattle.std.specs.Prelude.{ℕ, ◌≡◌, ◌↔◌, ◌<◌, ◌+◌, ◌^◌, IsTrue, length, map, IsOk, IfOk, IfErr, IsErrOf, Some};
 ghost use Rattle.imago_storage.specs.Steps.{discard_to_any, discard_to_backing, IsIn};
+ghost use Rattle.imago_access.specs.Discards.{discard_by};
 ghost use Rattle.imago_access.specs.Layer.{IsFree, IsLike};
 ghost use Rattle.imago_access.specs.Room.{GivesUp};
 ghost use Rattle.imago_access.specs.Files.{WasNotCutOff, IsDeclined};
@@ -52,7 +53,7 @@ fn discard_part<D: FormatDriverInstance>(
     ensures room { D.safe driver.old → WasNotCutOff result → GivesUp D.Seen offset length driver.old driver.new }
     ensures given { D.safe driver.old → IfOk result (λ r. (p : ℕ) → IsIn r.0 r.1 p → D.vacant driver.new p) }
     ensures reach { D.safe driver.old → IfOk result (ReachesUnits (D.layer driver.old) offset length) }
-    ensures refused { PartRefused D.Seen offset length result driver.old driver.new }
+    ensures refused { PartRefused (discard_by discarding) D.Seen offset length result driver.old driver.new }
 {
     match discarding {
         Discarding::ToAny => driver.discard_to_any(alloc, offset, length),
@@ -77,10 +78,10 @@ fn discard_all<D: FormatDriverInstance>(
     ensures went { Went D.Seen (WasNotCutOff result) (WasNotCutOff result) driver.old driver.new }
     ensures stops { DiscardStops D.Seen discarding offset n driver.old driver.new }
     ensures room { D.safe driver.old → WasNotCutOff result → GivesUp D.Seen offset n driver.old driver.new }
-    ensures gives_up { GivesUnitsUpAlone D.Seen offset n result driver.old driver.new }
+    ensures gives_up { GivesUnitsUpAlone D.Seen discarding offset n result driver.old driver.new }
     ensures failed { IfErr result (Fails D.Seen driver.old driver.new) }
     ensures marks { IfErr result (MarksAlone D.Seen driver.old driver.new) }
-    ensures cause { RangeRefused D.Seen offset n result driver.old driver.new }
+    ensures cause { RangeRefused (discard_by discarding) D.Seen offset n result driver.old driver.new }
 {
     let end = offset + n;
     let mut at = offset;

@@ -10,6 +10,7 @@ ghost use Rattle.imago_access.specs.Changes.{Rewrites, PartRewrites, ToZero, Wro
 ghost use Rattle.imago_access.specs.Parts.{IsPartOf};
 ghost use Rattle.imago_access.specs.Refusals.{barrier};
 ghost use Rattle.imago_access.specs.Stops.{KeepsStops, GivesBytes, GivesZero};
+ghost use Rattle.imago_access.specs.Zeroings.{zero_by};
 ghost use Rattle.imago_access.specs.Running.{IsIntact, RanChain, below_ghosts};
 ghost use Rattle.imago_access.specs.ChainCalls.{ChainFails, chain_refusal, EndsAtOnce, IfMild, CallRefused, GivesUnitsUp, GivesUpNear, IsCarriedOut, IsDoneInPart, TakesNear, ZeroesUnits};
 ghost use Rattle.imago_access.specs.Failing.{Fails};
@@ -57,7 +58,7 @@ fn zero_part<D: FormatDriverInstance>(
     ensures went { Went D.Seen (WasNotCutOff result) (WasNotCutOff result) driver.old driver.new }
     ensures began { StaysBegun D.Seen offset length (WasNotCutOff result) driver.old driver.new }
     ensures stops { D.safe driver.old → (below : List Layer) → KeepsStops D.Seen below (GivesZero offset length) driver.old driver.new }
-    ensures refused { PartRefused D.Seen offset length result driver.old driver.new }
+    ensures refused { PartRefused (zero_by zeroing) D.Seen offset length result driver.old driver.new }
 {
     match zeroing {
         Zeroing::Keep => driver.ensure_zero_mapping(alloc, offset, length),
@@ -190,7 +191,7 @@ fn zero_by_driver<D: FormatDriverInstance>(
     ensures stops { D.safe driver.old → (below : List Layer) → KeepsStops D.Seen below (GivesZero offset n) driver.old driver.new }
     ensures failed { IfErr result (Fails D.Seen driver.old driver.new) }
     ensures marks { IfErr result (Marks D.Seen driver.old driver.new) }
-    ensures cause { RangeRefused D.Seen offset n result driver.old driver.new }
+    ensures cause { RangeRefused (zero_by zeroing) D.Seen offset n result driver.old driver.new }
 {
     let end = offset + n;
     match zero_part(alloc, driver, zeroing, offset, n) {

@@ -182,7 +182,7 @@ impl<S: Storage> Vmdk<S> {
         ensures part { IfOk result (IsPart offset length) }
         ensures does { (call : PartCall) → DoesPart call ⟦<Vmdk<S> as Seen>⟧ offset length result self.old self.new }
         ensures at_once { RangeAtOnce ⟦<Vmdk<S> as Seen>⟧ offset length result self.old self.new }
-        ensures refused { PartRefused ⟦<Vmdk<S> as Seen>⟧ offset length result self.old self.new }
+        ensures refused { (call : PartCall) → PartRefused call ⟦<Vmdk<S> as Seen>⟧ offset length result self.old self.new }
     {
         match self.check_change(length) {
             Ok(()) => Ok((offset, 0)),

@@ -1,4 +1,4 @@
-use Rattle.std.proofs.Common.{◌∙◌, inl, List, ℕ}
+use Rattle.std.proofs.Common.{◌∙◌, inl}
 use Rattle.imago_storage.proofs.Composing.{keeps_on}
 use Rattle.access_cases.proofs.FileWrites.{write_passes, settled_left, settled_fixed, settled_fits}
 use Rattle.access_cases.proofs.PreparedRuns.{free_past, room_by}

@@ -1,4 +1,4 @@
-use Rattle.std.proofs.Common.{rules, refl, ◌+◌, ◌≤◌, ◌∙◌, ap, arith}
+use Rattle.std.proofs.Common.{refl, ◌+◌, ◌∙◌, ap, arith}
 use Rattle.imago_storage.specs.State.{Shape}
 use Rattle.imago_storage.specs.Disk.{byte}
 use Rattle.imago_storage.proofs.Composing.{keeps_on}

@@ -1,4 +1,4 @@
-use Rattle.std.proofs.Common.{rules, refl, ◌∙◌, ap, inl, inr, subst, sym, List, ℕ}
+use Rattle.std.proofs.Common.{refl, ◌∙◌, ap, inl, inr, subst, sym, List, ℕ}
 use Rattle.imago_storage.specs.State.{Shape}
 use Rattle.imago_storage.proofs.Composing.{keeps_on}
 use Rattle.imago_access.proofs.Stopping.{passes_none}

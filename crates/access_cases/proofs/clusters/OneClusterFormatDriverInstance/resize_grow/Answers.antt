@@ -1,5 +1,4 @@
-use Rattle.std.proofs.Common.{◌≡◌, true, false}
-use Rattle.std.specs.Prelude.{⊤, IsOk}
+use Rattle.std.specs.Prelude.{⊤}
 use Rattle.imago_access.specs.Files.{WasNotCutOff}
 use Rattle.imago_access.proofs.Looking.{looked_under_same}
 use Rattle.access_cases.proofs.clusters.OneClusterFormatDriverInstance.resize_grow.Goals as goal

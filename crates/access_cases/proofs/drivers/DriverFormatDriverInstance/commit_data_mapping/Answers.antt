@@ -1,7 +1,6 @@
 use Rattle.std.proofs.Common.{refl}
 use Rattle.std.proofs.lemmas.Result.{IfErr-weaker}
 use Rattle.std.proofs.lemmas.Option.{IfSome_then}
-use Rattle.imago_formats.proofs.RawSteps.{on_ok_always}
 use Rattle.access_cases.specs.declared.drivers.Driver.TheVariants.{Words}
 use Rattle.access_cases.proofs.SeenAs.{on_ok_weaker, unchanged_as}
 use Rattle.access_cases.proofs.drivers.DriverFormatDriverInstance.commit_data_mapping.Goals as goal

@@ -9,13 +9,13 @@ pub returns-in-Raw-clause-does : goal.returns-in-Raw-clause-does
 returns-in-Raw-clause-does g c = rw (c.in-Raw.is) (does_as Raw _ _ refl _ _ (λ x call begun. begun) ensures_zero _ _ _ c.ensure_zero_mapping.ensures.does)
 
 pub returns-in-Raw-clause-refused : goal.returns-in-Raw-clause-refused
-returns-in-Raw-clause-refused g c = rw (c.in-Raw.is) (refused_as Raw _ _ refl _ _ (λ x call begun. begun) _ _ _ (raw_causes c.in-Raw.raw) c.ensure_zero_mapping.ensures.refused)
+returns-in-Raw-clause-refused g c = rw (c.in-Raw.is) (refused_as Raw _ _ refl _ _ (λ x call begun. begun) ensures_zero _ _ _ (raw_causes c.in-Raw.raw) c.ensure_zero_mapping.ensures.refused)
 
 pub returns-in-Words-clause-does : goal.returns-in-Words-clause-does
 returns-in-Words-clause-does g c = rw (c.in-Words.is) (does_as Words _ _ refl _ _ (λ x call begun. begun) ensures_zero _ _ _ c.ensure_zero_mapping-in-Words.ensures.does)
 
 pub returns-in-Words-clause-refused : goal.returns-in-Words-clause-refused
-returns-in-Words-clause-refused g c = rw (c.in-Words.is) (refused_as Words _ _ refl _ _ (λ x call begun. begun) _ _ _ (words_causes c.in-Words.words) c.ensure_zero_mapping-in-Words.ensures.refused)
+returns-in-Words-clause-refused g c = rw (c.in-Words.is) (refused_as Words _ _ refl _ _ (λ x call begun. begun) ensures_zero _ _ _ (words_causes c.in-Words.words) c.ensure_zero_mapping-in-Words.ensures.refused)
 
 pub returns-in-Words-clause-at_once : goal.returns-in-Words-clause-at_once
 returns-in-Words-clause-at_once g c = rw (c.in-Words.is) (at_once_as Words _ _ refl _ _ (λ x call begun. begun) _ _ _ c.ensure_zero_mapping-in-Words.ensures.at_once)

@@ -43,7 +43,7 @@ returns-clause-ran g c = let d = g.D.Seen in
 pub returns-clause-cause : goal.returns-clause-cause
 returns-clause-cause g c = let d = g.D.Seen in
     rw (← c.self.view_is) (λ i. chain_cause d g.met.D.FormatDriverInstance.aligned c.self.inside.driver c.discard_all.new.driver (layers c.self.inside.below) c.discard_all.result (discard_to_backing c.args.offset c.args.length) (d.own_cause c.self.inside.driver (map d.layer (layers c.self.inside.below)) (discard_to_backing c.args.offset c.args.length)) (λ some. some)
-    (c.discard_all.ensures.cause i.is_safe (map d.layer (layers c.self.inside.below)) c.self.inside.driver (discard_to_backing c.args.offset c.args.length) (g.met.D.FormatDriverInstance.begins c.self.inside.driver (discard_to_backing c.args.offset c.args.length)) (record { start = omega arith; end = omega arith })))
+    (c.discard_all.ensures.cause i.is_safe (map d.layer (layers c.self.inside.below)) c.self.inside.driver (discard_to_backing c.args.offset c.args.length) (g.met.D.FormatDriverInstance.begins c.self.inside.driver (discard_to_backing c.args.offset c.args.length)) (record { start = omega arith; end = omega arith }) tt))
 
 pub returns-in_err-check_change-clause-cause : goal.returns-in_err-check_change-clause-cause
 returns-in_err-check_change-clause-cause g c = λ i. let d = g.D.Seen in let a = c.args.self.now.0 in let ds = c.args.self.now.1 in let call = discard_to_backing c.args.offset c.args.length in
@@ -54,3 +54,7 @@ returns-in_err-check_change-clause-cause g c = λ i. let d = g.D.Seen in let a =
 pub returns-in_err-check_change-clause-marks : goal.returns-in_err-check_change-clause-marks
 returns-in_err-check_change-clause-marks g c = let d = g.D.Seen in let a = c.args.self.now.0 in let ds = c.args.self.now.1 in
     passed c.from_residual.result (MarksAlone d a a) c.in_err-check_change.field-0.0 c.from_residual.ensures.1 (alone_mild d a a c.in_err-check_change.field-0.0 c.in_err-check_change.ensures.mild)
+
+pub returns-clause-gives_up : goal.returns-clause-gives_up
+returns-clause-gives_up g c = let d = g.D.Seen in let old = c.self.inside.driver in let call = discard_to_backing c.args.offset c.args.length in
+    rw (← c.self.view_is) (λ i undeclined. c.discard_all.ensures.gives_up i.is_safe (map d.layer (layers c.self.inside.below)) old call (g.met.D.FormatDriverInstance.begins old call) (record { start = omega arith; end = omega arith }) tt undeclined)

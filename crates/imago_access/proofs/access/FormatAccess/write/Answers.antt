@@ -1,4 +1,5 @@
 use Rattle.std.proofs.Common.{◌≡◌, ◌∷◌, length, refl, true, IfErr, map}
+use Rattle.std.specs.Prelude.{Some}
 use Rattle.std.proofs.lemmas.Result.{IfErr-weaker}
 use Rattle.imago_storage.specs.Steps.{Call, write}
 use Rattle.imago_storage.proofs.Parts.{passed}
@@ -39,7 +40,7 @@ returns-clause-err g c = let d = g.D.Seen in
 pub returns-clause-cause : goal.returns-clause-cause
 returns-clause-cause g c = λ i. let d = g.D.Seen in let a = c.args.self.now.0 in let ds = c.args.self.now.1 in let e = c.write_all.new.driver in let call = write c.args.offset c.args.bytes.now in
     let below = map d.layer ds in let olds = files_of d (chain c.args.self.now) in let news = files_of d (e ∷ layers c.write_all.new.below) in
-    let told : IsIntact d (below_ghosts d) a ds → (x : g.row.D.Denot) (k : Call) → d.began x k a → IsUncutPart (d.layer a) k c.args.offset (length c.args.bytes.now) → true ≡ announces k
+    let told : IsIntact d (below_ghosts d) a ds → (x : g.row.D.Denot) (k : Call) → d.began x k a → IsUncutPart (d.layer a) k c.args.offset (length c.args.bytes.now) → Some true ≡ announces k
     → IfErr c.write_all.result (PartCause below (d.layer a) c.args.offset (length c.args.bytes.now) (d.own_cause x below k) olds news) = rw (← c.self.view_is) (λ i. c.write_all.ensures.refused.cause (intact_by layers d (below_ghosts d) c.self.inside.driver c.self.inside.below i)) in
     IfErr-weaker c.write_all.result (PartCause below (d.layer a) c.args.offset (length c.args.bytes.now) (d.own_cause a below call) olds news)
     (ChangeCause below (d.layer a) call (d.own_cause a below call) olds news)

@@ -6,7 +6,7 @@ use Rattle.imago_storage.proofs.Parts.{passed}
 use Rattle.imago_access.specs.Chain.{unit_of_chain}
 use Rattle.imago_access.specs.Files.{WasNotCutOff, files_of}
 use Rattle.imago_access.specs.Layers.{chain, layers}
-use Rattle.imago_access.specs.Parts.{IsUncutPart, announces, PartCause}
+use Rattle.imago_access.specs.Parts.{IsUncutPart, PartCause}
 use Rattle.imago_access.specs.Refusals.{ChangeCause}
 use Rattle.imago_access.specs.Running.{IsIntact, below_ghosts}
 use Rattle.imago_access.specs.Stops.{GivesZero}
@@ -21,7 +21,7 @@ use Rattle.imago_access.proofs.Units.{overflows_chain, unit_aligned}
 use Rattle.imago_access.proofs.Zeroing.{zero_ok, zero_err}
 use Rattle.imago_access.proofs.Uncut.{own_part}
 use Rattle.imago_access.proofs.Marking.{top_mild, top_by}
-use Rattle.imago_access.specs.RunCalls.{MarksTop}
+use Rattle.imago_access.specs.RunCalls.{MarksTop, IsWorkOf, zeroing_by}
 use Rattle.imago_access.proofs.access.FormatAccess.write_zeroes.Goals as goal
 
 pub returns-in_err-check_change-clause-ran : goal.returns-in_err-check_change-clause-ran
@@ -49,12 +49,12 @@ returns-clause-err g c = let d = g.D.Seen in
 pub returns-clause-cause : goal.returns-clause-cause
 returns-clause-cause g c = λ i. let d = g.D.Seen in let a = c.args.self.now.0 in let ds = c.args.self.now.1 in let e = c.zero_all.new.driver in let call = write_zeroes c.args.offset c.args.length in
     let below = map d.layer ds in let olds = files_of d (chain c.args.self.now) in let news = files_of d (e ∷ layers c.zero_all.new.below) in
-    let told : IsIntact d (below_ghosts d) a ds → (x : g.row.D.Denot) (k : Call) → d.began x k a → IsUncutPart (d.layer a) k c.args.offset c.args.length → true ≡ announces k
+    let told : IsIntact d (below_ghosts d) a ds → (x : g.row.D.Denot) (k : Call) → d.began x k a → IsUncutPart (d.layer a) k c.args.offset c.args.length → IsWorkOf (zeroing_by zeroing_is.Keep c.args.offset c.args.length) k
     → IfErr c.zero_all.result (PartCause below (d.layer a) c.args.offset c.args.length (d.own_cause x below k) olds news) = rw (← c.self.view_is) (λ i. c.zero_all.ensures.refused.cause (intact_by layers d (below_ghosts d) c.self.inside.driver c.self.inside.below i)) in
     IfErr-weaker c.zero_all.result (PartCause below (d.layer a) c.args.offset c.args.length (d.own_cause a below call) olds news)
     (ChangeCause below (d.layer a) call (d.own_cause a below call) olds news)
     (change_cause below (d.layer a) call (d.own_cause a below call) olds news (λ some. some) (overflows_chain d.layer g.met.D.FormatDriverInstance.aligned a ds c.args.offset c.args.length))
-    (told i a call (g.met.D.FormatDriverInstance.begins a call) (own_part (d.layer a) call) refl)
+    (told i a call (g.met.D.FormatDriverInstance.begins a call) (own_part (d.layer a) call) (tt, refl))
 
 pub returns-in_err-check_change-clause-cause : goal.returns-in_err-check_change-clause-cause
 returns-in_err-check_change-clause-cause g c = λ i. let d = g.D.Seen in let a = c.args.self.now.0 in let ds = c.args.self.now.1 in let call = write_zeroes c.args.offset c.args.length in
@@ -69,7 +69,7 @@ returns-clause-room g c = let d = g.D.Seen in let old = c.self.inside.driver in
 
 pub returns-clause-zeroed : goal.returns-clause-zeroed
 returns-clause-zeroed g c = let d = g.D.Seen in let old = c.self.inside.driver in let call = write_zeroes c.args.offset c.args.length in
-    rw (← c.self.view_is) (λ i undeclined. c.zero_all.ensures.leaves (intact_by layers d (below_ghosts d) old c.self.inside.below i) old call (g.met.D.FormatDriverInstance.begins old call) (record { start = omega arith; end = omega arith }) undeclined)
+    rw (← c.self.view_is) (λ i undeclined. c.zero_all.ensures.leaves (intact_by layers d (below_ghosts d) old c.self.inside.below i) old call (g.met.D.FormatDriverInstance.begins old call) (record { start = omega arith; end = omega arith }) tt undeclined)
 
 pub returns-in_err-check_change-clause-marks : goal.returns-in_err-check_change-clause-marks
 returns-in_err-check_change-clause-marks g c = let d = g.D.Seen in let a = c.args.self.now.0 in let ds = c.args.self.now.1 in

@@ -64,14 +64,14 @@ returns-in-Ok-2 g c = let d = g.D.Seen in
       went = (went_alone d g.met.D.FormatDriverInstance.free_loose ⊤ (GivesDiscarded c.args.discarding [] c.args.offset c.args.n) [] c.args.driver.now c.discard_part.new.driver (ran []));
       stops = λ safe below backed. (ran below).stops (intact_alone d g.met.D.FormatDriverInstance.free_loose below c.args.driver.now c.requires.free safe backed);
       room = λ safe whole. gives_up_both d c.args.offset c.args.n at rest first mid last l.from (omega (arith, l.from)) (l.room safe) (done.room (safe_on safe) tt);
-      gives_up = λ safe below x call began part undeclined. let s = safe_on safe in
+      gives_up = λ safe below x call began part is_for undeclined. let s = safe_on safe in
           let unit = (d.layer first).fixed.unit in let size = (d.layer first).size in
           let none : c.in-Ok.given_up ≡ 0 = omega (arith, c.if-start-at.false.0) in
           let reach : Reaches unit size at rest c.in-Ok.start 0 = subst (λ (m : ℕ). Reaches unit size at rest c.in-Ok.start m) none (subst (λ (f : Fixed). Reaches f.unit size at rest c.in-Ok.start c.in-Ok.given_up) l.like.fixed (subst (λ (z : ℕ). Reaches (d.layer mid).fixed.unit z at rest c.in-Ok.start c.in-Ok.given_up) l.like.size (done.reach s))) in
           given_rest (d.vacant last) unit size c.args.offset c.args.n (d.vacant mid) at c.in-Ok.start (λ p is. (done.room s tt).free p tt is) (l.given safe) reach;
       failed = tt;
       marks = tt;
-      cause = λ safe below x call began part. tt;
+      cause = λ safe below x call began part is_for. tt;
     }
 
 pub returns-in-Err : goal.returns-in-Err
@@ -92,11 +92,11 @@ returns-in-Err g c = let d = g.D.Seen in
       went = (went_alone d g.met.D.FormatDriverInstance.free_loose ⊤ (GivesDiscarded c.args.discarding [] c.args.offset c.args.n) [] c.args.driver.now c.discard_part.new.driver (ran []));
       stops = λ safe below backed. (ran below).stops (intact_alone d g.met.D.FormatDriverInstance.free_loose below c.args.driver.now c.requires.free safe backed);
       room = λ safe whole. gives_up_both d c.args.offset c.args.n at rest first mid last l.from (omega (arith, l.from)) (l.room safe) (done.room (safe_on safe) mild);
-      gives_up = λ safe below x call began part none.
-          absurd (undeclined below (d.layer mid) at rest (d.own_cause x below call) (files d mid) (files d last) c.in-Err.fault none declined (done.refused.cause (safe_on safe) below x call (l.began x call began part) (record { start = omega (arith, part.start, l.from); end = omega (arith, part.end, l.from) })));
+      gives_up = λ safe below x call began part is_for none.
+          absurd (undeclined below (d.layer mid) at rest (d.own_cause x below call) (files d mid) (files d last) c.in-Err.fault none declined (done.refused.cause (safe_on safe) below x call (l.began x call began part) (record { start = omega (arith, part.start, l.from); end = omega (arith, part.end, l.from) }) is_for));
       failed = tt;
       marks = tt;
-      cause = λ safe below x call began part. tt;
+      cause = λ safe below x call began part is_for. tt;
     }
 
 pub returns-in-Err-2 : goal.returns-in-Err-2
@@ -115,15 +115,15 @@ returns-in-Err-2 g c = let d = g.D.Seen in
       went = went_alone d g.met.D.FormatDriverInstance.free_loose (IsMild c.in-Err.fault) (GivesDiscarded c.args.discarding [] c.args.offset c.args.n) [] c.args.driver.now c.discard_part.new.driver (ran []);
       stops = λ safe below backed. (ran below).stops (intact_alone d g.met.D.FormatDriverInstance.free_loose below c.args.driver.now c.requires.free safe backed);
       room = λ safe whole. gives_up_both d c.args.offset c.args.n at rest first mid last l.from (omega (arith, l.from)) (l.room safe) (done.room (safe_on safe) whole);
-      gives_up = λ safe below x call began part none. tt;
+      gives_up = λ safe below x call began part is_for none. tt;
       failed = failed_behind (files d c.args.driver.now) (files d c.loop-at.driver) (files d c.discard_part.new.driver) c.in-Err.fault (l.ran []).went.later done.refused.failed;
       marks = alone_behind d first mid last c.in-Err.fault l.like.fixed safe_on (alone_plain d mid last c.in-Err.fault done.refused.marks);
-      cause = λ safe below x call began part.
+      cause = λ safe below x call began part is_for.
           let within : IsPartOf call c.loop-at.at (c.args.offset + c.args.n - c.loop-at.at) = record { start = omega (arith, part.start, l.from); end = omega (arith, part.end, l.from) } in
           let still = (l.ran []).went.safely (tt, tt) safe in
           part_cause_later below (d.layer c.args.driver.now) (d.layer c.loop-at.driver) c.args.offset c.args.n c.loop-at.at (c.args.offset + c.args.n - c.loop-at.at) (files d c.args.driver.now) (files d c.loop-at.driver) (files d c.discard_part.new.driver)
           l.like.fixed l.like.size (g.met.D.FormatDriverInstance.safe_runs c.args.driver.now safe) (g.met.D.FormatDriverInstance.safe_runs c.loop-at.driver still) (layer_aligned d.layer g.met.D.FormatDriverInstance.aligned c.args.driver.now).positive
-          l.from (omega (arith, l.from)) (l.ran []).went.later (d.own_cause x below call) (d.own_cause x below call) c.in-Err.fault (λ h. h) (undeclined_cause below (d.layer c.loop-at.driver) c.loop-at.at (c.args.offset + c.args.n - c.loop-at.at) (d.own_cause x below call) (files d c.loop-at.driver) (files d c.discard_part.new.driver) c.in-Err.fault (λ h. absurd (cc (c.if-is_declined.ensures.1 h))) (done.refused.cause still below x call (l.began x call began part) within));
+          l.from (omega (arith, l.from)) (l.ran []).went.later (d.own_cause x below call) (d.own_cause x below call) c.in-Err.fault (λ h. h) (undeclined_cause below (d.layer c.loop-at.driver) c.loop-at.at (c.args.offset + c.args.n - c.loop-at.at) (d.own_cause x below call) (files d c.loop-at.driver) (files d c.discard_part.new.driver) c.in-Err.fault (λ h. absurd (cc (c.if-is_declined.ensures.1 h))) (done.refused.cause still below x call (l.began x call began part) within is_for));
     }
 
 pub returns-clause-went : goal.returns-clause-went

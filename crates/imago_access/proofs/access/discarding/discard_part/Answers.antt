@@ -2,7 +2,8 @@ use Rattle.std.proofs.Common.{sym, subst}
 use Rattle.imago_access.specs.Changes.{ToAny, ToBelow}
 use Rattle.imago_access.specs.Stops.{KeepsStops, GivesAny, GivesBelow}
 use Rattle.imago_access.specs.Running.{IsBetween}
-use Rattle.imago_access.specs.Discards.{GivesDiscarded}
+use Rattle.imago_access.specs.Discards.{GivesDiscarded, discard_by}
+use Rattle.imago_access.specs.PartCalls.{PartRefused}
 use Rattle.imago_access.specs.declared.access.discarding.Discarding.{Discarding}
 use Rattle.imago_access.proofs.Rewriting.{result_between, any_shows, below_shows}
 use Rattle.imago_access.proofs.access.discarding.discard_part.Goals as goal
@@ -29,3 +30,11 @@ pub returns-in-ToBacking-clause-stops : goal.returns-in-ToBacking-clause-stops
 returns-in-ToBacking-clause-stops g c = λ safe below backed. let d = g.D.Seen in
     subst (λ (k : Discarding). KeepsStops d below (GivesDiscarded k below c.args.offset c.args.length) c.args.driver.now c.discard_to_backing.new.self) (sym c.in-ToBacking.is)
     (c.discard_to_backing.ensures.does.stops safe below backed)
+
+pub returns-in-ToAny-clause-refused : goal.returns-in-ToAny-clause-refused
+returns-in-ToAny-clause-refused g c = let d = g.D.Seen in let r = c.discard_to_any in
+    subst (λ (k : Discarding). PartRefused (discard_by k) d c.args.offset c.args.length r.result c.args.driver.now r.new.self) (sym c.in-ToAny.is) r.ensures.refused
+
+pub returns-in-ToBacking-clause-refused : goal.returns-in-ToBacking-clause-refused
+returns-in-ToBacking-clause-refused g c = let d = g.D.Seen in let r = c.discard_to_backing in
+    subst (λ (k : Discarding). PartRefused (discard_by k) d c.args.offset c.args.length r.result c.args.driver.now r.new.self) (sym c.in-ToBacking.is) r.ensures.refused

@@ -28,7 +28,7 @@ loop-at-init g c = let d = g.D.Seen in let b = g.B.SeenBelow in record {
   shown = λ i p from to. absurd (omega (arith, from, to));
   uncut = λ i. uncut_start (d.layer c.args.driver.now).fixed.unit (d.layer c.args.driver.now).size c.args.offset c.args.n;
   room = λ i. room_same d (λ p. (c.args.zeroing ≡ zeroing_is.Keep) ⊎ IsOut c.args.offset c.args.n p) (IsApart (d.layer c.args.driver.now).fixed.unit c.args.offset c.args.n) c.args.driver.now;
-  given = λ i e call begun part none. given_none (IsZeroedBy c.args.zeroing (d.vacant c.args.driver.now) (d.zeroed c.args.driver.now)) (d.layer c.args.driver.now).fixed.unit (d.layer c.args.driver.now).size c.args.offset c.args.n;
+  given = λ i e call begun part is_for none. given_none (IsZeroedBy c.args.zeroing (d.vacant c.args.driver.now) (d.zeroed c.args.driver.now)) (d.layer c.args.driver.now).fixed.unit (d.layer c.args.driver.now).size c.args.offset c.args.n;
   ran = ran_same d b ⊤ (GivesZero c.args.offset c.args.n) c.args.driver.now c.args.below.now;
   began = λ e call begun part. begun;
 }
@@ -53,18 +53,18 @@ loop-at-preserved g c = let d = g.D.Seen in let b = g.B.SeenBelow in let l = c.l
           ];
       uncut = λ i. uncut_later (d.layer y0) (d.layer y1) c.args.offset c.args.n at_now c.in-Ok.next l.ran.went.fixed l.ran.size (omega (arith, done.run.0)) (l.uncut i) (done.uncut (l.ran.intact tt i));
       room = λ i. room_then d (λ p. (c.args.zeroing ≡ zeroing_is.Keep) ⊎ IsOut c.args.offset c.args.n p) (λ p. (c.args.zeroing ≡ zeroing_is.Keep) ⊎ IsOut at_now rest p) c.args.offset c.args.n at_now rest y0 y1 y2 l.ran.went.fixed l.from (omega (arith, l.inside)) (λ p there. elim there [ inl keep ↦ inl keep | inr out ↦ inr (out_wider c.args.offset c.args.n at_now rest p l.from (omega (arith, l.inside)) out) ]) (l.room i) (c.in-Ok.ensures.does.room (l.ran.intact tt i) tt);
-      given = λ i e call begun part none.
+      given = λ i e call begun part is_for none.
           let mid = l.ran.intact tt i in
           let same : b.under x1 ≡ b.under x0 = (l.ran.looked.stays tt i.is_seen).0 in
           let unit = (d.layer y0).fixed.unit in let size = (d.layer y0).size in
           let still : IsUndeclined (d.own_cause e (b.under x1) call) = subst (λ (below : List Layer). IsUndeclined (d.own_cause e below call)) (sym same) none in
-          let more = done.given mid e call (l.began e call begun part) (record { start = omega (arith, part.start, l.from); end = omega (arith, part.end, l.inside) }) still in
+          let more = done.given mid e call (l.began e call begun part) (record { start = omega (arith, part.start, l.from); end = omega (arith, part.end, l.inside) }) is_for still in
           let given : IsGivenUpTo (IsZeroedBy c.args.zeroing (d.vacant y2) (d.zeroed y2)) unit size at_now rest c.in-Ok.next = subst (λ (f : Fixed). IsGivenUpTo (IsZeroedBy c.args.zeroing (d.vacant y2) (d.zeroed y2)) f.unit size at_now rest c.in-Ok.next) l.ran.went.fixed (subst (λ (z : ℕ). IsGivenUpTo (IsZeroedBy c.args.zeroing (d.vacant y2) (d.zeroed y2)) (d.layer y1).fixed.unit z at_now rest c.in-Ok.next) l.ran.size more) in
           let on_disk : at_now < size = omega (arith, c.loop-at-test.true, c.requires.inside) in
           let left = done.does.room mid tt in
           given_both (IsZeroedBy c.args.zeroing (d.vacant y2) (d.zeroed y2)) unit size c.args.offset c.args.n (IsZeroedBy c.args.zeroing (d.vacant y1) (d.zeroed y1)) at_now c.in-Ok.next (omega (arith, done.run.0))
           (λ p u of ended was. left_on d (λ q. (c.args.zeroing ≡ zeroing_is.Keep) ⊎ IsOut at_now rest q) (IsApart (d.layer y1).fixed.unit at_now rest) c.args.zeroing y1 y2 p (λ keep. inl keep) (subst (λ (f : Fixed). IsApart f.unit at_now rest p) (sym l.ran.went.fixed) (ended_apart unit size at_now rest u p on_disk ended of)) left was)
-          (l.given i e call begun part none) given;
+          (l.given i e call begun part is_for none) given;
       ran = ran_both d b ⊤ (GivesZero c.args.offset c.args.n) (GivesZero at_now rest) (GivesZero c.args.offset c.args.n) y0 y1 y2 x0 x1 x2 (λ p v gave. gave) gives l.ran (ran_weaker d b ⊤ ⊤ (GivesZero at_now rest) y1 y2 x1 x2 (λ h. h) done.does.ran);
       began = λ e call begun part. done.does.began e call (l.began e call begun part) (record { start = omega (arith, part.start, l.from); end = omega (arith, part.end, l.inside) });
     }

@@ -8,7 +8,8 @@ use Rattle.imago_storage.specs.Steps.{IsOut}
 use Rattle.imago_access.specs.Parts.{IsPartOf}
 use Rattle.imago_access.specs.Room.{IsApart, IsUncutAt, LeavesRoom, IsGivenUpTo, IsUndeclined}
 use Rattle.imago_access.specs.declared.access.zeroing.Zeroing.TheVariants as zeroing_is
-use Rattle.imago_access.specs.Zeroings.{IsZeroedBy}
+use Rattle.imago_access.specs.Zeroings.{IsZeroedBy, zero_by}
+use Rattle.imago_access.specs.PartCalls.{IsFor}
 use Rattle.imago_access.specs.Running.{IsIntact, Ran}
 use Rattle.imago_access.specs.Stops.{GivesZero}
 use Rattle.imago_access.proofs.access.zeroing.zero_all.Given as goal
@@ -22,7 +23,7 @@ invariant-loop-at g l = let d = g.D.Seen in let b = g.B.SeenBelow in record {
   shown : IsIntact d b l.fn.driver l.fn.below → (p : ℕ) → l.offset ≤ p → p < l.at → at (d.layer l.driver ∷ b.under l.fn.below) p ≡ byte 0;
   uncut : IsIntact d b l.fn.driver l.fn.below → IsUncutAt (d.layer l.fn.driver).fixed.unit (d.layer l.fn.driver).size l.offset l.n l.at;
   room : IsIntact d b l.fn.driver l.fn.below → LeavesRoom d (λ p. (l.zeroing ≡ zeroing_is.Keep) ⊎ IsOut l.offset l.n p) (IsApart (d.layer l.fn.driver).fixed.unit l.offset l.n) l.fn.driver l.driver;
-  given : IsIntact d b l.fn.driver l.fn.below → (x : _) (call : Call) → d.began x call l.fn.driver → IsPartOf call l.offset l.n → IsUndeclined (d.own_cause x (b.under l.fn.below) call) → IsGivenUpTo (IsZeroedBy l.zeroing (d.vacant l.driver) (d.zeroed l.driver)) (d.layer l.fn.driver).fixed.unit (d.layer l.fn.driver).size l.offset l.n l.at;
+  given : IsIntact d b l.fn.driver l.fn.below → (x : _) (call : Call) → d.began x call l.fn.driver → IsPartOf call l.offset l.n → IsFor (zero_by l.zeroing) call → IsUndeclined (d.own_cause x (b.under l.fn.below) call) → IsGivenUpTo (IsZeroedBy l.zeroing (d.vacant l.driver) (d.zeroed l.driver)) (d.layer l.fn.driver).fixed.unit (d.layer l.fn.driver).size l.offset l.n l.at;
   ran : Ran d b ⊤ (GivesZero l.offset l.n) (l.fn.driver, l.fn.below) (l.driver, l.below);
   began : (x : _) (call : Call) → d.began x call l.fn.driver → IsPartOf call l.offset l.n → d.began x call l.driver;
 }

@@ -36,7 +36,7 @@ returns-in-Err-clause-refused g c = record {
       top_alone d b y0 y0 y1 x0 x0 c.in-Err.fault refl (λ i. i.is_safe) (alone_plain d y0 y1 c.in-Err.fault c.in-Err.ensures.marks);
   cause = λ i e call begun part says. let d = g.D.Seen in let b = g.B.SeenBelow in
       let y0 = c.args.driver.now in let y1 = c.zero_by_driver.new.driver in let x0 = c.args.below.now in
-      part_cause_left (b.under x0) (d.layer y0) c.args.offset c.args.n (d.own_cause e (b.under x0) call) (files d y0) (files d y1) (b.files_under x0) (b.files_under x0) c.in-Err.fault (c.in-Err.ensures.cause i.is_safe (b.under x0) e call begun part.part);
+      part_cause_left (b.under x0) (d.layer y0) c.args.offset c.args.n (d.own_cause e (b.under x0) call) (files d y0) (files d y1) (b.files_under x0) (b.files_under x0) c.in-Err.fault (c.in-Err.ensures.cause i.is_safe (b.under x0) e call begun part.part says.0);
 }
 
 pub returns-in-Ok-write_zero_bytes-clause-does : goal.returns-in-Ok-write_zero_bytes-clause-does
@@ -117,7 +117,7 @@ returns-in-Err-write_zero_bytes-clause-refused g c = record {
       c.in-Err-write_zero_bytes.ensures.refused.cause (one.intact tt i) e call (done.began e call begun part.part)
       (part_within (d.layer y0) (d.layer y1) call c.args.offset c.args.n c.args.offset gap done.like.fixed done.like.size (omega arith) (omega (arith, inside, done.part.0))
       (uncut_start (d.layer y0).fixed.unit (d.layer y0).size c.args.offset c.args.n)
-      (subst (IsUncutAt (d.layer y0).fixed.unit (d.layer y0).size c.args.offset c.args.n) back (done.uncut i.is_safe).0) part) says);
+      (subst (IsUncutAt (d.layer y0).fixed.unit (d.layer y0).size c.args.offset c.args.n) back (done.uncut i.is_safe).0) part) says.1);
 }
 
 pub returns-in-Ok-write_zero_bytes-clause-shown : goal.returns-in-Ok-write_zero_bytes-clause-shown
@@ -135,14 +135,14 @@ returns-in-Ok-write_zero_bytes-clause-shown g c = λ i p from to. let d = g.D.Se
     ]
 
 pub returns-in-Ok-write_zero_bytes-clause-given : goal.returns-in-Ok-write_zero_bytes-clause-given
-returns-in-Ok-write_zero_bytes-clause-given g c = λ i e call begun part none. let d = g.D.Seen in let b = g.B.SeenBelow in
+returns-in-Ok-write_zero_bytes-clause-given g c = λ i e call begun part is_for none. let d = g.D.Seen in let b = g.B.SeenBelow in
     let y0 = c.args.driver.now in let y1 = c.zero_by_driver.new.driver in let y2 = c.write_zero_bytes.new.driver in let x0 = c.args.below.now in let x2 = c.write_zero_bytes.new.below in
     let start = c.in-Ok.part.0 in let done = c.in-Ok.ensures in
     let inside : start ≤ c.args.offset + c.args.n = omega (arith, done.part.1, done.part.3) in
     let gap = start - c.args.offset in
     let one = ran_zeroed d b g.met.D.FormatDriverInstance.free_loose ⊤ c.args.offset c.args.n y0 y1 x0 c.requires.free done.like done.went done.values done.stops in
     let unit = (d.layer y0).fixed.unit in let size = (d.layer y0).size in
-    let given = done.given i.is_safe (b.under x0) e call begun part none in
+    let given = done.given i.is_safe (b.under x0) e call begun part is_for none in
     let written = c.in-Ok-write_zero_bytes.ensures.does.room (one.intact tt i) tt in
     given_on (IsZeroedBy c.args.zeroing (d.vacant y1) (d.zeroed y1)) (IsZeroedBy c.args.zeroing (d.vacant y2) (d.zeroed y2)) unit size c.args.offset c.args.n c.in-Ok.part.1
     (λ u p whole of was. left_on d (λ _. ⊤) (IsApart (d.layer y1).fixed.unit c.args.offset gap) c.args.zeroing y1 y2 p (λ keep. tt) (subst (λ (f : Fixed). IsApart f.unit c.args.offset gap p) (sym done.like.fixed) (begun_apart unit size c.args.offset start u p done.part.0 (given.none_before u whole) of)) written was)

@@ -15,4 +15,4 @@ pub returns-in-Err-clause-at_once : goal.returns-in-Err-clause-at_once
 returns-in-Err-clause-at_once g c = at_once_some _ c.args.offset c.args.length c.in-Err.fault c.args.self.now refl c.in-Err.ensures.err
 
 pub returns-in-Err-clause-refused : goal.returns-in-Err-clause-refused
-returns-in-Err-clause-refused g c = part_refused _ c.args.offset c.args.length c.in-Err.fault c.args.self.now refl c.in-Err.ensures.err
+returns-in-Err-clause-refused g c = λ call. part_refused _ call c.args.offset c.args.length c.in-Err.fault c.args.self.now refl c.in-Err.ensures.err

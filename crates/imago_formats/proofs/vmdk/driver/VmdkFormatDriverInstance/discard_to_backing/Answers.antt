@@ -3,3 +3,6 @@ use Rattle.imago_formats.proofs.vmdk.driver.VmdkFormatDriverInstance.discard_to_
 
 pub returns-clause-does : goal.returns-clause-does
 returns-clause-does g c = c.no_part.ensures.does discards_to_backing
+
+pub returns-clause-refused : goal.returns-clause-refused
+returns-clause-refused g c = c.no_part.ensures.refused discards_to_backing
