@@ -1,6 +1,7 @@
 -- How a guest cluster comes to name a cluster that was reserved: the search of its table, its word, and what is written then.
-use Rattle.std.proofs.Common.{◌≡◌, ◌≢◌, ℕ, ◌+◌, ◌*◌, ◌/◌, ◌%◌, ◌^◌, ◌≤◌, refl, arith, ap, sym, subst, ◌∙◌, true, Some, None, Option, Result, Ok, Err, inl, inr}
-use Rattle.std.specs.Prelude.{⊤, IfErr, IsTrue, OnOk, nat_eq}
+use Rattle.std.proofs.Common.{◌≡◌, ◌≢◌, ℕ, ◌+◌, ◌*◌, ◌/◌, ◌%◌, ◌^◌, ◌≤◌, refl, arith, ap, sym, subst, ◌∙◌, true, Some, None, Option, List, Result, Ok, Err, inl, inr}
+use Rattle.std.specs.Prelude.{⊤, ◌++◌, IfErr, IsTrue, OnOk, nat_eq}
+use Rattle.std.proofs.lemmas.List.{append-nil}
 use Rattle.imago_storage.specs.State.{StorageState}
 use Rattle.imago_storage.specs.Calls.{IsFaultless, Later}
 use Rattle.imago_storage.specs.declared.fault.Fault.{Fault}
@@ -10,8 +11,8 @@ use Rattle.qcow2_types.specs.Bytes.{Bytes, bytes_of}
 use Rattle.qcow2_types.specs.Entries.{entry}
 use Rattle.qcow2_types.specs.Header.{Header, cluster_size, words_of_cluster}
 use Rattle.qcow2_types.specs.Pending.{FreeEntry}
-use Rattle.qcow2_types.specs.Words.{data_at}
-use Rattle.qcow2_metadata.specs.Allocations.{freed, replaced}
+use Rattle.qcow2_types.specs.Words.{Mapping, data_at, mapping_of}
+use Rattle.qcow2_metadata.specs.Allocations.{allocation_of, freed, holds}
 use Rattle.qcow2_metadata.specs.Places.{IsInReach}
 use Rattle.qcow2_metadata.specs.Tables.{TableValue, mapping_in, table_in, with_word}
 use Rattle.qcow2_alloc.specs.declared.cache.MetadataCaches.{MetadataCaches}
@@ -24,20 +25,21 @@ use Rattle.qcow2_alloc.specs.Finding.{TableFound, WhyNotFound}
 use Rattle.qcow2_alloc.specs.Going.{AreBlocksInReach, AreTablesInReach, IsMild, WasNotCutOff}
 use Rattle.qcow2_alloc.specs.Memory.{Cached}
 use Rattle.qcow2_alloc.specs.Opening.{IsL1Of}
-use Rattle.qcow2_alloc.specs.Quiet.{IsQuiet, IsSound, IsUsed, Metadata, Quietly, in_memory}
+use Rattle.qcow2_alloc.specs.Quiet.{IsQuiet, IsSound, IsUsed, Metadata, Quietly, counted, in_memory, referenced, waiting}
 use Rattle.qcow2_alloc.proofs.Memory.SafeLaws.{clean-memory}
 use Rattle.qcow2_alloc.proofs.Quiet.QuietFlushes.{going-quietly}
 use Rattle.qcow2_alloc.proofs.Quiet.QuietShows.{in-cluster}
 use Rattle.qcow2_alloc.proofs.Quiet.QuietThen.{quietly-then}
 use Rattle.qcow2_steps.proofs.QuietValues.{quiet-entries}
-use Rattle.qcow2_clusters.specs.Naming.{IsNameable, Names, NamesIn, PutsOff, WhyNotNamed, naming}
+use Rattle.qcow2_steps.specs.Words.{names_at}
+use Rattle.qcow2_clusters.specs.Naming.{IsNameable, Names, NamesIn, PutsOff, WhyNotNamed, listed_of, named_before, naming}
 use Rattle.qcow2_clusters.specs.Progress.{Kind, Progresses, both, handing}
 use Rattle.qcow2_clusters.specs.Rest.{AreEmpty, Clusters, HasEntries, IsReady, nothing_cached, resting, storage}
 use Rattle.qcow2_clusters.specs.Settling.{Settles, WhyNotSettled}
 use Rattle.qcow2_clusters.proofs.Adding.{AdvancesBy, IsWider, progresses-halted, progresses-in-memory, progresses-then, progresses-weaker, quiet-progresses, wider-both, wider-handing}
 use Rattle.qcow2_clusters.proofs.Ending.{settled-cause, settled-faultless}
 use Rattle.qcow2_clusters.proofs.LoneTables.{lone_table, never-full, only-read, refused-empty, used-alone, used-read}
-use Rattle.qcow2_clusters.proofs.NamedWords.{old-allocated, old-named, stepping, table-fine, table-near, word-named}
+use Rattle.qcow2_clusters.proofs.NamedWords.{back-all, back-named, freed-data, names-data, old-entry, put-advances, stepping, table-fine, table-near, word-counted, word-named, word-owed, word-unnamed}
 use Rattle.qcow2_clusters.proofs.Resting.{begun-quietly, l1-stays}
 
 -- Why the search was refused is why the call is: no cache is full.
@@ -92,6 +94,10 @@ module _ {S : Type 0} (state : S → StorageState) (table guest x : ℕ) (c c' :
   abbrev m2 : Metadata
   m2 = resting state c'
 
+  -- what the guest cluster named
+  abbrev dropped : List FreeEntry
+  dropped = listed_of (freed (allocation_of c.file.header.fields.cluster_bits (entry m0.file c.file.header.fields guest)))
+
   -- What came before the writes, and what holds then of a sound image.
   pub record Begun : Type 0 where
     pub shape : s1.shape ≡ s0.shape
@@ -102,7 +108,7 @@ module _ {S : Type 0} (state : S → StorageState) (table guest x : ℕ) (c c' :
     pub held : c'.space.to_free.held ≡ c.space.to_free.held
     pub reach : Ready → AreTablesInReach (cached_in mid) × AreBlocksInReach (cached_in mid)
     pub why : IfErr done (WhyNotNamed Ready s0.faults s1.faults)
-    pub waits : Ready → c'.space.to_free.entries ≡ c.space.to_free.entries
+    pub waits : Ready → result ≡ Ok tt → c'.space.to_free.entries ≡ c.space.to_free.entries ++ dropped
     pub progress : Ready → Progresses (result ≡ Ok tt) (naming m0 guest x) s0 m0 s2 m2
     pub l1 : Ready → result ≡ Ok tt → (l1 : TableValue) → IsL1Of m0.file c.file.header.fields l1 → IsL1Of m2.file c'.file.header.fields l1
     pub named : Ready → result ≡ Ok tt → entry m2.file c.file.header.fields guest ≡ data_at x true
@@ -142,7 +148,7 @@ module _ {S : Type 0} (state : S → StorageState) (table guest x : ℕ) (c c' :
       header = settles.header ∙ begun.header;
       held = begun.held;
       l1 = λ able ready whole. begun.l1 (ready, able) (succeeded begun (ready, able) whole);
-      waits = λ ready able. begun.waits (ready, able);
+      waits = λ ready able. on-ok result _ (begun.waits (ready, able));
       named = λ ready able. on-ok result _ (begun.named (ready, able));
       bytes = λ ready able. on-ok result _ (begun.bytes (ready, able));
       cause = why-refused begun;
@@ -202,7 +208,7 @@ module _ {S : Type 0} (state : S → StorageState) (table guest x : ℕ) (c c' :
         held = ap (λ (l : FreeList). l.held) list;
         reach = λ ready. subst (λ (k : Cached). AreTablesInReach k × AreBlocksInReach k) (sym (refused-empty state table c.caches c.file rest fault mid between found)) (tt, tt);
         why = subst (λ r. IfErr r (WhyNotNamed Ready s0.faults s1.faults)) (sym is) refused-why;
-        waits = λ ready. ap (λ (l : FreeList). l.entries) list;
+        waits = λ ready ok. absurd (refused-never ready ok);
         progress = refused-progress;
         l1 = λ ready ok. absurd (refused-never ready ok);
         named = λ ready ok. absurd (refused-never ready ok);
@@ -227,11 +233,6 @@ module _ {S : Type 0} (state : S → StorageState) (table guest x : ℕ) (c c' :
       left-alone : cached_in mid ≡ lone_table table u.table'
       left-alone = used-alone state table c.caches c.file rest u.mid between u.table' mid u.found u.left
 
-      -- Nothing had been allocated.
-      none-freed : Ready → before ≡ None
-      none-freed ready =
-          u.used.ok.2 ∙ ap (λ o. freed (replaced x o)) (old-allocated m0 table guest x ready.0.sound ready.1 u.table is-file's c.file.header.fields.cluster_bits)
-
       set-reach : Ready → AreTablesInReach (cached_in mid) × AreBlocksInReach (cached_in mid)
       set-reach ready =
           let bits : u.table'.layout.cluster_bits ≡ c.file.header.fields.cluster_bits =
@@ -239,7 +240,8 @@ module _ {S : Type 0} (state : S → StorageState) (table guest x : ℕ) (c c' :
           subst (λ (k : Cached). AreTablesInReach k × AreBlocksInReach k) (sym left-alone)
           (((λ modified. subst (λ b. IsInReach b table) (sym bits) (table-near m0 table guest x ready.0.sound ready.1)), tt), tt)
 
-      module _ (ready : Ready) (allocator : c'.space.allocator ≡ c.space.allocator) (list : c'.space.to_free ≡ c.space.to_free) (is : done ≡ Ok tt)
+      module _ (ready : Ready) (allocator : c'.space.allocator ≡ c.space.allocator)
+          (list : c'.space.to_free.entries ≡ c.space.to_free.entries ++ listed_of before) (is : done ≡ Ok tt)
           (settles : Settles state done between mid result c'.file c'.caches) where
         abbrev able : IsNameable m0 table guest x
         able = ready.1
@@ -256,13 +258,16 @@ module _ {S : Type 0} (state : S → StorageState) (table guest x : ℕ) (c c' :
         abbrev set-image : Metadata
         set-image = record (found-as u.mid) { cached = cached_in mid }
 
-        same-image : set-image ≡ m1
+        -- what the word named waits to be freed then
+        abbrev put-image : Metadata
+        put-image = record set-image { pending = c.space.to_free.entries ++ listed_of before }
+
+        same-image : put-image ≡ m1
         same-image =
             let header : c.file.header ≡ between.header = sym u.found.others.1 in
             let order : order_of c.caches ≡ order_of mid = sym (ap order_of u.left ∙ u.found.others.0) in
             let refcounts : table_of c.space.allocator ≡ table_of c'.space.allocator = ap table_of (sym allocator) in
-            let pending : c.space.to_free.entries ≡ c'.space.to_free.entries = ap (λ (l : FreeList). l.entries) (sym list) in
-            λ k. record { file = bytes_of s1.bytes; header = header k; cached = cached_in mid; order = order k; table = refcounts k; pending = pending k }
+            λ k. record { file = bytes_of s1.bytes; header = header k; cached = cached_in mid; order = order k; table = refcounts k; pending = sym list k }
 
         first : IsSound (found-as u.mid) × IsQuiet (λ _. 0) (λ _. 0) m0 (found-as u.mid)
         first = (searched (Ok tt) u.mid u.found).holds ready.0.keeps ready.0.sound tt
@@ -284,8 +289,44 @@ module _ {S : Type 0} (state : S → StorageState) (table guest x : ℕ) (c c' :
             word-named m0 table guest x ready.0.sound able some near (bytes_of s1.bytes) (cached_in u.mid) (order_of c.caches) bytes-same first.0 first.1
             u.table u.there (cached_in mid) tables-set blocks-set
 
+        abbrev old : Mapping
+        old = mapping_in u.table column
+
+        was : old ≡ entry m0.file c.file.header.fields guest
+        was = old-entry m0 table guest x ready.0.sound able u.table is-file's
+
+        owed : (d : ℕ) → referenced set-image d + waiting (found-as u.mid) d + names_at m0 old d ≤ counted (found-as u.mid) d
+        owed = word-owed m0 table guest x ready.0.sound able some near (bytes_of s1.bytes) (cached_in u.mid) (order_of c.caches) bytes-same first.0 first.1
+            u.table u.there (cached_in mid) tables-set blocks-set
+
+        unnamed : names_at m0 old x ≡ 0
+        unnamed = word-unnamed m0 table guest x ready.0.sound able some near (bytes_of s1.bytes) (cached_in u.mid) (order_of c.caches) bytes-same first.0 first.1
+            u.table u.there (cached_in mid) tables-set blocks-set
+
+        means : mapping_of u.table.layout (2 ^ 63 + x * cluster_size c.file.header.fields) ≡ data_at x true
+        means = ap (λ (t : TableValue). mapping_of t.layout (2 ^ 63 + x * cluster_size c.file.header.fields)) is-read
+            ∙ names-data m0 x ready.0.sound some near
+
+        back : before ≡ freed (allocation_of c.file.header.fields.cluster_bits old)
+        back = back-all c.file.header.fields x old _ before means u.used.ok.2 u.used.ok.3 unnamed
+
+        back-at : (d : ℕ) → holds d before ≡ names_at m0 old d
+        back-at = back-named c.file.header.fields x old _ before means u.used.ok.2 u.used.ok.3 unnamed
+
+        abbrev put-kind : Kind
+        put-kind = handing (λ _. 0) (λ d. holds d before)
+
+        put-step : AdvancesBy put-kind set-image put-image
+        put-step = put-advances set-image before word-set.0.sound
+            (λ d. let enough = owed d in let same = back-at d in let counts = counted-still d in omega (arith, enough, same, counts))
+            (rw back (freed-data (allocation_of c.file.header.fields.cluster_bits old)))
+          where
+            counted-still : (d : ℕ) → counted set-image d ≡ counted (found-as u.mid) d
+            counted-still d = word-counted m0 table guest x ready.0.sound able some near (bytes_of s1.bytes) (cached_in u.mid) (order_of c.caches) bytes-same first.0 first.1
+                u.table u.there (cached_in mid) tables-set blocks-set d
+
         set-sound : IsSound m1
-        set-sound = subst IsSound same-image word-set.0.sound
+        set-sound = subst IsSound same-image put-step.sound
 
         settled : Quietly (WasNotCutOff result) (λ _. 0) (λ _. 0) s1 m1 s2 m2
         settled = settles.quiet (table_of c'.space.allocator) c'.space.to_free.entries
@@ -298,17 +339,24 @@ module _ {S : Type 0} (state : S → StorageState) (table guest x : ℕ) (c c' :
         set-progress =
             let none : Kind = handing (λ _. 0) (λ _. 0) in
             let one = quiet-progresses ⊤ (λ _. 0) (λ _. 0) s0 m0 s1 (found-as u.mid) (λ sound d named. refl) (searched (Ok tt) u.mid u.found) in
-            let two : Progresses ⊤ step-kind s1 (found-as u.mid) s1 m1 =
-            subst (Progresses ⊤ step-kind s1 (found-as u.mid) s1) same-image (progresses-in-memory ⊤ step-kind s1 (found-as u.mid) set-image (λ sound yes. word-set.0)) in
+            let two = progresses-in-memory ⊤ step-kind s1 (found-as u.mid) set-image (λ sound yes. word-set.0) in
+            let put : Progresses ⊤ put-kind s1 set-image s1 m1 =
+            subst (Progresses ⊤ put-kind s1 set-image s1) same-image (progresses-in-memory ⊤ put-kind s1 set-image put-image (λ sound yes. put-step)) in
             let three = quiet-progresses (WasNotCutOff result) (λ _. 0) (λ _. 0) s1 m1 s2 m2 (λ sound d named. refl) settled in
-            let behind = progresses-then (WasNotCutOff result) ⊤ step-kind none s1 (found-as u.mid) s1 m1 s2 m2 tt two three in
-            let all = progresses-then (WasNotCutOff result) ⊤ none (both step-kind none) s0 m0 s1 (found-as u.mid) s2 m2 tt one behind in
-            progresses-weaker (WasNotCutOff result) (result ≡ Ok tt) (both none (both step-kind none)) (naming m0 guest x) s0 m0 s2 m2
-            (wider-both none (both step-kind none) (naming m0 guest x) (wider-handing (λ _. 0) (λ _. 0) (naming m0 guest x))
-            (wider-both step-kind none (naming m0 guest x) word-set.2 (wider-handing (λ _. 0) (λ _. 0) (naming m0 guest x))))
+            let later = progresses-then (WasNotCutOff result) ⊤ put-kind none s1 set-image s1 m1 s2 m2 tt put three in
+            let behind = progresses-then (WasNotCutOff result) ⊤ step-kind (both put-kind none) s1 (found-as u.mid) s1 set-image s2 m2 tt two later in
+            let all = progresses-then (WasNotCutOff result) ⊤ none (both step-kind (both put-kind none)) s0 m0 s1 (found-as u.mid) s2 m2 tt one behind in
+            let wide : Kind = naming m0 guest x in
+            progresses-weaker (WasNotCutOff result) (result ≡ Ok tt) (both none (both step-kind (both put-kind none))) wide s0 m0 s2 m2
+            (wider-both none (both step-kind (both put-kind none)) wide (wider-handing (λ _. 0) (λ _. 0) wide)
+            (wider-both step-kind (both put-kind none) wide word-set.2
+            (wider-both put-kind none wide (wider-handing (λ _. 0) (λ d. holds d before) wide) (wider-handing (λ _. 0) (λ _. 0) wide))))
             (λ ok. subst WasNotCutOff (sym ok) tt)
-            (λ d. let old = old-named m0 table guest x ready.0.sound able u.table is-file's d in omega (arith, old))
-            (λ d. omega arith) all
+            (λ d. let same = named-same d in omega (arith, same))
+            (λ d. let same = named-same d in let all = back-at d in omega (arith, same, all)) all
+          where
+            named-same : (d : ℕ) → named_before m0 guest d ≡ names_at m0 old d
+            named-same d = ap (λ (w : Mapping). names_at m0 w d) (sym was)
 
         set-l1 : result ≡ Ok tt → (l1 : TableValue) → IsL1Of m0.file c.file.header.fields l1 → IsL1Of m2.file c'.file.header.fields l1
         set-l1 ok l1 of =
@@ -331,14 +379,14 @@ module _ {S : Type 0} (state : S → StorageState) (table guest x : ℕ) (c c' :
         -- What is written then leaves what is used.
         set-bytes : result ≡ Ok tt → (q : ℕ) → q / cluster_size c.file.header.fields ≡ x → m2.file q ≡ m0.file q
         set-bytes ok q at =
-            let quiet : IsQuiet (λ _. 0) (λ _. 0) set-image m2 = subst (λ m. IsQuiet (λ _. 0) (λ _. 0) m m2) (sym same-image) (last ok).1 in
-            let used : IsUsed set-image (q / cluster_size c.file.header.fields) = subst (IsUsed set-image) (sym at) word-set.3 in
+            let quiet : IsQuiet (λ _. 0) (λ _. 0) put-image m2 = subst (λ m. IsQuiet (λ _. 0) (λ _. 0) m m2) (sym same-image) (last ok).1 in
+            let used : IsUsed put-image (q / cluster_size c.file.header.fields) = subst (IsUsed put-image) (sym at) (put-step.used x word-set.3 (back-at x ∙ unnamed)) in
             in-cluster c.file.header.fields (bytes_of s1.bytes) m2.file q (quiet.kept (q / cluster_size c.file.header.fields) used refl)
             ∙ ap (λ (b : Bytes). b q) bytes-same
 
       -- What it named before waits, if it named anything.
-      module _ (held : c'.space.to_free.held ≡ c.space.to_free.held) (why : IfErr done (WhyNotNamed Ready s0.faults s1.faults))
-          (waits : Ready → (done ≡ Ok tt) × (c'.space.to_free ≡ c.space.to_free)) (allocator : c'.space.allocator ≡ c.space.allocator)
+      module _ (held : c'.space.to_free.held ≡ c.space.to_free.held) (is : done ≡ Ok tt)
+          (list : c'.space.to_free.entries ≡ c.space.to_free.entries ++ listed_of before) (allocator : c'.space.allocator ≡ c.space.allocator)
           (settles : Settles state done between mid result c'.file c'.caches) where
         set-begun : Begun
         set-begun = record {
@@ -352,12 +400,49 @@ module _ {S : Type 0} (state : S → StorageState) (table guest x : ℕ) (c c' :
           };
           held = held;
           reach = set-reach;
-          why = why;
-          waits = λ ready. ap (λ (l : FreeList). l.entries) (waits ready).1;
-          progress = λ ready. set-progress ready allocator (waits ready).1 (waits ready).0 settles;
-          l1 = λ ready. set-l1 ready allocator (waits ready).1 (waits ready).0 settles;
-          named = λ ready. set-named ready allocator (waits ready).1 (waits ready).0 settles;
-          bytes = λ ready. set-bytes ready allocator (waits ready).1 (waits ready).0 settles;
+          why = subst (λ r. IfErr r (WhyNotNamed Ready s0.faults s1.faults)) (sym is) tt;
+          waits = λ ready ok. list ∙ ap (λ (b : Option FreeEntry). c.space.to_free.entries ++ listed_of b)
+              (back ready allocator list is settles ∙ ap (λ (w : Mapping). freed (allocation_of c.file.header.fields.cluster_bits w)) (was ready allocator list is settles));
+          progress = λ ready. set-progress ready allocator list is settles;
+          l1 = λ ready. set-l1 ready allocator list is settles;
+          named = λ ready. set-named ready allocator list is settles;
+          bytes = λ ready. set-bytes ready allocator list is settles;
+        }
+
+      -- There was no memory to have it wait.
+      module _ (held : c'.space.to_free.held ≡ c.space.to_free.held) (is : done ≡ Err Memory)
+          (settles : Settles state done between mid result c'.file c'.caches) where
+        unput-cut : (result ≡ done) × (c'.file ≡ between)
+        unput-cut = settles.cut (λ whole. subst WasNotCutOff is whole)
+
+        unput-never : result ≡ Ok tt → ⊥
+        unput-never ok = let bad : Ok tt ≡ Err Memory = sym ok ∙ unput-cut.0 ∙ is in absurd cc
+
+        unput-progress : Progresses (result ≡ Ok tt) (naming m0 guest x) s0 m0 s2 m2
+        unput-progress =
+            subst (λ (f : ImageFile S). Progresses (result ≡ Ok tt) (naming m0 guest x) s0 m0 (state f.image) m2) (sym unput-cut.1)
+            (progresses-halted ⊤ (result ≡ Ok tt) (handing (λ _. 0) (λ _. 0)) (naming m0 guest x) s0 m0 s1 (found-as u.mid) m2
+            (wider-handing (λ _. 0) (λ _. 0) (naming m0 guest x)) (λ keeps sound ok. unput-never ok)
+            (quiet-progresses ⊤ (λ _. 0) (λ _. 0) s0 m0 s1 (found-as u.mid) (λ sound d named. refl) (searched (Ok tt) u.mid u.found)))
+
+        unput-begun : Begun
+        unput-begun = record {
+          shape = u.found.going.shape;
+          later = u.found.going.later;
+          faults = λ whole. u.found.going.faults tt;
+          header = u.found.others.1;
+          room = record {
+            tables = ap (λ (k : MetadataCaches S). k.l2.slots.cap) u.left ∙ u.found.room.tables;
+            blocks = ap (λ (k : MetadataCaches S). k.rb.slots.cap) u.left ∙ u.found.room.blocks;
+          };
+          held = held;
+          reach = set-reach;
+          why = subst (λ r. IfErr r (WhyNotNamed Ready s0.faults s1.faults)) (sym is) tt;
+          waits = λ ready ok. absurd (unput-never ok);
+          progress = λ ready. unput-progress;
+          l1 = λ ready ok. absurd (unput-never ok);
+          named = λ ready ok. absurd (unput-never ok);
+          bytes = λ ready ok. absurd (unput-never ok);
         }
 
     -- Of the three calls.
@@ -371,12 +456,6 @@ module _ {S : Type 0} (state : S → StorageState) (table guest x : ℕ) (c c' :
       held-by : {list : FreeList} → c'.space.to_free ≡ list → c'.space.to_free.held ≡ list.held
       held-by same = ap (λ (l : FreeList). l.held) same
 
-      put-why : (answer : Result Unit Fault) → done ≡ answer → IfErr answer (WhyNotNamed Ready s0.faults s1.faults) → IfErr done (WhyNotNamed Ready s0.faults s1.faults)
-      put-why answer is why = subst (λ r. IfErr r (WhyNotNamed Ready s0.faults s1.faults)) (sym is) why
-
-      some-freed : (e : FreeEntry) → TableUsed state table (NamesIn c.file.header.fields.cluster_bits guest x) c.caches c.file (Ok (Some e)) mid between → Ready → ⊥
-      some-freed e u ready = let none = none-freed some near (Some e) u ready in cc
-
       begun-by : (named : Result (Option FreeEntry) Fault) → UsesTable state table (NamesIn c.file.header.fields.cluster_bits guest x) c.caches c.file named mid between
           → PutsOff named c.space.to_free done c'.space.to_free → Begun
       begun-by (Err fault) (inl r) puts =
@@ -384,11 +463,9 @@ module _ {S : Type 0} (state : S → StorageState) (table guest x : ℕ) (c c' :
           refused-begun fault (subst (λ f. TableFound state table c.caches c.file (Err f) mid between) (sym same) r.2) puts.0 puts.1 settles
       begun-by (Err fault) (inr u) puts = absurd (bits-same fault u)
       begun-by (Ok before) (inl r) puts = absurd (let is = r.1 in cc)
-      begun-by (Ok None) (inr u) puts = set-begun some near None u (held-by puts.1) (put-why (Ok tt) puts.0 tt) (λ ready. puts) allocator settles
-      begun-by (Ok (Some e)) (inr u) (inl puts) =
-          set-begun some near (Some e) u (held-by puts.1) (put-why (Ok tt) puts.0 tt) (λ ready. absurd (some-freed e u ready)) allocator settles
-      begun-by (Ok (Some e)) (inr u) (inr puts) =
-          set-begun some near (Some e) u (held-by puts.1) (put-why (Err Memory) puts.0 tt) (λ ready. absurd (some-freed e u ready)) allocator settles
+      begun-by (Ok None) (inr u) puts = set-begun some near None u (held-by puts.1) puts.0 (ap (λ (l : FreeList). l.entries) puts.1 ∙ sym (append-nil c.space.to_free.entries)) allocator settles
+      begun-by (Ok (Some e)) (inr u) (inl puts) = set-begun some near (Some e) u (held-by puts.1) puts.0 (ap (λ (l : FreeList). l.entries) puts.1) allocator settles
+      begun-by (Ok (Some e)) (inr u) (inr puts) = unput-begun some near (Some e) u (held-by puts.1) puts.0 settles
 
       pub names-by : (named : Result (Option FreeEntry) Fault) → UsesTable state table (NamesIn c.file.header.fields.cluster_bits guest x) c.caches c.file named mid between
           → PutsOff named c.space.to_free done c'.space.to_free → Names state table guest x c result c'

@@ -1,5 +1,5 @@
 -- How a guest cluster comes to name a cluster that was reserved.
-use Rattle.std.specs.Prelude.{◌≡◌, ◌≢◌, ◌⊎◌, ⊤, ◌+◌, ◌*◌, ◌/◌, ◌%◌, ◌^◌, ◌<◌, ℕ, [], ◌∷◌, ◌++◌}
+use Rattle.std.specs.Prelude.{◌≡◌, ◌≢◌, ◌⊎◌, ⊤, ◌+◌, ◌*◌, ◌/◌, ◌%◌, ◌^◌, ◌<◌, ℕ, List, [], ◌∷◌, ◌++◌}
 use Rattle.std.specs.Prelude.{Option, Some, None, Result, Ok, Err, OnOk, IfOk, IfErr, true}
 use Rattle.imago_storage.specs.State.{StorageState, Rose}
 use Rattle.imago_storage.specs.declared.fault.Fault.{Fault}
@@ -8,13 +8,13 @@ use Rattle.qcow2_types.specs.Entries.{entry, l2_table}
 use Rattle.qcow2_types.specs.Header.{cluster_size, words_of_cluster}
 use Rattle.qcow2_types.specs.Pending.{FreeEntry}
 use Rattle.qcow2_types.specs.Places.{l2_entries}
-use Rattle.qcow2_types.specs.Words.{Mapping, data_at, zeroes}
+use Rattle.qcow2_types.specs.Words.{Mapping, data_at, mapping_of, zeroes}
 use Rattle.qcow2_types.specs.Words as words
-use Rattle.qcow2_metadata.specs.Allocations.{allocation_of, freed, replaced}
+use Rattle.qcow2_metadata.specs.Allocations.{Conserves, allocation_of, freed, newly, replaced}
 use Rattle.qcow2_metadata.specs.Tables.{TableValue, mapping_in, with_word}
 use Rattle.qcow2_alloc.specs.FreeList.{FreeList}
 use Rattle.qcow2_alloc.specs.Quiet.{Metadata, one_at}
-use Rattle.qcow2_steps.specs.Words.{GivesWord, IsOfWord, IsReserved}
+use Rattle.qcow2_steps.specs.Words.{GivesWord, IsOfWord, IsReserved, names_at}
 use Rattle.qcow2_clusters.specs.Progress.{Kind, Progresses}
 use Rattle.qcow2_clusters.specs.Rest.{Clusters, IsReady, KeepsL1, resting, storage}
 use Rattle.qcow2_clusters.specs.Storing.{Rests}
@@ -25,19 +25,20 @@ TakesNone words.unmapped = ⊤
 TakesNone (zeroes None copied) = ⊤
 TakesNone mapping = ⊥
 
--- Of an image at rest, a guest cluster for which nothing is allocated: its L2 table is in this cluster. What it is to name is reserved.
+-- Of an image at rest, a guest cluster whose L2 table is in this cluster. What it is to name is reserved.
 pub record IsNameable (m : Metadata) (table guest x : ℕ) : Type 0 where
   pub inside : guest / words_of_cluster m.header.fields < m.header.fields.l1_entries
   pub there : l2_table m.file m.header.fields (guest / words_of_cluster m.header.fields) ≡ table * cluster_size m.header.fields
   pub some : table ≢ 0
-  pub free : TakesNone (entry m.file m.header.fields guest)
   pub reserved : IsReserved m x
 
 -- The word of a guest cluster names a cluster in a table, which answers what it named before; or the table is for clusters of another size.
 pub record NamesIn (bits guest x : ℕ) (table : TableValue) (result : Result (Option FreeEntry) Fault) (table' : TableValue) : Type 0 where
   pub ok : IfOk result (λ named. (table.layout.cluster_bits ≡ bits)
       × (table' ≡ with_word table (guest % l2_entries bits) (2 ^ 63 + x * 2 ^ bits))
-      × (named ≡ freed (replaced x (allocation_of bits (mapping_in table (guest % l2_entries bits))))))
+      × (named ≡ freed (replaced x (allocation_of bits (mapping_in table (guest % l2_entries bits)))))
+      × Conserves bits (mapping_in table (guest % l2_entries bits)) (mapping_of table.layout (2 ^ 63 + x * 2 ^ bits)) named
+      (newly x (allocation_of bits (mapping_in table (guest % l2_entries bits)))))
   pub err : IfErr result (λ fault. (fault ≡ DamagedTable) × (table.layout.cluster_bits ≢ bits) × (table' ≡ table))
 
 -- What a word named is put among what waits to be freed, if it named anything; the call is refused as it was before, or for want of memory.
@@ -47,15 +48,24 @@ PutsOff (Ok (Some entry)) list result list' = ((result ≡ Ok tt) × (list' ≡ 
 PutsOff (Ok None) list result list' = (result ≡ Ok tt) × (list' ≡ list)
 PutsOff (Err fault) list result list' = (result ≡ Err fault) × (list' ≡ list)
 
--- what is given, set and taken where it comes to be named
+-- how often the word of a guest cluster names which cluster
+abbrev pub named_before : Metadata → ℕ → ℕ → ℕ
+named_before m guest = names_at m (entry m.file m.header.fields guest)
+
+-- What is given, set, handed out and taken where it comes to be named: what was named before is handed out, and waits to be freed.
 abbrev pub naming : Metadata → (guest x : ℕ) → Kind
 naming m guest x = let i = guest / words_of_cluster m.header.fields in let j = guest % words_of_cluster m.header.fields in record {
   gives = GivesWord m i j (data_at x true);
   written = λ q. ⊥;
   set = IsOfWord m.header.fields i j;
-  handed = λ _. 0;
-  taken = one_at x;
+  handed = named_before m guest;
+  taken = λ c. one_at x c + named_before m guest c;
 }
+
+-- the clusters of an entry, if there is one, as a list
+abbrev pub listed_of : Option FreeEntry → List FreeEntry
+listed_of None = []
+listed_of (Some entry) = entry ∷ []
 
 -- Why it can't be: for want of memory or by a storage that failed; as a damaged table only where the image isn't as it has to be.
 abbrev pub WhyNotNamed : (ready : Type 0) → (before after : ℕ) → Fault → Type 0
@@ -73,7 +83,8 @@ pub record Names {S : Type 0} (state : S → StorageState) (table guest x : ℕ)
   pub header : c'.file.header ≡ c.file.header
   pub held : c'.space.to_free.held ≡ c.space.to_free.held
   pub l1 : IsNameable (resting state c) table guest x → KeepsL1 state c result c'
-  pub waits : IsReady state c → IsNameable (resting state c) table guest x → c'.space.to_free.entries ≡ c.space.to_free.entries
+  pub waits : IsReady state c → IsNameable (resting state c) table guest x → OnOk result (let h = c.file.header.fields in
+      c'.space.to_free.entries ≡ c.space.to_free.entries ++ listed_of (freed (allocation_of h.cluster_bits (entry (resting state c).file h guest))))
   pub named : IsReady state c → IsNameable (resting state c) table guest x
       → OnOk result (entry (resting state c').file c.file.header.fields guest ≡ data_at x true)
   pub bytes : IsReady state c → IsNameable (resting state c) table guest x

@@ -72,8 +72,8 @@ fn put_off(
     }
 }
 
-/// Has a guest cluster name a host cluster as its data, as copied, in its L2 table, which is in this cluster. Nothing may be
-/// allocated for the guest cluster. The bytes of the host cluster stay what they are. Nothing may be cached before, and nothing is then.
+/// Has a guest cluster name a host cluster as its data, as copied, in its L2 table, which is in this cluster. What it named before, if
+/// anything, waits to be freed then. The bytes of the host cluster stay what they are. Nothing may be cached before, and nothing is then.
 ///
 /// It refuses with `Fault::Memory` and `Fault::Storage`, and with `Fault::DamagedTable` where the table has a word without meaning, or is
 /// out of reach, which no sound image has.
