@@ -28,20 +28,21 @@ use Rattle.qcow2_alloc.specs.Allocators.{table_of}
 use Rattle.qcow2_alloc.specs.Going.{WasNotCutOff}
 use Rattle.qcow2_alloc.specs.Memory.{Cached}
 use Rattle.qcow2_alloc.specs.Opening.{IsL1Of}
-use Rattle.qcow2_alloc.specs.Quiet.{Metadata, IsSound, in_memory, one_at}
+use Rattle.qcow2_alloc.specs.Quiet.{Metadata, IsSound, in_memory}
 use Rattle.qcow2_alloc.proofs.Memory.SafeLaws.{clean-memory}
 use Rattle.qcow2_steps.specs.Advancing.{Advances, MayBeLeft}
 use Rattle.qcow2_steps.specs.Values.{own_value}
 use Rattle.qcow2_steps.specs.Words.{GivesWord, IsOfWord}
 use Rattle.qcow2_alloc.specs.declared.cache.MetadataCaches.{MetadataCaches}
-use Rattle.qcow2_clusters.specs.Naming.{IsNameable, Names, TakesNone, WhyNotNamed, naming}
+use Rattle.qcow2_clusters.specs.Naming.{IsNameable, Names, WhyNotNamed, naming}
 use Rattle.qcow2_clusters.specs.Progress.{Progresses}
 use Rattle.qcow2_clusters.specs.declared.space.Space.{Space}
 use Rattle.qcow2_clusters.specs.Rest.{Clusters, IsReady, lent, nothing_cached, resting}
 use Rattle.qcow2_image.specs.Committing.{CommitsUnspent, NamesHost, NamesWith, SpendsUnspent, answer_of, failed_behind_any}
-use Rattle.qcow2_image.specs.Holding.{Holding, claim_held, copied_to, held_home, held_of, held_with, home_or, homes_with, in_cluster, in_run, place_in, written_to}
+use Rattle.qcow2_image.specs.Holding.{Holding, IsUncopied, claim_held, copied_to, held_home, held_of, held_with, home_or, homes_with, in_cluster, in_run, place_in, written_to}
 use Rattle.qcow2_image.specs.HeldHomes.{free-homes, held-at, run-from, run-guest}
-use Rattle.qcow2_image.specs.Homes.{cluster-there, homeless}
+use Rattle.qcow2_image.specs.Homes.{cluster-there}
+use Rattle.qcow2_image.proofs.FreshRuns.{uncopied-homeless}
 use Rattle.qcow2_image.specs.ImageLayer.{blank_of, cell_by, cells, home_by, homes, qcow2_fixed}
 use Rattle.qcow2_image.specs.Rooms.{HasCluster, HasRoom, HoldsIn, IsSafe, is_sound, rest_of}
 use Rattle.qcow2_image.specs.Seen.{IsOfFile, IsSeen, file_of, homes_of, layer_of, memory_of}
@@ -237,7 +238,7 @@ module _ {S : Type 0} (g : Ghosts S) (claim : ℕ) (old new : Qcow2 S g)
       after = resting g.state c'
 
       advances : Advances GivenOnce (λ q. ⊥) (IsOfWord h (hold.guest / words_of_cluster h) (hold.guest % words_of_cluster h))
-          (λ _. 0) (one_at hold.host) before after
+          (naming before hold.guest hold.host).handed (naming before hold.guest hold.host).taken before after
       advances = progress.holds safe.keeps sound ok
 
       word-named : entry f' h hold.guest ≡ data_at hold.host true
@@ -312,8 +313,8 @@ module _ {S : Type 0} (g : Ghosts S) (claim : ℕ) (old new : Qcow2 S g)
       pub home-grows : (p : ℕ) (at : ℕ × ℕ) → homes_of g old p ≡ Some at → homes_of g new p ≡ Some at
       home-grows p at is = elim (word-is (p / cs)) [
         | inl guest ↦
-            let free : TakesNone (entry f h (p / cs)) = subst (λ x. TakesNone (entry f h x)) (sym guest) able.free in
-            absurd (let none : None ≡ Some at = sym (homeless old.mode.writable f h p (inl (inr free))) ∙ sym (home-then p) ∙ is in cc none)
+            let uncopied : IsUncopied (entry f h (p / cs)) = subst (λ x. IsUncopied (entry f h x)) (sym guest) holds.held.uncopied in
+            absurd (let none : None ≡ Some at = sym (uncopied-homeless old.mode.writable f h p uncopied) ∙ sym (home-then p) ∙ is in cc none)
         | inr same ↦
             home-now p ∙ ap (λ w. if old.mode.writable && ltb p h.size then home_by h p w else None) same ∙ sym (home-then p) ∙ is
       ]

@@ -39,11 +39,11 @@ use Rattle.qcow2_alloc.proofs.Growth.LoadingTable.{opened-sound}
 use Rattle.qcow2_alloc.proofs.Memory.SafeLaws.{clean-memory}
 use Rattle.qcow2_steps.specs.Advancing.{Advances, MayBeLeft}
 use Rattle.qcow2_steps.specs.Values.{memory_value, own_value, own_value_by}
-use Rattle.qcow2_clusters.specs.Naming.{IsNameable, TakesNone}
+use Rattle.qcow2_clusters.specs.Naming.{IsNameable}
 use Rattle.qcow2_clusters.specs.Progress.{Progresses, handing}
 use Rattle.qcow2_clusters.specs.Rest.{AreEmpty, nothing_cached}
 use Rattle.qcow2_clusters.specs.declared.space.Space.{Space}
-use Rattle.qcow2_image.specs.Holding.{Holding, IsHeld, held_of, held_with, in_cluster, place_in, homes_with, claim_held}
+use Rattle.qcow2_image.specs.Holding.{Holding, IsHeld, IsUncopied, claim_held, held_of, held_with, homes_with, in_cluster, place_in}
 use Rattle.qcow2_image.specs.ImageLayer.{blank_of, cell_by, cells, home_by, homes, meaning_of, qcow2_fixed}
 use Rattle.qcow2_image.specs.KeepsDisk.{KeepsDisk}
 use Rattle.qcow2_image.specs.Rooms.{HoldsIn, IsSafe, is_sound, rest_of}
@@ -262,7 +262,6 @@ module _ {S : Type 0} (g : Ghosts S) (ok : Type 0) (handed taken : ℕ → ℕ) 
         inside = rw (bits-same, ap (λ (K : Header). K.fields.l1_entries) a.header.2) was.nameable.inside;
         there = rw bits-same (spares.tables safe whole (hold.guest / words_of_cluster h) ∙ was.nameable.there);
         some = was.nameable.some;
-        free = subst TakesNone (sym (words-same hold.guest)) was.nameable.free;
         reserved = record {
           used = advances.used hold.host was.nameable.reserved.used spares.spared;
           unnamed = omega (arith, advances.names hold.host was.nameable.reserved.used spares.spared, was.nameable.reserved.unnamed);
@@ -276,6 +275,7 @@ module _ {S : Type 0} (g : Ghosts S) (ok : Type 0) (handed taken : ℕ → ℕ) 
         there = a.there';
         held = record {
           nameable = nameable-still;
+          uncopied = subst IsUncopied (sym (words-same hold.guest)) was.uncopied;
           some = was.some;
           reach = rw bits-same was.reach;
           placed = rw bits-same was.placed;

@@ -2,6 +2,7 @@ pub mod Runs
 pub mod FileWords
 pub mod CachedTables
 pub mod Found
+pub mod Needing
 pub mod Steps
 pub mod Ranges
 pub mod Answering
@@ -21,6 +22,7 @@ pub mod Written
 pub mod Preparing
 pub mod KeepingDisks
 pub mod FreshRuns
+pub mod Copying
 pub mod Reserving
 pub mod Prepared
 pub mod ClusterSteps

@@ -20,9 +20,8 @@ use Rattle.qcow2_types.proofs.Either.{refs-file}
 use Rattle.qcow2_alloc.specs.Quiet.{Metadata, IsSound, in_memory, named_at_all}
 use Rattle.qcow2_steps.specs.Data.{WritesBeside}
 use Rattle.qcow2_steps.proofs.DataRuns.{beside-reserved, beside-words}
-use Rattle.qcow2_clusters.specs.Naming.{TakesNone}
 use Rattle.qcow2_image.specs.HeldHomes.{held-at, run-from, run-guest}
-use Rattle.qcow2_image.specs.Holding.{Holding, IsHeld, Notes, claim_held, copied_to, held_home, held_of, home_or, homes_with, in_cluster, in_run, place_in, written_to}
+use Rattle.qcow2_image.specs.Holding.{Holding, IsHeld, IsUncopied, Notes, claim_held, copied_to, held_home, held_of, home_or, homes_with, in_cluster, in_run, place_in, written_to}
 use Rattle.qcow2_image.specs.Homes.{cluster-there, home-of, home-there, mapped, memory_is, within-there}
 use Rattle.qcow2_image.specs.ImageLayer.{home_by, homes}
 use Rattle.qcow2_image.specs.Rooms.{HoldsIn, IsSafe, rest_of}
@@ -208,7 +207,7 @@ module _ (m : Metadata) (sound : IsSound m) (hold : Holding) (held : IsHeld m ho
   no-home p at is home =
       let found = home-of fields p at (mapped m.file fields p) home in
       let word : entry m.file fields hold.guest ≡ data_at found.0 true = subst (λ g. entry m.file fields g ≡ data_at found.0 true) (cluster-of p is).0 found.1 in
-      subst TakesNone word held.nameable.free
+      subst IsUncopied word held.uncopied
 
   -- So its bytes stay but for those that are written in the run,
   byte-kept : (p : ℕ) → in_cluster fields hold p ≡ true → IsOut guest n p → x (place_in fields hold.host p) ≡ m.file (place_in fields hold.host p)
@@ -284,9 +283,9 @@ module _ (m : Metadata) (sound : IsSound m) (hold : Holding) (held : IsHeld m ho
             inside = held.nameable.inside;
             there = (untouched-keeps m.file x m.header was (rewritten-kept m.file m.header was guest place n each-at x out)).places.l1 _ ∙ held.nameable.there;
             some = held.nameable.some;
-            free = subst TakesNone (sym (rewritten-entries m.file m.header was guest place n each-at x out hold.guest)) held.nameable.free;
             reserved = beside-reserved m x words hold.host held.nameable.reserved;
           };
+          uncopied = subst IsUncopied (sym (rewritten-entries m.file m.header was guest place n each-at x out hold.guest)) held.uncopied;
           some = held.some;
           reach = held.reach;
           placed = held.placed;

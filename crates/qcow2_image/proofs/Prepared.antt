@@ -1,24 +1,26 @@
 -- What a preparation leaves that reserves a cluster, in the words of the driver.
 use Rattle.std.proofs.Common.{◌≡◌, ℕ, ◌+◌, ◌*◌, ◌/◌, ◌%◌, ◌^◌, ◌<◌, ◌≤◌, refl, arith, ap, sym, subst, ◌∙◌, inl, inr, Option, Some, None, Result, Ok, Err}
-use Rattle.std.specs.Prelude.{⊤, ◌++◌, ◌-◌, ◌&&◌, min, IsTrue, IsErr, IsSome, IfOk, IfErr}
+use Rattle.std.specs.Prelude.{⊤, ◌⊎◌, ◌++◌, ◌-◌, min, IsTrue, IsErr, IsSome, IfOk, IfErr}
 use Rattle.std.specs.Borrow.{RattleType}
+use Rattle.imago_storage.specs.Disk.{barred, damaged_place}
 use Rattle.imago_storage.specs.Steps.{Call}
 use Rattle.imago_storage.specs.declared.fault.Fault.{Fault}
-use Rattle.imago_storage.specs.declared.fault.Fault.TheVariants.{Counter, DamagedTable, Limit, Memory, Storage}
+use Rattle.imago_storage.specs.declared.fault.Fault.TheVariants.{Barred, Counter, DamagedTable, Failed, Limit, Memory, MissingData, Storage}
 use Rattle.imago_storage.specs.declared.storage.Storage.{Ghosts}
 use Rattle.imago_access.specs.declared.seen.Seen.{Ghosts as SeenGhosts}
 use Rattle.imago_access.specs.declared.seen.SeenBelow.{Ghosts as GhostsBelow}
 use Rattle.imago_access.specs.declared.mapping.PreparedDataMapping.{PreparedDataMapping}
 use Rattle.imago_access.specs.Chain.{at}
-use Rattle.imago_access.specs.Changes.{Asked, Prepared, run_at}
+use Rattle.imago_access.specs.Changes.{Asked, IsCopied, Prepared, Run, run_at}
 use Rattle.imago_access.specs.Files.{ImageCause, IsMild, files}
 use Rattle.imago_access.specs.Going.{Marks}
 use Rattle.imago_access.specs.Layer.{IsFree, Layer}
 use Rattle.imago_access.specs.Mappings.{IsMappedRun}
-use Rattle.imago_access.specs.Parts.{IsUncutPart, PartCause}
+use Rattle.imago_access.specs.Parts.{IsUncutPart, PartCause, announces}
 use Rattle.imago_access.specs.PreparingCalls.{IsHeldBy, Prepares}
 use Rattle.imago_access.specs.Room.{IsApart, Takes}
-use Rattle.imago_access.proofs.ImageCauses.{failed_left}
+use Rattle.imago_access.proofs.FilePairs.{some_rose_right}
+use Rattle.imago_access.proofs.ImageCauses.{failed_left, failed_right}
 use Rattle.imago_access.proofs.Marking.{over_plain}
 use Rattle.qcow2_types.specs.Bytes.{Bytes}
 use Rattle.qcow2_types.specs.Entries.{entry}
@@ -30,17 +32,20 @@ use Rattle.qcow2_image.specs.declared.mode.OpenMode.{OpenMode}
 use Rattle.qcow2_image.specs.declared.qcow2.PreparedMappingState.{PreparedMappingState}
 use Rattle.qcow2_image.specs.declared.qcow2.Qcow2.{Qcow2}
 use Rattle.qcow2_image.specs.declared.unspent.Unspent.{Unspent}
-use Rattle.qcow2_image.specs.Allocating.{IsFreshFor, reads_below}
+use Rattle.qcow2_image.specs.Allocating.{WhyNotReserved}
+use Rattle.qcow2_image.specs.Filling.{IsLeft, RefusesCopy, WhyNotCopied}
 use Rattle.qcow2_image.specs.HeldHomes.{free-homes}
-use Rattle.qcow2_image.specs.Holding.{Holding, claim_held, place_in}
+use Rattle.qcow2_image.specs.Holding.{Holding, IsUncopied, claim_held, place_in}
 use Rattle.qcow2_image.specs.Homes.{memory_is}
 use Rattle.qcow2_image.specs.ImageLayer.{qcow2_fixed}
 use Rattle.qcow2_image.specs.KeepsDisk.{KeepsDisk}
-use Rattle.qcow2_image.specs.Preparing.{FreshRun, HoldsFresh, IsReservedFor, LeavesMarked, PreparesFresh, WhyNotReserved, held_run}
+use Rattle.qcow2_image.specs.Preparing.{HoldsFresh, IsReservedFor, LeavesMarked, PreparesFresh, first_part, first_run, held_run}
 use Rattle.qcow2_image.specs.Rooms.{HasCluster, HoldsIn, IsSafe, ReadsNone}
 use Rattle.qcow2_image.specs.Seen.{IsSeen, file_of, homes_of, layer_in, layer_of, memory_of}
 use Rattle.qcow2_image.specs.Unspent.{covers, holding, holding_in}
-use Rattle.qcow2_image.proofs.FreshRuns.{fresh-held, fresh-near, fresh-part, fresh-prepared, fresh-uncut, run-as}
+use Rattle.qcow2_image.specs.Writing.{Since}
+use Rattle.qcow2_image.proofs.FreshRuns.{fresh-held, fresh-near, fresh-part, fresh-prepared, fresh-uncut}
+use Rattle.qcow2_image.proofs.Needing.{needs-shown, since-as}
 use Rattle.qcow2_image.proofs.Preparing.{part-nowhere}
 use Rattle.qcow2_image.proofs.Steps.{marks-kept}
 
@@ -89,18 +94,31 @@ module _ (R : RattleType) (st : Ghosts R.Denot) (sd : mir.Syntax.Dict) (dd : mir
         sym (free-homes (holding_in st middle.unspent) (homes_of st middle) p now-free) ∙ ap (λ (l : Layer). l.home p) (k.layer safe whole)
         ∙ free-homes (holding_in st old.unspent) (homes_of st old) p free
 
-  module _ {B : Type 0} (u : GhostsBelow B) (x : B) (asked : Asked) (free : claim_held (holding_in st old.unspent) ≡ None) (some : 0 < asked.length)
-      (nowhere : IsSeen st old.tables → (layer_of st old).home asked.offset ≡ None) where
-    module _ (e : Fault) (k : KeepsDisk st (IsMild e) old middle) (marked : LeavesMarked st old middle e) (why : WhyNotReserved st old middle e) where
-      why-failed : ImageCause (files sees old) (files sees middle) e
-      why-failed = from e why where
-        from : (f : Fault) → WhyNotReserved st old middle f → ImageCause (files sees old) (files sees middle) f
-        from Memory is = tt
-        from Storage is = inl is
-        from (Limit number) is = tt
-        from DamagedTable is = tt
-        from Counter is = tt
-        from f is = absurd is
+    pub since-disk : IsSafe st old → ok → claim_held (holding_in st old.unspent) ≡ None → (d : Qcow2 R.Denot st) → Since st d old → Since st d middle
+    since-disk safe whole free d since = since-as st d old middle (λ p at is. homes-disk safe whole free p ∙ is)
+        (λ p. inl (ap (λ (l : Layer). l.cell p) (k.layer safe whole))) k.size k.bits since
+
+  module _ {B : Type 0} (u : GhostsBelow B) (x y : B) (asked : Asked) (free : claim_held (holding_in st old.unspent) ≡ None) (some : 0 < asked.length)
+      (inside : asked.offset + asked.length ≤ h.size) (nowhere : IsSeen st old.tables → (layer_of st old).home asked.offset ≡ None) where
+    abbrev part : Asked
+    part = first_part h asked
+
+    -- Why it is refused,
+    module _ (e : Fault) (k : KeepsDisk st (IsMild e) old middle) (marked : LeavesMarked st old middle e)
+        (why : WhyNotReserved st old middle e ⊎ RefusesCopy st u part (old, x) y e) where
+      own-failed : (f : Fault) → WhyNotReserved st old middle f → ImageCause (files sees old) (files sees middle) f
+      own-failed Memory is = tt
+      own-failed Storage is = inl is
+      own-failed (Limit number) is = tt
+      own-failed DamagedTable is = tt
+      own-failed Counter is = tt
+      own-failed f is = absurd is
+
+      why-failed : ImageCause (files sees old ++ u.files_under x) (files sees middle ++ u.files_under y) e
+      why-failed = elim why [
+        | inl own ↦ failed_left (files sees old) (files sees middle) (u.files_under x) (u.files_under y) e (own-failed e own)
+        | inr below ↦ failed_right (files sees old) (files sees middle) (u.files_under x) (u.files_under y) e ((k.shape, k.later), tt) below.failed
+      ]
 
       why-marks : Marks sees old middle e
       why-marks = from e marked where
@@ -110,19 +128,33 @@ module _ (R : RattleType) (st : Ghosts R.Denot) (sd : mir.Syntax.Dict) (dd : mir
         from Memory (inr kept) = marks-kept R st sd dd {T = Unit} old middle (Err Memory) kept
         from f is = tt
 
-      why-part : IsSafe st old → (d : Qcow2 R.Denot st) (call : Call) → sees.began d call old → IsUncutPart (layer_of st old) call asked.offset asked.length
-          → PartCause (u.under x) (layer_of st old) asked.offset asked.length (sees.own_cause d (u.under x) call) (files sees old ++ u.files_under x) (files sees middle ++ u.files_under x) e
-      why-part safe d call begun part = from e why where
-        from : (f : Fault) → WhyNotReserved st old middle f
-            → PartCause (u.under x) (layer_of st old) asked.offset asked.length (sees.own_cause d (u.under x) call) (files sees old ++ u.files_under x) (files sees middle ++ u.files_under x) f
-        from Memory is = tt
-        from Storage is = inl is
-        from (Limit number) is = part-nowhere R st sd dd old middle u x asked number (nowhere safe.seen) some d call begun part
-        from DamagedTable is = absurd (is safe)
-        from Counter is = absurd (is safe)
-        from f is = absurd is
+      module _ (safe : IsSafe st old) (under : u.sees_under x) (d : Qcow2 R.Denot st) (call : Call) (begun : sees.began d call old)
+          (uncut : IsUncutPart (layer_of st old) call asked.offset asked.length) (same : Some asked.overwrite ≡ announces call) where
+        abbrev Cause : Fault → Type 0
+        Cause = PartCause (u.under x) (layer_of st old) asked.offset asked.length (sees.own_cause d (u.under x) call)
+            (files sees old ++ u.files_under x) (files sees middle ++ u.files_under y)
 
-      pub prepares-not : Prepares sees u asked (Err e) (old, x) (middle, x)
+        own-cause : (f : Fault) → WhyNotReserved st old middle f → Cause f
+        own-cause Memory is = tt
+        own-cause Storage is = inl is
+        own-cause (Limit number) is = part-nowhere R st sd dd old middle u x asked number (nowhere safe.seen) some d call begun uncut
+        own-cause DamagedTable is = absurd (is safe)
+        own-cause Counter is = absurd (is safe)
+        own-cause f is = absurd is
+
+        copy-cause : (f : Fault) → WhyNotCopied st u part (old, x) y f → Cause f
+        copy-cause Failed is = inr is
+        copy-cause MissingData is = inr is
+        copy-cause DamagedTable is = λ was. needs-shown st old d (begun was).1 (u.under x) asked call some inside uncut same u x refl damaged_place (λ b same. absurd cc) is
+        copy-cause Barred is = λ was. needs-shown st old d (begun was).1 (u.under x) asked call some inside uncut same u x refl barred (λ b same. absurd cc) is
+        copy-cause Memory is = tt
+        copy-cause Storage is = some_rose_right (files sees old) (files sees middle) (u.files_under x) (u.files_under y) ((k.shape, k.later), tt) is
+        copy-cause f is = absurd is
+
+        why-part : Cause e
+        why-part = elim why [ inl own ↦ own-cause e own | inr below ↦ copy-cause e (below.cause safe under) ]
+
+      pub prepares-not : Prepares sees u asked (Err e) (old, x) (middle, y)
       prepares-not = record {
         ok = λ safe under. tt;
         err = λ safe under mild. record {
@@ -144,28 +176,31 @@ module _ (R : RattleType) (st : Ghosts R.Denot) (sd : mir.Syntax.Dict) (dd : mir
         };
         began = λ d call begun part whole. λ safe.
             let now = begun safe in
-            (k.safely now.0 whole, λ p at is. homes-disk (IsMild e) k now.0 whole free p ∙ now.1 p at is);
+            (k.safely now.0 whole, since-disk (IsMild e) k now.0 whole free d now.1);
         refused = record {
-          failed = failed_left (files sees old) (files sees middle) (u.files_under x) (u.files_under x) e why-failed;
+          failed = why-failed;
           marks = over_plain sees old middle e why-marks;
-          cause = λ safe under d call begun part same. why-part safe d call begun part;
+          cause = λ safe under d call begun uncut same. why-part safe under d call begun uncut same;
         };
       }
 
     -- Such a run is held then.
-    module _ (inside : asked.offset + asked.length ≤ h.size) (writable : IsTrue old.mode.writable) (k : KeepsDisk st ⊤ old middle)
-        (mapping : PreparedDataMapping PreparedMappingState) (new : Qcow2 R.Denot st) (f : HoldsFresh st asked old middle mapping new) where
+    module _ (writable : IsTrue old.mode.writable) (k : KeepsDisk st ⊤ old middle)
+        (mapping : PreparedDataMapping PreparedMappingState) (new : Qcow2 R.Denot st) (f : HoldsFresh st u asked (old, x) middle mapping new) where
       abbrev unspent : Unspent R.Denot st
       unspent = f.holds.unspent
 
       abbrev held : Qcow2 R.Denot st
       held = record middle { claims = unspent.claim; unspent = Some unspent }
 
-      abbrev hold : Holding
-      hold = held_run st (record asked { length = f.run.0 }) f.clusters middle unspent.claim (covers unspent.written)
+      abbrev run : ℕ
+      run = first_run h asked.offset asked.length
 
-      first : FreshRun h' asked.offset asked.length f.run
-      first = run-as h h' asked.offset asked.length f.run k.bits k.size f.first
+      run-same : first_part h asked ≡ first_part h' asked
+      run-same = ap (λ (b : ℕ). record asked { length = min asked.length (2 ^ b - asked.offset % 2 ^ b) }) (sym k.bits)
+
+      holds-now : holding st unspent ≡ held_run st (first_part h' asked) f.clusters middle unspent.claim (covers unspent.written)
+      holds-now = f.holds.holds ∙ ap (λ (a : Asked). held_run st a f.clusters middle unspent.claim (covers unspent.written)) run-same
 
       on-disk : asked.offset + asked.length ≤ h'.size
       on-disk = subst (λ (n : ℕ). asked.offset + asked.length ≤ n) (sym k.size) inside
@@ -179,16 +214,23 @@ module _ (R : RattleType) (st : Ghosts R.Denot) (sd : mir.Syntax.Dict) (dd : mir
       reserved : IsSafe st old → IsReservedFor st (asked.offset / cluster_size h') f.clusters.0 f.clusters.1 middle.tables
       reserved safe = subst (λ (n : ℕ). IsReservedFor st n f.clusters.0 f.clusters.1 middle.tables) guest (f.reserved safe)
 
-      fresh : IsSafe st old → IsFreshFor (reads_below middle.mode.backing (asked.overwrite && f.run.1)) (entry (file_of st middle.tables) h' (asked.offset / cluster_size h'))
-      fresh safe = subst (λ (m : OpenMode). IsFreshFor (reads_below m.backing (asked.overwrite && f.run.1)) (entry (file_of st middle.tables) h' (asked.offset / cluster_size h'))) (sym k.mode)
-          (subst (IsFreshFor (reads_below old.mode.backing (asked.overwrite && f.run.1))) (ap (entry (file_of st old.tables) h) guest ∙ sym (k.words safe tt (asked.offset / cluster_size h'))) (f.fresh safe))
+      uncopied : IsSafe st old → IsUncopied (entry (file_of st middle.tables) h' (asked.offset / cluster_size h'))
+      uncopied safe = subst IsUncopied (ap (entry (file_of st old.tables) h) guest ∙ sym (k.words safe tt (asked.offset / cluster_size h'))) (f.uncopied safe)
 
-      zero : IsSafe st old → (i : ℕ) → i < cluster_size h' → file_of st middle.tables (f.clusters.1 * cluster_size h' + i) ≡ 0
-      zero safe i less = ap (λ (b : ℕ). file_of st middle.tables (f.clusters.1 * 2 ^ b + i)) k.bits ∙ f.zeroes safe i (subst (λ (b : ℕ). i < 2 ^ b) k.bits less)
+      -- each place has what it shows, by the size of clusters and of the disk
+      abbrev Filled : ℕ → ℕ → Layer → Type 0
+      Filled b size layer = (p : ℕ) → (p / 2 ^ b ≡ asked.offset / 2 ^ b) × (p < size)
+          → IsLeft (record asked { length = min asked.length (2 ^ b - asked.offset % 2 ^ b) }) p
+          → IsCopied (at (u.under x)) layer p (file_of st middle.tables (f.clusters.1 * 2 ^ b + p % 2 ^ b))
+
+      filled : IsSafe st old → u.sees_under x → Filled h'.cluster_bits h'.size (layer_of st middle)
+      filled safe under = subst (λ (b : ℕ). Filled b h'.size (layer_of st middle)) (sym k.bits)
+          (subst (λ (n : ℕ). Filled h.cluster_bits n (layer_of st middle)) (sym k.size)
+          (subst (Filled h.cluster_bits h.size) (sym (k.layer safe tt)) (f.filled safe under)))
 
       holds-in : IsSafe st old → HoldsIn st middle.tables (holding st unspent)
-      holds-in safe = subst (HoldsIn st middle.tables) (sym f.holds.holds)
-          (fresh-held st middle asked f.run f.clusters unspent.claim (covers unspent.written) f.holds.unwritten first some on-disk named (reserved safe))
+      holds-in safe = subst (HoldsIn st middle.tables) (sym holds-now)
+          (fresh-held st middle asked f.clusters unspent.claim (covers unspent.written) f.holds.unwritten some on-disk named (reserved safe) (uncopied safe))
 
       safe-held : IsSafe st old → IsSafe st held
       safe-held safe = let now = k.safely safe tt in record {
@@ -201,19 +243,30 @@ module _ (R : RattleType) (st : Ghosts R.Denot) (sd : mir.Syntax.Dict) (dd : mir
         writable = λ is. subst (λ (m : OpenMode). IsTrue m.writable) (sym k.mode) writable;
       }
 
-      prepared : IsSafe st old → Prepared (at (u.under x)) (layer_of st old) (layer_of st held) asked (run_at 0 (place_in h' f.clusters.1 asked.offset) f.run.0 (Some unspent.claim))
-      prepared safe =
-          subst (λ (l : Layer). Prepared (at (u.under x)) l (layer_of st held) asked (run_at 0 (place_in h' f.clusters.1 asked.offset) f.run.0 (Some unspent.claim))) (k.layer safe tt)
-          (subst (λ (o : Holding). Prepared (at (u.under x)) (layer_of st middle) (layer_in st middle.tables middle.mode middle.number middle.failed (Some o)) asked (run_at 0 (place_in h' f.clusters.1 asked.offset) f.run.0 (Some unspent.claim))) (sym f.holds.holds)
-          (fresh-prepared st middle asked f.run f.clusters unspent.claim (covers unspent.written) f.holds.unwritten first some on-disk named (reserved safe) (fresh safe) (zero safe) (at (u.under x))))
+      abbrev answer : Asked → Run
+      answer a = run_at 0 (place_in h' f.clusters.1 asked.offset) a.length (Some unspent.claim)
 
-      answered : Prepares sees u asked (Ok (record { storage = 0; offset = place_in h' f.clusters.1 asked.offset; length = f.run.0; state = Some (record { number = middle.number; claim = unspent.claim }) })) (old, x) (held, x)
+      prepared : IsSafe st old → u.sees_under x → Prepared (at (u.under x)) (layer_of st old) (layer_of st held) asked (answer part)
+      prepared safe under =
+          subst (λ (l : Layer). Prepared (at (u.under x)) l (layer_of st held) asked (answer part)) (k.layer safe tt)
+          (subst (λ (a : Asked). Prepared (at (u.under x)) (layer_of st middle) (layer_of st held) asked (answer a)) (sym run-same)
+          (subst (λ (o : Holding). Prepared (at (u.under x)) (layer_of st middle) (layer_in st middle.tables middle.mode middle.number middle.failed (Some o)) asked
+          (answer (first_part h' asked))) (sym holds-now)
+          (fresh-prepared st middle asked f.clusters unspent.claim (covers unspent.written) f.holds.unwritten some on-disk named (reserved safe) (uncopied safe)
+          (at (u.under x)) (filled safe under))))
+
+      answered : Prepares sees u asked (Ok (record {
+        storage = 0;
+        offset = place_in h' f.clusters.1 asked.offset;
+        length = run;
+        state = Some (record { number = middle.number; claim = unspent.claim });
+      })) (old, x) (held, y)
       answered = record {
-        ok = λ safe under. prepared safe;
+        ok = λ safe under. prepared safe under;
         err = λ safe under. tt;
-        uncut = λ safe under. fresh-uncut st old asked f.run f.clusters unspent.claim (covers unspent.written) f.holds.unwritten f.first some inside;
-        near = λ safe under p apart. ap (λ (o : Holding). (layer_in st middle.tables middle.mode middle.number middle.failed (Some o)).held p) f.holds.holds
-            ∙ fresh-near st middle asked f.run f.clusters unspent.claim (covers unspent.written) f.holds.unwritten first some on-disk p
+        uncut = λ safe under. fresh-uncut st old asked f.clusters unspent.claim (covers unspent.written) f.holds.unwritten some inside;
+        near = λ safe under p apart. ap (λ (o : Holding). (layer_in st middle.tables middle.mode middle.number middle.failed (Some o)).held p) holds-now
+            ∙ fresh-near st middle asked f.clusters unspent.claim (covers unspent.written) f.holds.unwritten some on-disk p
             (subst (λ (b : ℕ). IsApart (2 ^ b) asked.offset asked.length p) (sym k.bits) apart);
         room = λ safe under done. let was = takes-disk ⊤ k safe tt in record { kept = was.kept; free = was.free; zeroes = was.zeroes };
         stops = λ safe under. k.stops safe (u.under x);
@@ -227,40 +280,43 @@ module _ (R : RattleType) (st : Ghosts R.Denot) (sd : mir.Syntax.Dict) (dd : mir
         };
         began = λ d call begun part whole. λ safe.
             let now = begun safe in
-            (safe-held now.0, λ p at is. homes-disk ⊤ k now.0 tt free p ∙ now.1 p at is);
+            (safe-held now.0, since-as st d middle held (λ p at is. is) (λ p. inl refl) refl refl (since-disk ⊤ k now.0 tt free d now.1));
         refused = record { failed = tt; marks = tt; cause = λ safe under d call begun part same. tt };
       }
 
-      pub prepares-held : Prepares sees u asked (Ok mapping) (old, x) (new, x)
-      prepares-held = subst (λ (d : Qcow2 R.Denot st). Prepares sees u asked (Ok mapping) (old, x) (d, x)) (sym f.holds.now)
-          (subst (λ (m : PreparedDataMapping PreparedMappingState). Prepares sees u asked (Ok m) (old, x) (held, x)) (sym f.holds.answer) answered)
+      pub prepares-held : Prepares sees u asked (Ok mapping) (old, x) (new, y)
+      prepares-held = subst (λ (d : Qcow2 R.Denot st). Prepares sees u asked (Ok mapping) (old, x) (d, y)) (sym f.holds.now)
+          (subst (λ (m : PreparedDataMapping PreparedMappingState). Prepares sees u asked (Ok m) (old, x) (held, y)) (sym f.holds.answer) answered)
 
 -- What is prepared, or refused, in the words of the driver.
-module _ (R : RattleType) (st : Ghosts R.Denot) (sd : mir.Syntax.Dict) (dd : mir.Syntax.Dict) (asked : Asked) (old new : Qcow2 R.Denot st) where
+module _ (R : RattleType) (st : Ghosts R.Denot) (sd : mir.Syntax.Dict) (dd : mir.Syntax.Dict) {B : Type 0} (u : GhostsBelow B) (asked : Asked)
+    (old new : Qcow2 R.Denot st) (x y : B) where
   abbrev driver : SeenGhosts (Qcow2 R.Denot st) PreparedMappingState
   driver = ghosts R st sd dd
 
-  pub prepares-fresh : {B : Type 0} (u : GhostsBelow B) (x : B) (result : Result (PreparedDataMapping PreparedMappingState) Fault)
-      → claim_held (holding_in st old.unspent) ≡ None → 0 < asked.length → (IsSeen st old.tables → (layer_of st old).home asked.offset ≡ None)
-      → asked.offset + asked.length ≤ old.tables.file.header.fields.size → IsTrue old.mode.writable → PreparesFresh st asked old result new
-      → Prepares driver u asked result (old, x) (new, x)
-  prepares-fresh u x (Ok mapping) free some nowhere inside writable p =
-      prepares-held R st sd dd old p.middle u x asked free some nowhere inside writable p.keeps mapping new p.ok
-  prepares-fresh u x (Err e) free some nowhere inside writable p =
-      subst (λ (d : Qcow2 R.Denot st). Prepares driver u asked (Err e) (old, x) (d, x)) (sym p.err.0)
-      (prepares-not R st sd dd old p.middle u x asked free some nowhere e p.keeps p.err.1 p.err.2)
+  abbrev Does : Result (PreparedDataMapping PreparedMappingState) Fault → Type 0
+  Does result = PreparesFresh st u asked (old, x) result (new, y)
 
-  pub fresh-size : (result : Result (PreparedDataMapping PreparedMappingState) Fault) → PreparesFresh st asked old result new → (layer_of st new).size ≡ (layer_of st old).size
+  pub prepares-fresh : (result : Result (PreparedDataMapping PreparedMappingState) Fault)
+      → claim_held (holding_in st old.unspent) ≡ None → 0 < asked.length → (IsSeen st old.tables → (layer_of st old).home asked.offset ≡ None)
+      → asked.offset + asked.length ≤ old.tables.file.header.fields.size → IsTrue old.mode.writable → Does result
+      → Prepares driver u asked result (old, x) (new, y)
+  prepares-fresh (Ok mapping) free some nowhere inside writable p =
+      prepares-held R st sd dd old p.middle u x y asked free some inside nowhere writable p.keeps mapping new p.ok
+  prepares-fresh (Err e) free some nowhere inside writable p =
+      subst (λ (d : Qcow2 R.Denot st). Prepares driver u asked (Err e) (old, x) (d, y)) (sym p.err.0)
+      (prepares-not R st sd dd old p.middle u x y asked free some inside nowhere e p.keeps p.err.1 p.err.2)
+
+  pub fresh-size : (result : Result (PreparedDataMapping PreparedMappingState) Fault) → Does result → (layer_of st new).size ≡ (layer_of st old).size
   fresh-size (Ok mapping) p = ap (λ (d : Qcow2 R.Denot st). d.tables.file.header.fields.size) p.ok.holds.now ∙ p.keeps.size
   fresh-size (Err e) p = ap (λ (d : Qcow2 R.Denot st). d.tables.file.header.fields.size) p.err.0 ∙ p.keeps.size
 
-  pub fresh-free : (result : Result (PreparedDataMapping PreparedMappingState) Fault) → claim_held (holding_in st old.unspent) ≡ None → PreparesFresh st asked old result new
+  pub fresh-free : (result : Result (PreparedDataMapping PreparedMappingState) Fault) → claim_held (holding_in st old.unspent) ≡ None → Does result
       → IsErr result → IsFree (layer_of st new)
   fresh-free (Ok mapping) free p none = absurd (cc none)
   fresh-free (Err e) free p is = ap (λ (d : Qcow2 R.Denot st). claim_held (holding_in st d.unspent)) p.err.0 ∙ ap (λ v. claim_held (holding_in st v)) p.keeps.unspent ∙ free
 
-  pub fresh-mine : (result : Result (PreparedDataMapping PreparedMappingState) Fault) → PreparesFresh st asked old result new
-      → IfOk result (λ m. IsHeldBy driver m.state (layer_of st new))
+  pub fresh-mine : (result : Result (PreparedDataMapping PreparedMappingState) Fault) → Does result → IfOk result (λ m. IsHeldBy driver m.state (layer_of st new))
   fresh-mine (Err e) p = tt
   fresh-mine (Ok mapping) p =
       let f = p.ok.holds in
@@ -269,27 +325,27 @@ module _ (R : RattleType) (st : Ghosts R.Denot) (sd : mir.Syntax.Dict) (dd : mir
       ((refl, refl), λ none. absurd (cc none)))
 
   pub fresh-run : (result : Result (PreparedDataMapping PreparedMappingState) Fault) → 0 < asked.length → asked.offset + asked.length ≤ old.tables.file.header.fields.size
-      → PreparesFresh st asked old result new → IfOk result (λ m. IsMappedRun (layer_of st old) asked.offset asked.length m.length × (m.offset + m.length < 2 ^ 64))
+      → Does result → IfOk result (λ m. IsMappedRun (layer_of st old) asked.offset asked.length m.length × (m.offset + m.length < 2 ^ 64))
   fresh-run (Err e) some inside p = tt
   fresh-run (Ok mapping) some inside p =
       let f = p.ok.holds in
-      let run = fresh-part st old asked p.ok.run p.ok.clusters f.unspent.claim (covers f.unspent.written) f.unwritten p.ok.first some inside in
+      let run = fresh-part st old asked p.ok.clusters f.unspent.claim (covers f.unspent.written) f.unwritten some inside in
       let place : f.unspent.place ≡ place_in p.middle.tables.file.header.fields p.ok.clusters.1 asked.offset = ap (λ (o : Holding). o.place) f.holds in
-      let length : f.unspent.length ≡ p.ok.run.0 = ap (λ (o : Holding). o.length) f.holds in
+      let length : f.unspent.length ≡ first_run old.tables.file.header.fields asked.offset asked.length = ap (λ (o : Holding). o.length) f.holds in
       let near = f.unspent.near in
       subst (λ (m : PreparedDataMapping PreparedMappingState). IsMappedRun (layer_of st old) asked.offset asked.length m.length × (m.offset + m.length < 2 ^ 64)) (sym f.answer)
       ((run.1, λ is. run.0, λ is. omega (arith, run.1, inside)), omega (arith, place, length, near))
 
   -- It has state, and is the part of the range in its first guest cluster.
-  pub fresh-whole : (result : Result (PreparedDataMapping PreparedMappingState) Fault) (P : PreparedDataMapping PreparedMappingState → Type 0) → PreparesFresh st asked old result new
+  pub fresh-whole : (result : Result (PreparedDataMapping PreparedMappingState) Fault) (P : PreparedDataMapping PreparedMappingState → Type 0) → Does result
       → IfOk result (λ m. 0 < asked.length → m.state ≡ None → P m)
   fresh-whole (Err e) P p = tt
   fresh-whole (Ok mapping) P p = λ some none. absurd (cc (sym (ap (λ (m : PreparedDataMapping PreparedMappingState). m.state) p.ok.holds.answer) ∙ none))
 
-  pub fresh-cut : (result : Result (PreparedDataMapping PreparedMappingState) Fault) → PreparesFresh st asked old result new
+  pub fresh-cut : (result : Result (PreparedDataMapping PreparedMappingState) Fault) → Does result
       → let c = cluster_size old.tables.file.header.fields in IfOk result (λ m. IsSome m.state → m.length ≡ min asked.length (c - asked.offset % c))
   fresh-cut (Err e) p = tt
-  fresh-cut (Ok mapping) p = λ some. ap (λ (m : PreparedDataMapping PreparedMappingState). m.length) p.ok.holds.answer ∙ p.ok.first.run
+  fresh-cut (Ok mapping) p = λ some. ap (λ (m : PreparedDataMapping PreparedMappingState). m.length) p.ok.holds.answer
 
 -- What holds of the first place holds where a limit refuses.
 pub limit-where : {T : Type 0} (result : Result T Fault) (P : Type 0) → P → IfErr result (λ e. (n : ℕ) → e ≡ Limit n → P)

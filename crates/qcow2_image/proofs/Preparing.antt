@@ -148,12 +148,12 @@ module _ (R : RattleType) (st : Ghosts R.Denot) (sd : mir.Syntax.Dict) (dd : mir
     part-nowhere number none some d call begun part = λ safe. (
       asked.offset,
       (part.part.start, omega (arith, some, part.part.end)),
-      none-before (homes_of st d asked.offset) (homes_of st old asked.offset) ((begun safe).1 asked.offset) (words-none (holding_in st old.unspent) (homes_of st old) asked.offset none),
+      none-before (homes_of st d asked.offset) (homes_of st old asked.offset) ((begun safe).1.homes asked.offset) (words-none (holding_in st old.unspent) (homes_of st old) asked.offset none),
     )
 
     pub prepares-refused : (e : Fault) → KeepsImage {T = Option (ℕ × ℕ)} st old (Err e) new → ImageCause (files sees old) (files sees new) e
         → (IsSafe st old → u.sees_under x → (d : Qcow2 R.Denot st) (call : Call) → sees.began d call old
-        → IsUncutPart (layer_of st old) call asked.offset asked.length → asked.overwrite ≡ announces call
+        → IsUncutPart (layer_of st old) call asked.offset asked.length → Some asked.overwrite ≡ announces call
         → PartCause (u.under x) (layer_of st old) asked.offset asked.length (sees.own_cause d (u.under x) call) (files sees old ++ u.files_under x) (files sees new ++ u.files_under x) e)
         → Prepares sees u asked (Err e) (old, x) (new, x)
     prepares-refused e k failed why =

@@ -1,41 +1,36 @@
 -- What reserving a cluster and holding it for a guest cluster leave of an image.
-use Rattle.std.proofs.Common.{◌≡◌, ℕ, ◌+◌, ◌*◌, ◌/◌, ◌^◌, ◌<◌, refl, ap, sym, subst, ◌∙◌, inl, inr, Bool, true, false, List, length, Result, Ok, Err}
-use Rattle.std.specs.Prelude.{⊤, ◌⊎◌, ◌&&◌, IsSome, replicate}
-use Rattle.std.proofs.lemmas.List.{get_or-replicate, length-replicate}
+use Rattle.std.proofs.Common.{◌≡◌, ℕ, ◌+◌, ◌*◌, ◌/◌, ◌%◌, ◌^◌, ◌<◌, refl, ap, sym, subst, ◌∙◌, inl, inr, Bool, List, length, Result, Ok, Err}
+use Rattle.std.specs.Prelude.{⊤, IsSome, Vec, slice_index}
+use Rattle.std.specs.declared.alloc.Global.{Global}
+use Rattle.std.proofs.lemmas.Nat.{mod_below, pow_pos}
 use Rattle.imago_storage.specs.State.{Rose}
+use Rattle.imago_storage.specs.Disk.{Value, barred, damaged_place}
 use Rattle.imago_storage.specs.Calls.{Cause}
 use Rattle.imago_storage.specs.declared.fault.Fault.{Fault}
-use Rattle.imago_storage.specs.declared.fault.Fault.TheVariants.{Counter, DamagedTable, Limit, Memory, Storage}
+use Rattle.imago_storage.specs.declared.fault.Fault.TheVariants.{Barred, Counter, DamagedTable, Limit, Memory, Storage}
 use Rattle.imago_storage.specs.declared.storage.Storage.{Ghosts}
-use Rattle.imago_access.specs.Changes.{Asked}
+use Rattle.imago_access.specs.Chain.{at}
+use Rattle.imago_access.specs.Changes.{Asked, IsCopied}
 use Rattle.imago_access.specs.Files.{IsMild}
+use Rattle.imago_access.specs.Layer.{Layer, through}
 use Rattle.imago_access.specs.declared.mapping.PreparedDataMapping.{PreparedDataMapping}
+use Rattle.imago_access.specs.declared.seen.SeenBelow.{Ghosts as GhostsBelow}
+use Rattle.imago_access.proofs.Looking.{looked_under_weaker}
 use Rattle.qcow2_types.specs.Entries.{entry, l2_table}
-use Rattle.qcow2_types.specs.Header.{Fields, cluster_size, words_of_cluster}
-use Rattle.qcow2_types.specs.Words.{damaged}
+use Rattle.qcow2_types.specs.Header.{Fields, Header, cluster_size, words_of_cluster}
 use Rattle.qcow2_metadata.specs.Places.{IsInReach}
-use Rattle.qcow2_clusters.specs.Naming.{TakesNone}
-use Rattle.qcow2_image.specs.Allocating.{EnsuresTable, IsFreshFor, LoadsSpace, StoresContent, TellsFresh, WhyNotAllocated, failed_cut, reads_below}
+use Rattle.qcow2_image.specs.Allocating.{EnsuresTable, LoadsSpace, StoresContent, WhyNotAllocated, WhyNotReserved, failed_cut}
+use Rattle.qcow2_image.specs.Filling.{IsInFirst, IsLeft, IsNeededFor, MakesContent, NeedsShown, RefusesCopy, WhyNotCopied}
+use Rattle.qcow2_image.specs.Holding.{IsUncopied, place_in}
 use Rattle.qcow2_image.specs.KeepsDisk.{KeepsDisk}
-use Rattle.qcow2_image.specs.Looking.{WhyNotLooked}
-use Rattle.qcow2_image.specs.Preparing.{FreshRun, HoldsFresh, IsReservedFor, KeepsMapping, LeavesMarked, PreparesFresh, Reserves, WhyNotReserved}
+use Rattle.qcow2_image.specs.Preparing.{HoldsFresh, IsReservedFor, KeepsMapping, LeavesMarked, PreparesFresh, Reserves, first_part}
 use Rattle.qcow2_image.specs.Rooms.{IsSafe}
-use Rattle.qcow2_image.specs.Seen.{file_of}
+use Rattle.qcow2_image.specs.Seen.{file_of, layer_of}
 use Rattle.qcow2_image.specs.Steps.{KeepsImage}
-use Rattle.qcow2_image.specs.declared.mode.OpenMode.{OpenMode}
 use Rattle.qcow2_image.specs.declared.qcow2.PreparedMappingState.{PreparedMappingState}
 use Rattle.qcow2_image.specs.declared.qcow2.Qcow2.{Qcow2}
-use Rattle.qcow2_image.proofs.FreshRuns.{run-as, takes-none}
-use Rattle.qcow2_image.proofs.KeepingDisks.{keeps-disk-as, keeps-disk-both, keeps-image-disk}
+use Rattle.qcow2_image.proofs.KeepingDisks.{keeps-disk-both, keeps-image-disk}
 use Rattle.qcow2_image.proofs.Steps.{keeps-as, keeps-both}
-use Rattle.qcow2_image.proofs.Preparing.{never-damaged}
-
--- what a test of two is, by which one was left
-pub over-both : (a b over : Bool) → ((a ≡ true) × (over ≡ b)) ⊎ ((a ≡ false) × (over ≡ false)) → over ≡ (a && b)
-over-both true b over (inl is) = is.1
-over-both true b over (inr is) = absurd (cc is.0)
-over-both false b over (inl is) = absurd (cc is.0)
-over-both false b over (inr is) = is.1
 
 module _ {S : Type 0} (g : Ghosts S) where
   -- A refusal of a call that only looks leaves the image marked, or all as it was,
@@ -84,23 +79,13 @@ module _ {S : Type 0} (g : Ghosts S) where
   why-behind old mid new Counter k why = λ safe. why (k.safely safe tt)
   why-behind old mid new e k why = absurd why
 
-  -- A lookup of a safe image isn't refused since a word is damaged.
-  why-looked : (old new : Qcow2 S g) (guest : ℕ) (e : Fault)
-      → (IsSafe g old → WhyNotLooked (entry (file_of g old.tables) old.tables.file.header.fields guest ≡ damaged)
-      (g.state old.tables.file.image).faults (g.state new.tables.file.image).faults e)
-      → WhyNotLooked ⊤ (g.state old.tables.file.image).faults (g.state new.tables.file.image).faults e → WhyNotReserved g old new e
-  why-looked old new guest Memory known why = tt
-  why-looked old new guest Storage known why = why
-  why-looked old new guest DamagedTable known why = λ safe. never-damaged (file_of g old.tables) old.tables.file.header safe.consistent guest (known safe)
-  why-looked old new guest e known why = absurd why
-
   -- Reserving a cluster is refused where the free space isn't known,
   pub reserve-unloaded : (guest : ℕ) (bytes : List ℕ) (old new : Qcow2 S g) (e : Fault) → LoadsSpace g old (Err e) new → Reserves g guest bytes old (Err e) new
   reserve-unloaded guest bytes old new e l = record {
     keeps = l.keeps;
     marked = quiet-marked {T = Unit} old new e l.same;
     named = tt;
-    reserved = λ safe free. tt;
+    reserved = λ safe. tt;
     stored = λ safe. tt;
     cause = why-loaded old new e l.cause l.known_cause;
   }
@@ -112,7 +97,7 @@ module _ {S : Type 0} (g : Ghosts S) where
     keeps = keeps-disk-both g ⊤ (IsMild e) old mid new tt l.keeps t.keeps;
     marked = cut-marked old new e mid.failed t.marks;
     named = tt;
-    reserved = λ safe free. tt;
+    reserved = λ safe. tt;
     stored = λ safe. tt;
     cause = why-allocated old mid new e l.keeps l.known t.cause;
   }
@@ -125,7 +110,7 @@ module _ {S : Type 0} (g : Ghosts S) where
         keeps = keeps-disk-both g ⊤ (IsMild e) old mid new tt there s.keeps;
         marked = cut-marked old new e mid.failed s.marks;
         named = tt;
-        reserved = λ safe free. tt;
+        reserved = λ safe. tt;
         stored = λ safe. tt;
         cause = why-allocated old mid new e there (t.known l.known) s.cause;
       }
@@ -139,7 +124,7 @@ module _ {S : Type 0} (g : Ghosts S) where
         keeps = all;
         marked = tt;
         named = (s.named.0, subst (λ (b : ℕ). IsInReach b host) there.bits s.named.1);
-        reserved = λ safe free.
+        reserved = λ safe.
             let safe' = l.keeps.safely safe tt in
             let made = t.there safe' l.known in
             let kept = s.reserved (there.safely safe tt) in
@@ -155,7 +140,6 @@ module _ {S : Type 0} (g : Ghosts S) where
                     ∙ ap (λ (n : ℕ). l2_table (file_of g mid.tables) mid.tables.file.header.fields n) row ∙ made.2
                     ∙ ap (λ (b : ℕ). table * 2 ^ b) (sym s.keeps.bits);
                 some = made.0;
-                free = subst TakesNone (sym (all.words safe tt guest)) free;
                 reserved = kept.2;
               };
               room = kept.3;
@@ -165,140 +149,138 @@ module _ {S : Type 0} (g : Ghosts S) where
         cause = tt;
       }
 
-  -- What was told of a guest cluster was so by other words for it.
-  tells-as : (guest guest' : ℕ) (over over' told told' : Bool) (old new : Qcow2 S g) → guest ≡ guest' → over ≡ over' → told ≡ told'
-      → TellsFresh g guest over old (Ok told) new → TellsFresh g guest' over' old (Ok told') new
-  tells-as guest guest' over over' told told' old new same same' same'' t =
-      subst (λ (x : Bool). TellsFresh g guest' over' old (Ok x) new) same''
-      (subst (λ (x : Bool). TellsFresh g guest' x old (Ok told) new) same' (subst (λ (x : ℕ). TellsFresh g x over old (Ok told) new) same t))
-
-  -- A mapping isn't prepared where the word of its guest cluster can't be read,
-  pub fresh-unseen : (asked : Asked) (guest : ℕ) (over : Bool) (old new : Qcow2 S g) (e : Fault) → TellsFresh g guest over old (Err e) new
-      → PreparesFresh g asked old (Err e) new
-  fresh-unseen asked guest over old new e t = record {
-    middle = new;
-    keeps = keeps-image-disk {T = Bool} g old new (Err e) t.keeps;
+  -- A mapping isn't prepared where there is no content for it,
+  pub fresh-unfilled : {B : Type 0} (u : GhostsBelow B) (asked : Asked) (old new : Qcow2 S g × B) (e : Fault)
+      → MakesContent g u (first_part old.0.tables.file.header.fields asked) old (Err e) new → PreparesFresh g u asked old (Err e) new
+  fresh-unfilled u asked old new e m = record {
+    middle = new.0;
+    keeps = keeps-image-disk {T = Vec ℕ Global} g old.0 new.0 (Err e) m.keeps;
+    below = m.below;
     ok = tt;
-    err = (refl, quiet-marked {T = Bool} old new e t.keeps, why-looked old new guest e (λ safe. t.known_cause safe.seen) t.cause);
+    err = (refl, quiet-marked {T = Vec ℕ Global} old.0 new.0 e m.keeps, m.err);
   }
 
-  -- where something is allocated for it,
-  pub fresh-taken : (asked : Asked) (number guest : ℕ) (over told : Bool) (old new : Qcow2 S g) → TellsFresh g guest over old (Ok told) new
-      → PreparesFresh g asked old (Err (Limit number)) new
-  fresh-taken asked number guest over told old new t = record {
-    middle = new;
-    keeps = keeps-image-disk {T = Bool} g old new (Ok told) t.keeps;
-    ok = tt;
-    err = (refl, tt, tt);
-  }
-
-  -- for want of memory,
-  pub fresh-unmade : (asked : Asked) (guest : ℕ) (over told : Bool) (old new : Qcow2 S g) (e : Fault) → e ≡ Memory → TellsFresh g guest over old (Ok told) new
-      → PreparesFresh g asked old (Err e) new
-  fresh-unmade asked guest over told old new e is t = subst (λ (f : Fault). PreparesFresh g asked old (Err f) new) (sym is) (record {
-    middle = new;
-    keeps = keeps-disk-as g ⊤ ⊥ old new (λ none. tt) (keeps-image-disk {T = Bool} g old new (Ok told) t.keeps);
-    ok = tt;
-    err = (refl, inr (keeps-as {T = Bool} {U = Unit} g old new (Ok told) (Err Memory) (λ none. tt) (λ f. refl) t.keeps), tt);
-  })
-
-  -- and where no cluster is reserved.
-  pub fresh-unreserved : (asked : Asked) (guest : ℕ) (over told : Bool) (bytes : List ℕ) (old mid new : Qcow2 S g) (e : Fault) → TellsFresh g guest over old (Ok told) mid
-      → Reserves g guest bytes mid (Err e) new → PreparesFresh g asked old (Err e) new
-  fresh-unreserved asked guest over told bytes old mid new e t r =
-      let looked = keeps-image-disk {T = Bool} g old mid (Ok told) t.keeps in record {
-        middle = new;
-        keeps = keeps-disk-both g ⊤ (IsMild e) old mid new tt looked r.keeps;
-        ok = tt;
-        err = (refl, marked-behind {T = Bool} old mid new told e t.keeps r.marked, why-behind old mid new e looked r.cause);
-      }
-
-  -- Else it is prepared.
-  module _ (asked : Asked) (run : ℕ × Bool) (clusters : ℕ × ℕ) (count : ℕ) (old mid middle new : Qcow2 S g) (mapping : PreparedDataMapping PreparedMappingState)
-      (first : FreshRun old.tables.file.header.fields asked.offset asked.length run) (all : count ≡ cluster_size mid.tables.file.header.fields)
-      (t : TellsFresh g (asked.offset / cluster_size old.tables.file.header.fields) (asked.overwrite && run.1) old (Ok true) mid)
-      (r : Reserves g (asked.offset / cluster_size old.tables.file.header.fields) (replicate count 0) mid (Ok clusters) middle)
-      (holds : KeepsMapping g (record asked { length = run.0 }) clusters middle mapping new) where
+  module _ {B : Type 0} (u : GhostsBelow B) (asked : Asked) (guest : ℕ) (content : Vec ℕ Global) (old : Qcow2 S g × B) (mid : Qcow2 S g) (y : B)
+      (m : MakesContent g u (first_part old.0.tables.file.header.fields asked) old (Ok content) (mid, y)) where
     abbrev h : Fields
-    h = old.tables.file.header.fields
+    h = old.0.tables.file.header.fields
 
-    looked : KeepsDisk g ⊤ old mid
-    looked = keeps-image-disk {T = Bool} g old mid (Ok true) t.keeps
+    looked : KeepsDisk g ⊤ old.0 mid
+    looked = keeps-image-disk {T = Vec ℕ Global} g old.0 mid (Ok content) m.keeps
 
-    bits : mid.tables.file.header.fields.cluster_bits ≡ h.cluster_bits
-    bits = looked.bits
-
-    stored : IsSafe g old → (i : ℕ) → i < cluster_size h → file_of g middle.tables (clusters.1 * cluster_size h + i) ≡ 0
-    stored safe i less =
-        let few : i < count = subst (λ (n : ℕ). i < n) (sym all) (subst (λ (b : ℕ). i < 2 ^ b) (sym bits) less) in
-        let whole : i < length (replicate count 0) = subst (λ (n : ℕ). i < n) (sym (length-replicate count 0)) few in
-        ap (λ (b : ℕ). file_of g middle.tables (clusters.1 * 2 ^ b + i)) (sym bits)
-        ∙ r.stored (looked.safely safe tt) i whole ∙ get_or-replicate count i 0 0 few
-
-    fresh-holds : PreparesFresh g asked old (Ok mapping) new
-    fresh-holds = record {
-      middle = middle;
-      keeps = keeps-disk-both g ⊤ ⊤ old mid middle tt looked r.keeps;
-      ok = record {
-        run = run;
-        clusters = clusters;
-        first = first;
-        holds = holds;
-        named = (r.named.0, subst (λ (b : ℕ). IsInReach b clusters.1) bits r.named.1);
-        fresh = λ safe. t.fresh safe.seen refl;
-        reserved = λ safe. r.reserved (looked.safely safe tt) (subst TakesNone (sym (looked.words safe tt (asked.offset / cluster_size h)))
-            (takes-none (reads_below old.mode.backing (asked.overwrite && run.1)) (entry (file_of g old.tables) h (asked.offset / cluster_size h)) (t.fresh safe.seen refl)));
-        zeroes = stored;
-      };
-      err = tt;
+    -- and where no cluster is reserved.
+    pub fresh-unreserved : (new : Qcow2 S g) (e : Fault) → Reserves g guest content.items mid (Err e) new → PreparesFresh g u asked old (Err e) (new, y)
+    fresh-unreserved new e r = record {
+      middle = new;
+      keeps = keeps-disk-both g ⊤ (IsMild e) old.0 mid new tt looked r.keeps;
+      below = looked_under_weaker u ⊤ (IsMild e) old.1 y (λ mild. tt) m.below;
+      ok = tt;
+      err = (refl, marked-behind {T = Vec ℕ Global} old.0 mid new content e m.keeps r.marked, inl (why-behind old.0 mid new e looked r.cause));
     }
 
-  pub fresh-done : (asked : Asked) (run : ℕ × Bool) (clusters : ℕ × ℕ) (guest count : ℕ) (over told : Bool) (bytes : List ℕ) (old mid middle new : Qcow2 S g)
-      (mapping : PreparedDataMapping PreparedMappingState) → FreshRun old.tables.file.header.fields asked.offset asked.length run
-      → guest ≡ asked.offset / cluster_size old.tables.file.header.fields → over ≡ (asked.overwrite && run.1) → told ≡ true → bytes ≡ replicate count 0
-      → count ≡ cluster_size mid.tables.file.header.fields → TellsFresh g guest over old (Ok told) mid → Reserves g guest bytes mid (Ok clusters) middle
-      → KeepsMapping g (record asked { length = run.0 }) clusters middle mapping new → PreparesFresh g asked old (Ok mapping) new
-  fresh-done asked run clusters guest count over told bytes old mid middle new mapping first at is yes-told zero all t r holds =
-      fresh-holds asked run clusters count old mid middle new mapping first all
-      (tells-as guest (asked.offset / cluster_size old.tables.file.header.fields) over (asked.overwrite && run.1) told true old mid at is yes-told t)
-      (subst (λ (b : List ℕ). Reserves g (asked.offset / cluster_size old.tables.file.header.fields) b mid (Ok clusters) middle) zero
-      (subst (λ (x : ℕ). Reserves g x bytes mid (Ok clusters) middle) at r)) holds
+    -- Else it is prepared.
+    module _ (is : guest ≡ asked.offset / cluster_size h) (clusters : ℕ × ℕ) (middle : Qcow2 S g) (r : Reserves g guest content.items mid (Ok clusters) middle) where
+      bits : mid.tables.file.header.fields.cluster_bits ≡ h.cluster_bits
+      bits = looked.bits
+
+      some : 0 < cluster_size h
+      some = pow_pos h.cluster_bits
+
+      stored : IsSafe g old.0 → (p : ℕ) → file_of g middle.tables (place_in h clusters.1 p) ≡ slice_index content.items (p % cluster_size h)
+      stored safe p =
+          let inside : p % cluster_size h < length content.items = subst (λ (n : ℕ). p % cluster_size h < n) (sym m.ok.long) (mod_below p (cluster_size h) some) in
+          ap (λ (b : ℕ). file_of g middle.tables (clusters.1 * 2 ^ b + p % cluster_size h)) (sym bits)
+          ∙ r.stored (looked.safely safe tt) (p % cluster_size h) inside
+
+      pub fresh-done : (mapping : PreparedDataMapping PreparedMappingState) (new : Qcow2 S g) → KeepsMapping g (first_part h asked) clusters middle mapping new
+          → PreparesFresh g u asked old (Ok mapping) (new, y)
+      fresh-done mapping new holds = record {
+        middle = middle;
+        keeps = keeps-disk-both g ⊤ ⊤ old.0 mid middle tt looked r.keeps;
+        below = m.below;
+        ok = record {
+          clusters = clusters;
+          holds = holds;
+          named = (r.named.0, subst (λ (b : ℕ). IsInReach b clusters.1) bits r.named.1);
+          uncopied = m.ok.uncopied;
+          reserved = λ safe. subst (λ (n : ℕ). IsReservedFor g n clusters.0 clusters.1 middle.tables) is
+              (r.reserved (looked.safely safe tt));
+          filled = λ safe under p first left. subst (λ (b : ℕ). IsCopied (at (u.under old.1)) (layer_of g old.0) p b) (sym (stored safe p))
+              (m.ok.shows safe under p first left);
+        };
+        err = tt;
+      }
 
   -- Behind a call that only looks it is prepared from there.
-  module _ {T : Type 0} (asked : Asked) (old mid : Qcow2 S g) (v : T) (k : KeepsImage g old (Ok v) mid) where
-    holds-behind : (middle new : Qcow2 S g) (mapping : PreparedDataMapping PreparedMappingState) → HoldsFresh g asked mid middle mapping new
-        → HoldsFresh g asked old middle mapping new
-    holds-behind middle new mapping f =
-        let looked = keeps-image-disk {T = T} g old mid (Ok v) k in
-        let bits : mid.tables.file.header.fields.cluster_bits ≡ old.tables.file.header.fields.cluster_bits = looked.bits in
-        let guest : asked.offset / cluster_size mid.tables.file.header.fields ≡ asked.offset / cluster_size old.tables.file.header.fields =
-        ap (λ (b : ℕ). asked.offset / 2 ^ b) bits in record {
-          run = f.run;
-          clusters = f.clusters;
-          first = run-as mid.tables.file.header.fields old.tables.file.header.fields asked.offset asked.length f.run (sym bits) (sym looked.size) f.first;
-          holds = f.holds;
-          named = (f.named.0, subst (λ (b : ℕ). IsInReach b f.clusters.1) bits f.named.1);
-          fresh = λ safe. subst (IsFreshFor (reads_below old.mode.backing (asked.overwrite && f.run.1)))
-              (looked.words safe tt (asked.offset / cluster_size mid.tables.file.header.fields) ∙ ap (entry (file_of g old.tables) old.tables.file.header.fields) guest)
-              (subst (λ (m : OpenMode). IsFreshFor (reads_below m.backing (asked.overwrite && f.run.1)) (entry (file_of g mid.tables) mid.tables.file.header.fields
-              (asked.offset / cluster_size mid.tables.file.header.fields))) k.mode (f.fresh (looked.safely safe tt)));
-          reserved = λ safe. subst (λ (x : ℕ). IsReservedFor g x f.clusters.0 f.clusters.1 middle.tables) guest (f.reserved (looked.safely safe tt));
-          zeroes = λ safe i less. ap (λ (b : ℕ). file_of g middle.tables (f.clusters.1 * 2 ^ b + i)) (sym bits)
-              ∙ f.zeroes (looked.safely safe tt) i (subst (λ (b : ℕ). i < 2 ^ b) (sym bits) less);
+  module _ {T B : Type 0} (u : GhostsBelow B) (asked : Asked) (old mid : Qcow2 S g) (x : B) (v : T) (k : KeepsImage g old (Ok v) mid) where
+    abbrev was : Fields
+    was = old.tables.file.header.fields
+
+    abbrev is : Fields
+    is = mid.tables.file.header.fields
+
+    fields : is ≡ was
+    fields = ap (λ (H : Header). H.fields) k.tables.header
+
+    looked-on : KeepsDisk g ⊤ old mid
+    looked-on = keeps-image-disk {T = T} g old mid (Ok v) k
+
+    holds-behind : (middle new : Qcow2 S g) (mapping : PreparedDataMapping PreparedMappingState) → HoldsFresh g u asked (mid, x) middle mapping new
+        → HoldsFresh g u asked (old, x) middle mapping new
+    holds-behind middle new mapping f = record {
+      clusters = f.clusters;
+      holds = subst (λ (h : Fields). KeepsMapping g (first_part h asked) f.clusters middle mapping new) fields f.holds;
+      named = (f.named.0, subst (λ (h : Fields). IsInReach h.cluster_bits f.clusters.1) fields f.named.1);
+      uncopied = λ safe. subst (λ (h : Fields). IsUncopied (entry (file_of g old.tables) was (asked.offset / cluster_size h))) fields
+          (subst IsUncopied (looked-on.words safe tt (asked.offset / cluster_size is)) (f.uncopied (looked-on.safely safe tt)));
+      reserved = λ safe. subst (λ (h : Fields). IsReservedFor g (asked.offset / cluster_size h) f.clusters.0 f.clusters.1 middle.tables) fields
+          (f.reserved (looked-on.safely safe tt));
+      filled = λ safe under. subst (λ (l : Layer). (p : ℕ) → IsInFirst was asked p → IsLeft (first_part was asked) p
+          → IsCopied (at (u.under x)) l p (file_of g middle.tables (place_in was f.clusters.1 p))) (looked-on.layer safe tt)
+          (subst (λ (h : Fields). (p : ℕ) → IsInFirst h asked p → IsLeft (first_part h asked) p
+          → IsCopied (at (u.under x)) (layer_of g mid) p (file_of g middle.tables (place_in h f.clusters.1 p))) fields
+          (f.filled (looked-on.safely safe tt) under));
+    }
+
+    shown-behind : (part : Asked) (v : Value) → IsSafe g old → NeedsShown g u part (mid, x) v → NeedsShown g u part (old, x) v
+    shown-behind part v safe which = (
+      which.0,
+      subst (λ (h : Fields). IsNeededFor h part which.0) fields which.1,
+      ap (λ (l : Layer). through (l.cell which.0) (at (u.under x) which.0)) (sym (looked-on.layer safe tt)) ∙ which.2,
+    )
+
+    why-behind-copy : (part : Asked) (y : B) (e : Fault) → IsSafe g old → WhyNotCopied g u part (mid, x) y e → WhyNotCopied g u part (old, x) y e
+    why-behind-copy part y DamagedTable safe why = shown-behind part damaged_place safe why
+    why-behind-copy part y Barred safe why = shown-behind part barred safe why
+    why-behind-copy part y e safe why = why
+
+    copy-behind : (y : B) (e : Fault) → RefusesCopy g u (first_part is asked) (mid, x) y e → RefusesCopy g u (first_part was asked) (old, x) y e
+    copy-behind y e c =
+        let at-was : RefusesCopy g u (first_part was asked) (mid, x) y e = subst (λ (h : Fields). RefusesCopy g u (first_part h asked) (mid, x) y e) fields c in record {
+          failed = at-was.failed;
+          cause = λ safe under. why-behind-copy (first_part was asked) y e safe (at-was.cause (looked-on.safely safe tt) under);
         }
 
-    pub fresh-behind : (result : Result (PreparedDataMapping PreparedMappingState) Fault) (new : Qcow2 S g) → PreparesFresh g asked mid result new
-        → PreparesFresh g asked old result new
-    fresh-behind (Ok mapping) new p = record {
+    pub fresh-behind : (result : Result (PreparedDataMapping PreparedMappingState) Fault) (new : Qcow2 S g) (y : B)
+        → PreparesFresh g u asked (mid, x) result (new, y) → PreparesFresh g u asked (old, x) result (new, y)
+    fresh-behind (Ok mapping) new y p = record {
       middle = p.middle;
-      keeps = keeps-disk-both g ⊤ ⊤ old mid p.middle tt (keeps-image-disk {T = T} g old mid (Ok v) k) p.keeps;
+      keeps = keeps-disk-both g ⊤ ⊤ old mid p.middle tt looked-on p.keeps;
+      below = p.below;
       ok = holds-behind p.middle new mapping p.ok;
       err = tt;
     }
-    fresh-behind (Err e) new p =
-        let looked = keeps-image-disk {T = T} g old mid (Ok v) k in record {
-          middle = p.middle;
-          keeps = keeps-disk-both g ⊤ (IsMild e) old mid p.middle tt looked p.keeps;
-          ok = tt;
-          err = (p.err.0, marked-behind {T = T} old mid p.middle v e k p.err.1, why-behind old mid p.middle e looked p.err.2);
-        }
+    fresh-behind (Err e) new y p = record {
+      middle = p.middle;
+      keeps = keeps-disk-both g ⊤ (IsMild e) old mid p.middle tt looked-on p.keeps;
+      below = p.below;
+      ok = tt;
+      err = (
+        p.err.0,
+        marked-behind {T = T} old mid p.middle v e k p.err.1,
+        elim p.err.2 [
+          | inl own ↦ inl (why-behind old mid p.middle e looked-on own)
+          | inr below ↦ inr (copy-behind y e below)
+        ],
+      );
+    }

@@ -11,7 +11,7 @@ use Rattle.imago_storage.specs.declared.storage.Storage.{Ghosts}
 use Rattle.imago_storage.specs.Steps.{Call}
 use Rattle.imago_access.proofs.Marking.{plain_mild}
 use Rattle.imago_access.specs.Files.{WasNotCutOff, IsMild, ImageCause, files}
-use Rattle.imago_access.specs.PartCalls.{PartRefused}
+use Rattle.imago_access.specs.PartCalls.{PartCall, PartRefused}
 use Rattle.imago_access.specs.Going.{Marks}
 use Rattle.imago_access.specs.Layer.{Layer, Meaning}
 use Rattle.imago_access.specs.Parts.{DeclinableCause}
@@ -187,14 +187,14 @@ module _ (R : RattleType) (st : Ghosts R.Denot) (sd : mir.Syntax.Dict) (dd : mir
     from (Err fault) is left = tt
 
 -- A part of a range that was declined, in the words of the driver.
-pub declined : (R : RattleType) (st : Ghosts R.Denot) (sd : mir.Syntax.Dict) (dd : mir.Syntax.Dict) (d : Qcow2 R.Denot st) (offset n : ℕ) (result : Result (ℕ × ℕ) Fault)
+pub declined : (R : RattleType) (st : Ghosts R.Denot) (sd : mir.Syntax.Dict) (dd : mir.Syntax.Dict) (call : PartCall) (d : Qcow2 R.Denot st) (offset n : ℕ) (result : Result (ℕ × ℕ) Fault)
     → IfErr result IsMild → ((olds news : List StorageState) → IfErr result (ImageCause olds news))
     → ((below : List Layer) (e : Qcow2 R.Denot st) (whole : Call) (olds news : List StorageState)
     → IfErr result (DeclinableCause below (layer_of st d) offset n ((ghosts R st sd dd).own_cause e below whole) olds news))
-    → PartRefused (ghosts R st sd dd) offset n result d d
-declined R st sd dd d offset n (Ok part) mild failed cause = record { failed = tt; marks = tt; cause = λ safe below e whole begun part. tt }
-declined R st sd dd d offset n (Err fault) mild failed cause = record {
+    → PartRefused call (ghosts R st sd dd) offset n result d d
+declined R st sd dd call d offset n (Ok part) mild failed cause = record { failed = tt; marks = tt; cause = λ safe below e whole begun part is_for. tt }
+declined R st sd dd call d offset n (Err fault) mild failed cause = record {
   failed = failed (files (ghosts R st sd dd) d) (files (ghosts R st sd dd) d);
   marks = plain_mild (ghosts R st sd dd) d d fault mild;
-  cause = λ safe below e whole begun part. cause below e whole (files (ghosts R st sd dd) d) (files (ghosts R st sd dd) d);
+  cause = λ safe below e whole begun part is_for. cause below e whole (files (ghosts R st sd dd) d) (files (ghosts R st sd dd) d);
 }

@@ -12,13 +12,13 @@ use Rattle.imago_storage.specs.declared.storage.Storage.{Ghosts}
 use Rattle.imago_access.specs.Changes.{Cancelled}
 use Rattle.imago_access.specs.Files.{ImageCause, IsMild, files}
 use Rattle.imago_access.specs.Going.{IsUnchanged, Went}
-use Rattle.imago_access.specs.Layer.{IsFree}
+use Rattle.imago_access.specs.Layer.{Cell, IsFree}
 use Rattle.imago_access.specs.PreparingCalls.{Cancels, CommitRefused, Commits}
 use Rattle.imago_access.specs.Spending.{GivenBack, IsMine, IsSpending, Spends, commit_refusal}
 use Rattle.imago_access.specs.declared.mapping.PreparedDataMapping.{PreparedDataMapping}
 use Rattle.imago_access.specs.declared.seen.Seen.{Ghosts as SeenGhosts}
 use Rattle.qcow2_types.specs.Bytes.{Bytes, bytes_of}
-use Rattle.qcow2_types.specs.Header.{Fields}
+use Rattle.qcow2_types.specs.Header.{Fields, Header}
 use Rattle.qcow2_types.specs.References.{refs}
 use Rattle.qcow2_types.proofs.Either.{refs-file}
 use Rattle.qcow2_alloc.specs.declared.file.ImageFile.{ImageFile}
@@ -43,6 +43,7 @@ use Rattle.qcow2_image.specs.declared.tables.Tables.{Tables}
 use Rattle.qcow2_image.specs.declared.unspent.Unspent.{Unspent}
 use Rattle.qcow2_image.proofs.Commits.{committed, failed-is, fixed-same, home-grows, is-free, refused-hard, room-kept, safe-now, size-same, stays-so, stops-settled}
 use Rattle.qcow2_image.proofs.KeepingDisks.{rest-memory, whole-below}
+use Rattle.qcow2_image.proofs.Needing.{settles-byte, since-as}
 use Rattle.qcow2_image.proofs.Steps.{memory-is}
 
 abbrev Answer : Type 0
@@ -149,7 +150,13 @@ module _ (R : RattleType) (st : Ghosts R.Denot) (sd : mir.Syntax.Dict) (dd : mir
         sees = λ none. absurd (cc none);
         began = λ d call begun mine safe.
             let then = begun safe in
-            (safe-now st state.claim old new result s then.0 is, λ p at there. home-grows st state.claim old new result s then.0 is p at (then.1 p at there));
+            let done = committed st state.claim old new result s then.0 is in
+            let header = s.names.header in (
+              safe-now st state.claim old new result s then.0 is,
+              since-as st d old new (home-grows st state.claim old new result s then.0 is)
+                  (λ p. settles-byte ((layer_of st old).held p) ((layer_of st old).cell p) ((layer_of st new).cell p) (done.cell p))
+                  (ap (λ (H : Header). H.fields.size) header) (ap (λ (H : Header). H.fields.cluster_bits) header) then.1,
+            );
       }
       spent-commits (Err fault) is = record {
         ok = tt;
@@ -420,7 +427,12 @@ module _ (R : RattleType) (st : Ghosts R.Denot) (sd : mir.Syntax.Dict) (dd : mir
       };
       began = λ d call begun safe.
           let then = begun safe in
-          (safe-after st state.claim old new s then.0, λ p at is. homes-same st state.claim old new s p ∙ then.1 p at is);
+          let gone = dropped st state.claim old new s in (
+            safe-after st state.claim old new s then.0,
+            since-as st d old new (λ p at is. homes-same st state.claim old new s p ∙ is)
+                (λ p. inl (ap (λ (f : ℕ → Cell). f p) gone.cell))
+                (ap (λ (f : ImageFile R.Denot). f.header.fields.size) s.file) (ap (λ (f : ImageFile R.Denot). f.header.fields.cluster_bits) s.file) then.1,
+          );
     }
 
     pub cancels-by : CancelsUnspent st state.claim old new → Cancels shown mapping (Ok tt) old new

@@ -10,6 +10,7 @@ use Rattle.imago_storage.specs.declared.fault.Fault.TheVariants.{Memory, Storage
 use Rattle.imago_storage.specs.declared.storage.Storage.{Ghosts}
 use Rattle.imago_access.specs.Files.{WasNotCutOff}
 use Rattle.imago_access.specs.Going.{IsKnown, IsSpared, Looked, Marks}
+use Rattle.imago_access.specs.Layer.{Layer}
 use Rattle.imago_access.specs.Room.{Takes}
 use Rattle.imago_access.specs.Stops.{GivesNone, Left}
 use Rattle.imago_storage.proofs.Composing.{later_both}
@@ -32,6 +33,7 @@ use Rattle.qcow2_image.specs.Rooms.{HasRoom, HoldsIn, IsVacant, IsZeroed, IsSafe
 use Rattle.qcow2_image.specs.Seen.{file_of, homes_of, layer_of, memory_of}
 use Rattle.qcow2_image.specs.Unspent.{holding_in}
 use Rattle.qcow2_image.specs.Steps.{KeepsTables, KeepsImage, failed_by, failed_behind}
+use Rattle.qcow2_image.proofs.Needing.{since-as}
 
 -- The layer is what its parts make it.
 pub layer-by : (s s' : StorageState) (m m' : Bytes) (h h' : Fields) (b b' : OpenMode) (n n' : ℕ) (f f' : Bool) (k k' : Option Holding) → s'.shape ≡ s.shape → s'.bytes ≡ s.bytes → m' ≡ m → h' ≡ h → b' ≡ b → n' ≡ n → f' ≡ f → k' ≡ k
@@ -125,6 +127,24 @@ keeps-as g a b r r' whole marks k = record {
   unspent = k.unspent;
   failed = k.failed ∙ marks a.failed;
 }
+
+-- One that is marked behind a refusal.
+pub keeps-then-marked : {S T U : Type 0} (g : Ghosts S) (a b c : Qcow2 S g) (v : T) (e : Fault) → KeepsImage g a (Ok v) b
+    → c ≡ record b { failed = failed_by e b.failed } → KeepsImage {T = U} g a (Err e) c
+keeps-then-marked {S} {T} {U} g a b c v e k is = subst (KeepsImage {T = U} g a (Err e)) (sym is) (record {
+  tables = record {
+    kept = k.tables.kept;
+    later = k.tables.later;
+    faults = λ mild. k.tables.faults tt;
+    header = k.tables.header;
+    space = k.tables.space;
+    seen = k.tables.seen;
+  };
+  mode = k.mode;
+  number = k.number;
+  unspent = k.unspent;
+  failed = ap (failed_by e) k.failed;
+})
 
 -- One that does nothing.
 pub keeps-same : {S : Type 0} (g : Ghosts S) (a : Qcow2 S g) → KeepsImage {T = Unit} g a (Ok tt) a
@@ -238,7 +258,11 @@ module _ (R : RattleType) (st : Ghosts R.Denot) (sd : mir.Syntax.Dict) (dd : mir
   begun-kept : new.failed ≡ old.failed → (e : Qcow2 R.Denot st) (call : Call) → sees.began e call old → sees.began e call new
   begun-kept failed e call begun = λ safe.
       let now = begun safe in
-      (safe-same failed now.0, λ p at is. homes-same p ∙ now.1 p at is)
+      let same = layer-same failed in (
+        safe-same failed now.0,
+        since-as st e old new (λ p at is. homes-same p ∙ is) (λ p. inl (ap (λ (l : Layer). l.cell p) same))
+            (ap (λ (H : Header). H.fields.size) k.tables.header) (ap (λ (H : Header). H.fields.cluster_bits) k.tables.header) now.1,
+      )
 
   spared : new.failed ≡ old.failed → IsSpared sees old new
   spared failed = record {

@@ -50,6 +50,7 @@ use Rattle.qcow2_image.specs.Rooms.{HasCluster, HoldsIn, IsSafe, ReadsNone, is_s
 use Rattle.qcow2_image.specs.Seen.{IsOfFile, IsSeen, file_of, homes_of, layer_of, memory_of}
 use Rattle.qcow2_image.specs.Unspent.{holding_in}
 use Rattle.qcow2_image.specs.Writing.{IsHomeAt, WhyNotTold, WritesAt}
+use Rattle.qcow2_image.proofs.Needing.{since-as, wrote-byte}
 use Rattle.qcow2_image.proofs.Preparing.{safe-undamaged, went-kept}
 use Rattle.qcow2_image.proofs.Settling.{on-ok}
 use Rattle.qcow2_image.proofs.Steps.{looked-kept, takes-kept}
@@ -572,7 +573,9 @@ module _ (R : RattleType) (st : Ghosts R.Denot) (sd : mir.Syntax.Dict) (dd : mir
   began-written (Ok v) answer told failed d call begun = λ safe.
       let now = begun safe in (
         safe-written answer now.0 failed told,
-        λ p at is. ap (λ (h : ℕ → Option (ℕ × ℕ)). h p) (words-written answer now.0 failed told) ∙ now.1 p at is,
+        since-as st d old new (λ p at is. ap (λ (h : ℕ → Option (ℕ × ℕ)). h p) (words-written answer now.0 failed told) ∙ is)
+            (wrote-byte (layer_of st old) (layer_of st new) guest bytes (wrote answer now.0 failed told))
+            (ap (λ (h : Header). h.fields.size) header-same) (ap (λ (h : Header). h.fields.cluster_bits) header-same) now.1,
       )
   began-written (Err e) answer told failed d call begun = tt
 

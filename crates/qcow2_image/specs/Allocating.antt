@@ -1,14 +1,16 @@
 -- How clusters are allocated for guest clusters that have none.
-use Rattle.std.specs.Prelude.{◌≡◌, ◌≢◌, ⊤, ℕ, ◌+◌, ◌*◌, ◌/◌, ◌<◌, ◌==◌, ◌&&◌, Bool, true, false, not, List, slice_index, length, Option, Some, None, IsSome, Result, Ok, Err, IfOk, IfErr, OnOk, OnErr}
+use Rattle.std.specs.Prelude.{◌≡◌, ◌≢◌, ⊤, ℕ, ◌+◌, ◌*◌, ◌/◌, ◌<◌, ◌==◌, Bool, true, false, not, List, slice_index, length, Option, Some, None, IsSome, Result, Ok, Err, IfOk, IfErr, OnOk, OnErr}
 use Rattle.imago_storage.specs.State.{Rose}
 use Rattle.imago_storage.specs.Calls.{Cause}
 use Rattle.imago_storage.specs.declared.fault.Fault.{Fault}
 use Rattle.imago_storage.specs.declared.fault.Fault.TheVariants.{Counter, DamagedTable, Limit, Memory, Storage}
 use Rattle.imago_storage.specs.declared.storage.Storage.{Ghosts}
+use Rattle.imago_storage.specs.Disk.{barred, byte}
+use Rattle.imago_access.specs.Layer.{Cell, own, unmapped}
 use Rattle.imago_access.specs.Files.{WasNotCutOff}
 use Rattle.qcow2_types.specs.Entries.{entry, l2_table}
 use Rattle.qcow2_types.specs.Header.{cluster_size, words_of_cluster}
-use Rattle.qcow2_types.specs.Words.{Mapping, damaged, zeroes}
+use Rattle.qcow2_types.specs.Words.{Mapping, damaged, packed, zeroes}
 use Rattle.qcow2_types.specs.Words as words
 use Rattle.qcow2_metadata.specs.Places.{IsInReach}
 use Rattle.qcow2_steps.specs.Words.{IsReserved}
@@ -17,6 +19,8 @@ use Rattle.qcow2_image.specs.Looking.{WhyNotLooked}
 use Rattle.qcow2_image.specs.Rooms.{IsSafe, IsUntouched, rest_of}
 use Rattle.qcow2_image.specs.Seen.{IsSeen, file_of}
 use Rattle.qcow2_image.specs.Steps.{KeepsImage}
+use Rattle.qcow2_image.specs.declared.allocating.Shown.{Shown}
+use Rattle.qcow2_image.specs.declared.allocating.Shown.TheVariants as shown
 use Rattle.qcow2_image.specs.declared.qcow2.Qcow2.{Qcow2}
 use Rattle.qcow2_clusters.specs.declared.space.Space.{Space}
 
@@ -26,26 +30,43 @@ failed_cut (Err Memory) failed = true
 failed_cut (Err Storage) failed = true
 failed_cut result failed = failed
 
--- Nothing is allocated for a guest cluster that is mapped so, and it reads as zeroes where the layers below are to be read.
-abbrev pub IsFreshFor : Bool → Mapping → Type 0
-IsFreshFor reads words.unmapped = reads ≡ false
-IsFreshFor reads (zeroes None copied) = ⊤
-IsFreshFor reads mapping = ⊥
+-- what shows through a guest cluster that nothing maps, of an image over some layers or none
+abbrev pub shown_blank : Bool → Shown
+shown_blank true = shown.Below
+shown_blank false = shown.Zeroes
 
--- the layers below are to be read, of an image over some, where not all is overwritten
-abbrev pub reads_below : (backing is_overwritten : Bool) → Bool
-reads_below backing is_overwritten = backing && not is_overwritten
+-- what a guest cluster shows that is mapped so, unless it has data: a cluster that is kept for zeroes shows nothing
+abbrev pub shown_of : Bool → Mapping → Option Shown
+shown_of backing words.unmapped = Some (shown_blank backing)
+shown_of backing (zeroes cluster copied) = Some shown.Zeroes
+shown_of backing (packed offset length) = Some shown.Barred
+shown_of backing mapping = None
 
--- Whether a guest cluster is so is told by a lookup alone.
-pub record TellsFresh {S : Type 0} (g : Ghosts S) (guest : ℕ) (is_overwritten : Bool) (old : Qcow2 S g) (result : Result Bool Fault)
+-- and what each of its places says
+abbrev pub shown_cell : Shown → Cell
+shown_cell shown.Zeroes = own (byte 0)
+shown_cell shown.Below = unmapped
+shown_cell shown.Barred = own barred
+
+-- What it shows is told by a lookup alone.
+pub record TellsShown {S : Type 0} (g : Ghosts S) (guest : ℕ) (old : Qcow2 S g) (result : Result (Option Shown) Fault)
     (new : Qcow2 S g) : Type 0 where
   pub keeps : KeepsImage g old result new
-  pub fresh : IsSeen g old.tables → IfOk result (λ is. is ≡ true
-      → IsFreshFor (reads_below old.mode.backing is_overwritten) (entry (file_of g old.tables) old.tables.file.header.fields guest))
+  pub shown : IsSeen g old.tables → IfOk result (λ is.
+      is ≡ shown_of old.mode.backing (entry (file_of g old.tables) old.tables.file.header.fields guest))
   pub cause : IfErr result (WhyNotLooked ⊤ (g.state old.tables.file.image).faults (g.state new.tables.file.image).faults)
   pub known_cause : IsSeen g old.tables → IfErr result (WhyNotLooked
       (entry (file_of g old.tables) old.tables.file.header.fields guest ≡ damaged)
       (g.state old.tables.file.image).faults (g.state new.tables.file.image).faults)
+
+-- Why clusters can't be reserved: in a safe image for want of memory, by a storage that failed, or since there is no place left.
+abbrev pub WhyNotReserved : {S : Type 0} (g : Ghosts S) → Qcow2 S g → Qcow2 S g → Fault → Type 0
+WhyNotReserved g old new Memory = ⊤
+WhyNotReserved g old new Storage = Rose (g.state old.tables.file.image).faults (g.state new.tables.file.image).faults
+WhyNotReserved g old new (Limit number) = ⊤
+WhyNotReserved g old new DamagedTable = IsSafe g old → ⊥
+WhyNotReserved g old new Counter = IsSafe g old → ⊥
+WhyNotReserved g old new fault = ⊥
 
 -- Why clusters can't be allocated, in an image that may be safe.
 abbrev pub WhyNotAllocated : {S : Type 0} (g : Ghosts S) → Qcow2 S g → Qcow2 S g → Fault → Type 0

@@ -1,8 +1,10 @@
 -- What a prepared mapping holds of an image that was opened for writing: a run of one guest cluster, for which a host cluster is reserved.
-use Rattle.std.specs.Prelude.{◌≡◌, ◌≢◌, ℕ, ◌+◌, ◌-◌, ◌*◌, ◌/◌, ◌%◌, ◌<◌, ◌≤◌, Bool, true, false, Option, Some, None, if◌then◌else◌, min, ltb, nat_le, ◌==◌, ◌&&◌, ◌||◌}
+use Rattle.std.specs.Prelude.{◌≡◌, ◌≢◌, ⊤, ℕ, ◌+◌, ◌-◌, ◌*◌, ◌/◌, ◌%◌, ◌<◌, ◌≤◌, Bool, true, false, Option, Some, None, if◌then◌else◌, min, ltb, nat_le, ◌==◌, ◌&&◌, ◌||◌}
 use Rattle.imago_access.specs.Layer.{Held, loose, beside, inside}
 use Rattle.qcow2_types.specs.Bytes.{Bytes}
+use Rattle.qcow2_types.specs.Entries.{entry}
 use Rattle.qcow2_types.specs.Header.{Fields, cluster_size}
+use Rattle.qcow2_types.specs.Words.{Mapping, data_at}
 use Rattle.qcow2_metadata.specs.Places.{IsInReach}
 use Rattle.qcow2_alloc.specs.Quiet.{Metadata}
 use Rattle.qcow2_clusters.specs.Naming.{IsNameable}
@@ -70,10 +72,16 @@ abbrev pub claim_held : Option Holding → Option ℕ
 claim_held None = None
 claim_held (Some hold) = Some hold.claim
 
--- Of an image at rest: what the mapping names is reserved and can be named, the run lies in the guest cluster, and what wasn't written has
--- the bytes that were copied.
+-- the guest cluster that is mapped so isn't written where it is
+abbrev pub IsUncopied : Mapping → Type 0
+IsUncopied (data_at cluster true) = ⊥
+IsUncopied mapping = ⊤
+
+-- Of an image at rest: what the mapping names is reserved and can be named, the guest cluster isn't written elsewhere, the run lies in it,
+-- and what wasn't written has the bytes that were copied.
 pub record IsHeld (m : Metadata) (hold : Holding) : Type 0 where
   pub nameable : IsNameable m hold.table hold.guest hold.host
+  pub uncopied : IsUncopied (entry m.file m.header.fields hold.guest)
   pub some : hold.host ≢ 0
   pub reach : IsInReach m.header.fields.cluster_bits hold.host
   pub placed : hold.place ≡ place_in m.header.fields hold.host hold.offset

@@ -14,4 +14,5 @@ pub mod Writing
 pub mod KeepsDisk
 pub mod Allocating
 pub mod Committing
+pub mod Filling
 pub mod Preparing

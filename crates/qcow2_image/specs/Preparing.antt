@@ -1,22 +1,25 @@
 -- How a mapping is prepared for a guest cluster that has no host cluster.
-use Rattle.std.specs.Prelude.{◌≡◌, ◌≢◌, ◌⊎◌, ⊤, ℕ, ◌+◌, ◌-◌, ◌*◌, ◌/◌, ◌%◌, ◌<◌, ◌&&◌, min, Bool, true, false, List, length, slice_index, Some, IsTrue, Result, Err, IfOk, IfErr}
-use Rattle.imago_storage.specs.State.{Rose}
+use Rattle.std.specs.Prelude.{◌≡◌, ◌≢◌, ◌⊎◌, ⊤, ℕ, ◌+◌, ◌-◌, ◌*◌, ◌/◌, ◌%◌, ◌<◌, min, Bool, false, List, length, slice_index, Some, IsTrue, Result, Err, IfOk, IfErr}
 use Rattle.imago_storage.specs.declared.fault.Fault.{Fault}
-use Rattle.imago_storage.specs.declared.fault.Fault.TheVariants.{Counter, DamagedTable, Limit, Memory, Storage}
+use Rattle.imago_storage.specs.declared.fault.Fault.TheVariants.{Memory, Storage}
 use Rattle.imago_storage.specs.declared.storage.Storage.{Ghosts}
-use Rattle.imago_access.specs.Changes.{Asked}
+use Rattle.imago_access.specs.Chain.{at}
+use Rattle.imago_access.specs.Changes.{Asked, IsCopied}
 use Rattle.imago_access.specs.Files.{WasNotCutOff}
+use Rattle.imago_access.specs.Going.{LookedUnder}
+use Rattle.imago_access.specs.declared.seen.SeenBelow.{Ghosts as GhostsBelow}
 use Rattle.imago_access.specs.declared.mapping.PreparedDataMapping.{PreparedDataMapping}
 use Rattle.qcow2_types.specs.Entries.{entry}
 use Rattle.qcow2_types.specs.Header.{Fields, cluster_size}
 use Rattle.qcow2_metadata.specs.Places.{IsInReach}
-use Rattle.qcow2_clusters.specs.Naming.{IsNameable, TakesNone}
+use Rattle.qcow2_clusters.specs.Naming.{IsNameable}
 use Rattle.qcow2_clusters.specs.declared.space.Space.{Space}
-use Rattle.qcow2_image.specs.Allocating.{IsFreshFor, reads_below}
-use Rattle.qcow2_image.specs.Holding.{Holding, place_in}
+use Rattle.qcow2_image.specs.Allocating.{WhyNotReserved}
+use Rattle.qcow2_image.specs.Filling.{IsInFirst, IsLeft, RefusesCopy}
+use Rattle.qcow2_image.specs.Holding.{Holding, IsUncopied, place_in}
 use Rattle.qcow2_image.specs.KeepsDisk.{KeepsDisk}
 use Rattle.qcow2_image.specs.Rooms.{IsSafe, rest_of}
-use Rattle.qcow2_image.specs.Seen.{file_of}
+use Rattle.qcow2_image.specs.Seen.{file_of, layer_of}
 use Rattle.qcow2_image.specs.Steps.{KeepsImage}
 use Rattle.qcow2_image.specs.Unspent.{covers, holding}
 use Rattle.qcow2_image.specs.declared.qcow2.PreparedMappingState.{PreparedMappingState}
@@ -24,26 +27,15 @@ use Rattle.qcow2_image.specs.declared.qcow2.Qcow2.{Qcow2}
 use Rattle.qcow2_image.specs.declared.tables.Tables.{Tables}
 use Rattle.qcow2_image.specs.declared.unspent.Unspent.{Unspent}
 
--- How much of a range lies in its first guest cluster, and whether that is all of it that is on the disk.
-pub record FreshRun (h : Fields) (offset length : ℕ) (answer : ℕ × Bool) : Type 0 where
-  pub run : answer.0 ≡ min length (cluster_size h - offset % cluster_size h)
-  pub first : answer.1 ≡ true → offset % cluster_size h ≡ 0
-  pub last : answer.1 ≡ true → (answer.0 ≡ cluster_size h) ⊎ (offset + answer.0 ≡ h.size)
+-- how much of a range lies in its first guest cluster
+abbrev pub first_run : Fields → (offset length : ℕ) → ℕ
+first_run h offset n = min n (cluster_size h - offset % cluster_size h)
 
 -- A storage's fault has marked the image as failed, and want of memory has marked it or left all as it was.
 abbrev pub LeavesMarked : {S : Type 0} (g : Ghosts S) → Qcow2 S g → Qcow2 S g → Fault → Type 0
 LeavesMarked g old new Storage = IsTrue new.failed
 LeavesMarked g old new Memory = IsTrue new.failed ⊎ KeepsImage {T = Unit} g old (Err Memory) new
 LeavesMarked g old new fault = ⊤
-
--- Why clusters can't be reserved: in a safe image for want of memory, by a storage that failed, or since there is no place left.
-abbrev pub WhyNotReserved : {S : Type 0} (g : Ghosts S) → Qcow2 S g → Qcow2 S g → Fault → Type 0
-WhyNotReserved g old new Memory = ⊤
-WhyNotReserved g old new Storage = Rose (g.state old.tables.file.image).faults (g.state new.tables.file.image).faults
-WhyNotReserved g old new (Limit number) = ⊤
-WhyNotReserved g old new DamagedTable = IsSafe g old → ⊥
-WhyNotReserved g old new Counter = IsSafe g old → ⊥
-WhyNotReserved g old new fault = ⊥
 
 -- A host cluster is reserved that a guest cluster can come to name, in its L2 table, and there is room on the list of clusters to free.
 pub record IsReservedFor {S : Type 0} (g : Ghosts S) (guest table host : ℕ) (t : Tables S g) : Type 0 where
@@ -58,8 +50,7 @@ pub record Reserves {S : Type 0} (g : Ghosts S) (guest : ℕ) (content : List �
   pub keeps : KeepsDisk g (WasNotCutOff result) old new
   pub marked : IfErr result (LeavesMarked g old new)
   pub named : IfOk result (λ r. (r.1 ≢ 0) × IsInReach old.tables.file.header.fields.cluster_bits r.1)
-  pub reserved : IsSafe g old → TakesNone (entry (file_of g old.tables) old.tables.file.header.fields guest)
-      → IfOk result (λ r. IsReservedFor g guest r.0 r.1 new.tables)
+  pub reserved : IsSafe g old → IfOk result (λ r. IsReservedFor g guest r.0 r.1 new.tables)
   pub stored : IsSafe g old → IfOk result (λ r. (i : ℕ) → i < length content
       → file_of g new.tables (r.1 * cluster_size old.tables.file.header.fields + i) ≡ slice_index content i)
   pub cause : IfErr result (WhyNotReserved g old new)
@@ -93,26 +84,32 @@ pub record KeepsMapping {S : Type 0} (g : Ghosts S) (asked : Asked) (r : ℕ × 
     state = Some (record { number = old.number; claim = unspent.claim });
   }
 
--- The run of a range in its first guest cluster, for which nothing is allocated, is prepared in an image that has become another: zeroes
--- are in the host cluster that is held for it.
-pub record HoldsFresh {S : Type 0} (g : Ghosts S) (asked : Asked) (old middle : Qcow2 S g)
-    (mapping : PreparedDataMapping PreparedMappingState) (new : Qcow2 S g) : Type 0 where
-  pub run : ℕ × Bool
-  pub clusters : ℕ × ℕ
-  pub first : FreshRun old.tables.file.header.fields asked.offset asked.length run
-  pub holds : KeepsMapping g (record asked { length = run.0 }) clusters middle mapping new
-  pub named : (clusters.1 ≢ 0) × IsInReach old.tables.file.header.fields.cluster_bits clusters.1
-  pub fresh : IsSafe g old → let h = old.tables.file.header.fields in
-      IsFreshFor (reads_below old.mode.backing (asked.overwrite && run.1)) (entry (file_of g old.tables) h (asked.offset / cluster_size h))
-  pub reserved : IsSafe g old
-      → IsReservedFor g (asked.offset / cluster_size old.tables.file.header.fields) clusters.0 clusters.1 middle.tables
-  pub zeroes : IsSafe g old → (i : ℕ) → i < cluster_size old.tables.file.header.fields
-      → file_of g middle.tables (clusters.1 * cluster_size old.tables.file.header.fields + i) ≡ 0
+-- the same range, but for what lies behind its first guest cluster
+abbrev pub first_part : Fields → Asked → Asked
+first_part h asked = record asked { length = first_run h asked.offset asked.length }
 
--- A mapping is prepared so, or refused: before it is held the image has become another, with the same disk.
-pub record PreparesFresh {S : Type 0} (g : Ghosts S) (asked : Asked) (old : Qcow2 S g)
-    (result : Result (PreparedDataMapping PreparedMappingState) Fault) (new : Qcow2 S g) : Type 0 where
+-- The run of a range in its first guest cluster, for which nothing is allocated, is prepared in an image that has become another: what its
+-- places show is in the host cluster that is held for it.
+pub record HoldsFresh {S B : Type 0} (g : Ghosts S) (u : GhostsBelow B) (asked : Asked) (old : Qcow2 S g × B) (middle : Qcow2 S g)
+    (mapping : PreparedDataMapping PreparedMappingState) (new : Qcow2 S g) : Type 0 where
+  pub clusters : ℕ × ℕ
+  pub holds : KeepsMapping g (first_part old.0.tables.file.header.fields asked) clusters middle mapping new
+  pub named : (clusters.1 ≢ 0) × IsInReach old.0.tables.file.header.fields.cluster_bits clusters.1
+  pub uncopied : IsSafe g old.0 → let h = old.0.tables.file.header.fields in
+      IsUncopied (entry (file_of g old.0.tables) h (asked.offset / cluster_size h))
+  pub reserved : IsSafe g old.0
+      → IsReservedFor g (asked.offset / cluster_size old.0.tables.file.header.fields) clusters.0 clusters.1 middle.tables
+  pub filled : IsSafe g old.0 → u.sees_under old.1 → let h = old.0.tables.file.header.fields in
+      (p : ℕ) → IsInFirst h asked p → IsLeft (first_part h asked) p
+      → IsCopied (at (u.under old.1)) (layer_of g old.0) p (file_of g middle.tables (place_in h clusters.1 p))
+
+-- A mapping is prepared so, or refused, by the image or by the layers below: before it is held the image has become another, with the same
+-- disk.
+pub record PreparesFresh {S B : Type 0} (g : Ghosts S) (u : GhostsBelow B) (asked : Asked) (old : Qcow2 S g × B)
+    (result : Result (PreparedDataMapping PreparedMappingState) Fault) (new : Qcow2 S g × B) : Type 0 where
   pub middle : Qcow2 S g
-  pub keeps : KeepsDisk g (WasNotCutOff result) old middle
-  pub ok : IfOk result (λ mapping. HoldsFresh g asked old middle mapping new)
-  pub err : IfErr result (λ fault. (new ≡ middle) × LeavesMarked g old middle fault × WhyNotReserved g old middle fault)
+  pub keeps : KeepsDisk g (WasNotCutOff result) old.0 middle
+  pub below : LookedUnder u (WasNotCutOff result) old.1 new.1
+  pub ok : IfOk result (λ mapping. HoldsFresh g u asked old middle mapping new.0)
+  pub err : IfErr result (λ fault. (new.0 ≡ middle) × LeavesMarked g old.0 middle fault
+      × (WhyNotReserved g old.0 middle fault ⊎ RefusesCopy g u (first_part old.0.tables.file.header.fields asked) old new.1 fault))

@@ -1,14 +1,19 @@
 -- What a change of an image that was opened for writing rests on, and why it is refused.
-use Rattle.std.specs.Prelude.{◌≡◌, ⊤, ℕ, ◌+◌, ◌<◌, List, Option, Some, None, Result, is_err}
+use Rattle.std.proofs.Common.{inl, refl}
+use Rattle.std.specs.Prelude.{◌≡◌, ◌⊎◌, ⊤, ℕ, ◌+◌, ◌<◌, ◌∷◌, List, Some, None, Result, is_err, true}
 use Rattle.imago_storage.specs.State.{Rose}
 use Rattle.imago_storage.specs.Causes.{offset_of, length_of}
 use Rattle.imago_storage.specs.Steps.{Call, IsIn}
 use Rattle.imago_storage.specs.Through.{Put}
 use Rattle.imago_storage.specs.declared.fault.Fault.{Fault}
-use Rattle.imago_storage.specs.declared.fault.Fault.TheVariants.{DamagedTable, Limit, Memory, Storage, Unsupported}
+use Rattle.imago_storage.specs.declared.fault.Fault.TheVariants.{Barred, DamagedTable, Limit, Memory, Storage, Unsupported}
 use Rattle.imago_storage.specs.declared.storage.Storage.{Ghosts}
-use Rattle.imago_storage.specs.Disk.{damaged_place}
-use Rattle.imago_access.specs.Layer.{Layer, own}
+use Rattle.imago_storage.specs.Disk.{Value, barred, byte, damaged_place}
+use Rattle.imago_access.specs.Chain.{at}
+use Rattle.imago_access.specs.Layer.{Cell, Layer, own}
+use Rattle.imago_access.specs.Parts.{announces}
+use Rattle.imago_access.specs.Room.{IsOfUnit, IsWholeUnit}
+use Rattle.qcow2_types.specs.Header.{cluster_size}
 use Rattle.qcow2_image.specs.Rooms.{IsSafe}
 use Rattle.qcow2_image.specs.Seen.{homes_of, layer_of}
 use Rattle.qcow2_image.specs.declared.qcow2.Qcow2.{Qcow2}
@@ -17,16 +22,48 @@ use Rattle.qcow2_image.specs.declared.qcow2.Qcow2.{Qcow2}
 abbrev pub KeepsHomes : {S : Type 0} (g : Ghosts S) → Qcow2 S g → Qcow2 S g → Type 0
 KeepsHomes g d now = (p : ℕ) (at : ℕ × ℕ) → homes_of g d p ≡ Some at → homes_of g now p ≡ Some at
 
--- A call has begun on a safe image: that is safe still, and each place can be written where it could.
-abbrev pub HasBegun : {S : Type 0} (g : Ghosts S) → Qcow2 S g → Qcow2 S g → Type 0
-HasBegun g d now = IsSafe g d → IsSafe g now × KeepsHomes g d now
+-- Each place shows what it did, or a byte of its own.
+abbrev pub ComesToBytes : (old new : ℕ → Cell) → Type 0
+ComesToBytes old new = (p : ℕ) → (new p ≡ old p) ⊎ ((b : ℕ) × (new p ≡ own (byte b)))
 
--- Why an image isn't changed, by causes of its own: zeroing, discards and resizes are declined, and bytes aren't written where a place of
--- the range has no cluster of its own, for which none could be allocated.
-abbrev pub WhyUnwritten : (ℕ → Option (ℕ × ℕ)) → Call → Fault → Type 0
-WhyUnwritten home call Unsupported = ⊤
-WhyUnwritten home call (Limit number) = (p : ℕ) × IsIn (offset_of call) (length_of call) p × (home p ≡ None)
-WhyUnwritten home call fault = ⊥
+-- What an image has become since a call began.
+pub record Since {S : Type 0} (g : Ghosts S) (d now : Qcow2 S g) : Type 0 where
+  pub homes : KeepsHomes g d now
+  pub cells : ComesToBytes (layer_of g d).cell (layer_of g now).cell
+  pub size : now.tables.file.header.fields.size ≡ d.tables.file.header.fields.size
+  pub bits : now.tables.file.header.fields.cluster_bits ≡ d.tables.file.header.fields.cluster_bits
+
+-- A call has begun on a safe image: that is safe still, each place can be written where it could, and shows what it did or a byte of its
+-- own.
+abbrev pub HasBegun : {S : Type 0} (g : Ghosts S) → Qcow2 S g → Qcow2 S g → Type 0
+HasBegun g d now = IsSafe g d → IsSafe g now × Since g d now
+
+-- A call begins so: a law of the driver.
+pub begun_itself : {S : Type 0} (g : Ghosts S) (d : Qcow2 S g) → HasBegun g d d
+begun_itself g d = λ safe. (safe, record { homes = λ p at is. is; cells = λ p. inl refl; size = refl; bits = refl })
+
+-- What a place shows is needed by a call: it lies in a cluster that the range meets, and that isn't overwritten whole.
+pub record IsNeeded (unit size : ℕ) (call : Call) (p : ℕ) : Type 0 where
+  pub cluster : ℕ
+  pub here : IsOfUnit unit size cluster p
+  pub met : ℕ
+  pub in_range : IsIn (offset_of call) (length_of call) met
+  pub there : IsOfUnit unit size cluster met
+  pub part : announces call ≡ Some true → IsWholeUnit unit size (offset_of call) (length_of call) cluster → ⊥
+
+-- a place that is needed shows this, over the layers below
+abbrev pub NeedsValue : {S : Type 0} (g : Ghosts S) → Qcow2 S g → List Layer → Call → Value → Type 0
+NeedsValue g d below call value = let h = d.tables.file.header.fields in
+    (p : ℕ) × IsNeeded (cluster_size h) h.size call p × (at (layer_of g d ∷ below) p ≡ value)
+
+-- Why an image isn't changed, by causes of its own: zeroing, discards and resizes are declined; bytes aren't written where a place of the
+-- range has no cluster of its own, for which none could be allocated, nor where a place that is needed can't be read.
+abbrev pub WhyUnwritten : {S : Type 0} (g : Ghosts S) → Qcow2 S g → List Layer → Call → Fault → Type 0
+WhyUnwritten g d below call Unsupported = ⊤
+WhyUnwritten g d below call (Limit number) = (p : ℕ) × IsIn (offset_of call) (length_of call) p × (homes_of g d p ≡ None)
+WhyUnwritten g d below call DamagedTable = NeedsValue g d below call damaged_place
+WhyUnwritten g d below call Barred = NeedsValue g d below call barred
+WhyUnwritten g d below call fault = ⊥
 
 -- each place of the range can be written in the image file, from a place of it on
 abbrev pub IsHomeAt : Layer → (offset place n : ℕ) → Type 0

@@ -1,7 +1,7 @@
 // Clusters are allocated for guest clusters that have none.
 ghost use Rattle.std.specs.Prelude.{◌≡◌, ◌<◌, ◌+◌, ◌*◌, ◌^◌, false, None, length, IsTrue};
 ghost use Rattle.qcow2_types.specs.Header.{cluster_size};
-ghost use Rattle.qcow2_image.specs.Allocating.{EnsuresTable, FlushesFreed, FreesPending, IsFreshFor, LoadsSpace, StoresContent, TellsFresh, failed_cut, waits_in};
+ghost use Rattle.qcow2_image.specs.Allocating.{EnsuresTable, FlushesFreed, FreesPending, LoadsSpace, StoresContent, TellsShown, failed_cut, shown_of, waits_in};
 ghost use Rattle.qcow2_metadata.specs.MappingView.{mapping_seen};
 
 use crate::lookup::{l2_cluster, look_up};
@@ -13,14 +13,23 @@ use qcow2_metadata::{L2Mapping, Table};
 use qcow2_types::{GuestCluster, HostCluster};
 use std::alloc::Global;
 
-// Whether a guest cluster that is mapped so has nothing allocated for it, and nothing of it has to be read of the layers below.
-fn is_fresh(mapping: L2Mapping, reads_below: bool) -> bool
-    ensures { IsTrue result → IsFreshFor reads_below (mapping_seen mapping) }
+// What a guest cluster shows that has no data in the file: zeroes, the layers below, or what can't be read.
+#[derive(Clone, Copy)]
+pub(crate) enum Shown {
+    Zeroes,
+    Below,
+    Barred,
+}
+
+// What a guest cluster shows that is mapped so, unless it has data.
+fn shown_through(mapping: L2Mapping, backing: bool) -> Option<Shown>
+    ensures { result ≡ shown_of backing (mapping_seen mapping) }
 {
     match mapping {
-        L2Mapping::Backing { .. } => !reads_below,
-        L2Mapping::Zero { host_cluster, .. } => host_cluster.is_none(),
-        _ => false,
+        L2Mapping::Backing { .. } if backing => Some(Shown::Below),
+        L2Mapping::Backing { .. } | L2Mapping::Zero { .. } => Some(Shown::Zeroes),
+        L2Mapping::Compressed { .. } => Some(Shown::Barred),
+        L2Mapping::DataFile { .. } => None,
     }
 }
 
@@ -36,21 +45,15 @@ impl<S: Storage> Qcow2<S> {
         answer
     }
 
-    // Whether nothing is allocated for a guest cluster, and nothing of it has to be read of the layers below, of which only what isn't
-    // overwritten is needed.
-    pub(crate) fn is_fresh_at(
-        &mut self,
-        guest: GuestCluster,
-        is_overwritten: bool,
-    ) -> Result<bool, Fault>
+    // What a guest cluster shows, unless it has data.
+    pub(crate) fn shown_at(&mut self, guest: GuestCluster) -> Result<Option<Shown>, Fault>
         requires fits { let bits = self.old.tables.file.header.fields.cluster_bits in (guest + 1) * 2 ^ bits < 2 ^ 64 + 2 ^ bits }
         requires runs { self.old.failed ≡ false }
-        ensures { TellsFresh S.Storage guest is_overwritten self.old result self.new }
+        ensures { TellsShown S.Storage guest self.old result self.new }
     {
-        let reads_below = self.mode.backing && !is_overwritten;
         prove!(self.tables.file.header.cluster_bits() >= 9);
         match look_up(&mut self.tables, guest, 1) {
-            Ok((mapping, _count)) => Ok(is_fresh(mapping, reads_below)),
+            Ok((mapping, _count)) => Ok(shown_through(mapping, self.mode.backing)),
             Err(fault) => {
                 self.mark(fault);
                 Err(fault)

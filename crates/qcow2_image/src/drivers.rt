@@ -20,6 +20,7 @@ ghost use Rattle.qcow2_image.specs.ImageLayer.{blanks};
 ghost use Rattle.qcow2_image.specs.Looking.{IsWholeRunIn, answer_at};
 ghost use Rattle.qcow2_image.specs.HeldHomes.{free_loose, one_home, says_room};
 ghost use Rattle.qcow2_image.specs.Unspent.{holding_in};
+ghost use Rattle.qcow2_image.specs.Writing.{begun_itself};
 ghost use Rattle.qcow2_image.specs.Rooms.{IsUntouched, not_both, covered, of_storages, was_safe};
 ghost use Rattle.qcow2_image.specs.Steps.{Reloads, failed_anew, failed_behind, failed_by};
 
@@ -57,7 +58,7 @@ impl<S: Storage> FormatDriverInstance for Qcow2<S> {
 
     ghost units = { λ d. pow_pos d.tables.file.header.fields.cluster_bits };
 
-    ghost begins = { λ d call safe. (safe, λ p at is. is) };
+    ghost begins = { λ d call. begun_itself S.Storage.own d };
 
     ghost free_loose = { λ d free p. let held = holding_in S.Storage.own d.unspent in
         free_loose d.tables.file.header.fields (bytes_of (S.Storage.own.state d.tables.file.image).bytes) held p free };
@@ -198,7 +199,7 @@ impl<S: Storage> FormatDriverInstance for Qcow2<S> {
     fn prepare_data_mapping<B: ReadBelow>(
         &mut self,
         alloc: Global,
-        _below: &mut B,
+        below: &mut B,
         offset: u64,
         length: u64,
         overwrite: bool,
@@ -212,11 +213,11 @@ impl<S: Storage> FormatDriverInstance for Qcow2<S> {
         ensures size { let d = ⟦<Qcow2<S> as Seen>⟧ in (d.layer self.new).size ≡ (d.layer self.old).size }
         ensures free { IsErr result → IsFree (⟦<Qcow2<S> as Seen>⟧.layer self.new) }
         ensures does { let d = ⟦<Qcow2<S> as Seen>⟧ in
-            Prepares d B.SeenBelow (asking offset length overwrite) result (self.old, _below.old) (self.new, _below.new) }
-        ensures below { LookedUnder B.SeenBelow (WasNotCutOff result) _below.old _below.new }
+            Prepares d B.SeenBelow (asking offset length overwrite) result (self.old, below.old) (self.new, below.new) }
+        ensures below { LookedUnder B.SeenBelow (WasNotCutOff result) below.old below.new }
         ensures at_once { RangeAtOnce ⟦<Qcow2<S> as Seen>⟧ offset length result self.old self.new }
         ensures unread { let d = ⟦<Qcow2<S> as Seen>⟧ in
-            (length ≡ 0) ⊎ IsSome (own_refusal (d.layer self.old) offset length) → _below.new ≡ _below.old }
+            (length ≡ 0) ⊎ IsSome (own_refusal (d.layer self.old) offset length) → below.new ≡ below.old }
         // It answers all of the run that can be written, or prepares what lies in the first guest cluster.
         ensures whole { let t = self.old.tables in ⟦<Qcow2<S> as Seen>⟧.sees self.old
             → IfOk result (λ m. 0 < length → m.state ≡ None → IsWholeRunIn S.Storage t offset length m.length) }
@@ -238,7 +239,7 @@ impl<S: Storage> FormatDriverInstance for Qcow2<S> {
         }
         match self.home_run(offset, length) {
             Ok(Some((place, count))) => Ok(PreparedDataMapping::existing(0, place, count)),
-            Ok(None) => self.prepare_fresh(alloc, offset, length, overwrite),
+            Ok(None) => self.prepare_fresh(alloc, below, offset, length, overwrite),
             Err(fault) => Err(fault),
         }
     }

@@ -1,40 +1,25 @@
 // Mappings are prepared for guest clusters that have no host cluster.
-ghost use Rattle.std.specs.Prelude.{◌≡◌, ◌<◌, ◌≤◌, ◌+◌, ◌-◌, ◌%◌, false, None, length, replicate, IfOk, IfErr};
+ghost use Rattle.std.specs.Prelude.{◌≡◌, ◌<◌, ◌≤◌, ◌+◌, ◌-◌, ◌%◌, false, None, length};
 ghost use Rattle.imago_access.specs.Changes.{asking};
 ghost use Rattle.qcow2_types.specs.Header.{cluster_size};
 ghost use Rattle.qcow2_metadata.specs.Places.{IsInReach};
-ghost use Rattle.qcow2_image.specs.Preparing.{FreshRun, KeepsMapping, PreparesFresh, Reserves};
+ghost use Rattle.qcow2_image.specs.Preparing.{KeepsMapping, PreparesFresh, Reserves, first_run};
 
 use crate::qcow2::{PreparedMappingState, Qcow2};
 use crate::unspent::{Unspent, Writes};
-use imago_access::PreparedDataMapping;
+use imago_access::{PreparedDataMapping, ReadBelow, SeenBelow};
 use imago_storage::{Fault, Storage};
 use qcow2_types::{GuestCluster, GuestOffset, HostCluster};
 use std::alloc::Global;
 use std::snapshot::Snapshot;
 
-// So many zeroes.
-fn zeroes(alloc: Global, count: usize) -> Result<Vec<u8>, Fault>
-    ensures ok { IfOk result (λ bytes. bytes.items ≡ replicate count 0) }
-    ensures err { IfErr result (λ e. e ≡ Fault.Memory) }
-{
-    Ok(vec![in alloc; 0u8; count]?)
-}
-
 impl<S: Storage> Qcow2<S> {
-    // How much of a range lies in its first guest cluster, and whether it has all of that which is on the disk.
-    fn fresh_run(&self, offset: u64, length: u64) -> (u64, bool)
-        requires inside { offset + length ≤ self.now.tables.file.header.fields.size }
-        requires some { 0 < length }
-        ensures { FreshRun self.now.tables.file.header.fields offset length result }
+    // How much of a range lies in its first guest cluster.
+    fn first_run(&self, offset: u64, length: u64) -> u64
+        ensures { result ≡ first_run self.now.tables.file.header.fields offset length }
     {
         let cluster_bits = self.tables.file.header.cluster_bits();
-        let place = GuestOffset(offset);
-        let rest = place.remaining_in_cluster(cluster_bits);
-        let run = length.min(rest);
-        let is_whole = place.in_cluster_offset(cluster_bits) == 0
-            && (run == rest || self.tables.file.header.size() - offset == run);
-        (run, is_whole)
+        length.min(GuestOffset(offset).remaining_in_cluster(cluster_bits))
     }
 
     // Reserves a host cluster for a guest cluster, with this content, under an L2 table.
@@ -63,11 +48,11 @@ impl<S: Storage> Qcow2<S> {
     }
 
     // Prepares a mapping of what lies in the first guest cluster of a range, for which nothing is allocated: its host cluster is reserved,
-    // and has what is shown there. It is refused with the offset where the layers below would have to be read, or where something is
-    // allocated.
-    pub(crate) fn prepare_fresh(
+    // and has what is shown there. It is refused with the offset where something is allocated.
+    pub(crate) fn prepare_fresh<B: ReadBelow>(
         &mut self,
         alloc: Global,
+        below: &mut B,
         offset: u64,
         length: u64,
         overwrite: bool,
@@ -76,17 +61,13 @@ impl<S: Storage> Qcow2<S> {
         requires some { 0 < length }
         requires runs { self.old.failed ≡ false }
         requires free { self.old.unspent ≡ None }
-        ensures { PreparesFresh S.Storage (asking offset length overwrite) self.old result self.new }
+        ensures { let asked = asking offset length overwrite in
+            PreparesFresh S.Storage B.SeenBelow asked (self.old, below.old) result (self.new, below.new) }
     {
         let cluster_bits = self.tables.file.header.cluster_bits();
         let guest = GuestOffset(offset).cluster(cluster_bits);
-        let (run, is_whole) = self.fresh_run(offset, length);
-        match self.is_fresh_at(guest, overwrite && is_whole) {
-            Ok(true) => {}
-            Ok(false) => return Err(Fault::Limit(offset)),
-            Err(fault) => return Err(fault),
-        }
-        let content = match zeroes(alloc, self.tables.file.header.cluster_size()) {
+        let run = self.first_run(offset, length);
+        let content = match self.content_for(alloc, below, offset, run, overwrite) {
             Ok(content) => content,
             Err(fault) => return Err(fault),
         };

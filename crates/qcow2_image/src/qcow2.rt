@@ -1,5 +1,5 @@
 // A qcow2 image as a driver.
-ghost use Rattle.std.specs.Prelude.{◌≡◌, ⊤, List, [], Some, None};
+ghost use Rattle.std.specs.Prelude.{◌≡◌, ◌==◌, ⊤, List, [], Some, None};
 ghost use Rattle.std.specs.Option.{option_copied};
 ghost use Rattle.imago_storage.specs.Steps.{Call};
 ghost use Rattle.imago_storage.specs.declared.fault.Fault.{Fault};
@@ -12,7 +12,7 @@ ghost use Rattle.qcow2_alloc.specs.Caches.{cached_in};
 ghost use Rattle.qcow2_alloc.specs.Safety.{AreTablesClean, AreBlocksClean};
 ghost use Rattle.imago_access.specs.Layer.{IsFree};
 ghost use Rattle.qcow2_image.specs.ImageLayer.{qcow2_text};
-ghost use Rattle.qcow2_image.specs.Seen.{homes_of, layer_of, memory_of};
+ghost use Rattle.qcow2_image.specs.Seen.{layer_of, memory_of};
 ghost use Rattle.qcow2_image.specs.Rooms.{IsVacant, HasRoom, IsZeroed, IsSafe, Sees, is_sound};
 ghost use Rattle.qcow2_image.specs.Writing.{HasBegun, WhyUnwritten};
 
@@ -38,6 +38,13 @@ impl PreparedMappingState {
         self.number
     }
 
+    /// Whether it is of a mapping that an image with the number of this one has prepared.
+    pub fn belongs_to<S: Storage>(&self, image: &Qcow2<S>) -> bool
+        ensures { result ≡ (self.now.number == image.now.number) }
+    {
+        self.number == image.number
+    }
+
     /// Lets go of it. That is for a state that no image holds: one that is let go so leaves its image prepared for good.
     pub fn give_up(self) {
         let PreparedMappingState {
@@ -53,11 +60,11 @@ impl PreparedMappingState {
 /// and want of memory in a change.
 ///
 /// One that was opened for writing is written where a place has data in a host cluster of its own, which its L2 entry marks as copied:
-/// bytes go there at once, and no table changes. Where nothing is allocated for a place, a cluster is: it is reserved, filled with what the
-/// place shows, then written, and named by the L2 entry as the mapping is committed. What was reserved and is given up waits for the next
-/// allocation or flush, which frees it. What the layers below show isn't copied so far: such a place is written as a whole cluster alone,
-/// or refused, as one is whose cluster isn't copied. Zeroing and discards are declined (a chain writes zeroes then, where it may), and the
-/// size stays.
+/// bytes go there at once, and no table changes. Where a guest cluster has no data, a cluster is allocated: it is reserved, filled with
+/// what the guest cluster shows, which is copied from the layers below where they do (copy on write), then written, and named by the L2
+/// entry as the mapping is committed. What the entry named before, for zeroes or compressed, and what was reserved and is given up, waits
+/// for the next allocation or flush, which frees it. A data cluster that isn't marked as copied isn't written so far, and a compressed one
+/// only as a whole. Zeroing and discards are declined (a chain writes zeroes then, where it may), and the size stays.
 #[derive(Drop)]
 pub struct Qcow2<S: Storage> {
     pub(crate) tables: Tables<S>,
@@ -99,7 +106,7 @@ impl<S: Storage> Seen for Qcow2<S> {
 
     ghost began = { λ d call now. HasBegun S.Storage d now };
 
-    ghost own_cause = { λ d below call fault. IsSafe S.Storage d → WhyUnwritten (homes_of S.Storage d) call fault };
+    ghost own_cause = { λ d below call fault. IsSafe S.Storage d → WhyUnwritten S.Storage d below call fault };
 
     ghost growth_cause = { λ d below size mode fault. fault ≡ Unsupported };
 }

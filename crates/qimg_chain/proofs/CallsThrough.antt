@@ -1,6 +1,6 @@
 -- Calls of a driver of one kind, as calls of one of several kinds.
 use Rattle.std.proofs.Common.{◌≡◌, ◌+◌, ◌++◌, ◌∙◌, ℕ, List, refl, ap, subst}
-use Rattle.std.specs.Prelude.{Result, Ok, Err, None, OnOk, IfOk, IfErr, max}
+use Rattle.std.specs.Prelude.{Result, Ok, Err, Some, None, OnOk, IfOk, IfErr, max}
 use Rattle.imago_storage.specs.Steps.{IsIn}
 use Rattle.imago_storage.specs.declared.fault.Fault.{Fault}
 use Rattle.imago_access.specs.declared.seen.Seen.{Ghosts}
@@ -11,7 +11,7 @@ use Rattle.imago_access.specs.Chain.{at}
 use Rattle.imago_access.specs.Changes.{Asked, Prepared, Run}
 use Rattle.imago_access.specs.Files.{WasNotCutOff, files}
 use Rattle.imago_access.specs.Parts.{IsPartOf, IsUncutPart, announces, PartCause, DeclinableCause}
-use Rattle.imago_access.specs.PartCalls.{PartCall, ensures_zero, discards_to_zero, discards_to_any, discards_to_backing, LeavesPart, IsDone, DoesPart, PartGives, PartRefused}
+use Rattle.imago_access.specs.PartCalls.{IsFor, PartCall, ensures_zero, discards_to_zero, discards_to_any, discards_to_backing, LeavesPart, IsDone, DoesPart, PartGives, PartRefused}
 use Rattle.imago_access.specs.PreparingCalls.{Prepares, RunRefused, nowhere, WritesMapped, WritingRefused}
 use Rattle.imago_access.specs.ResizeCalls.{Resizes, Grows, GrowthRefused, Shrinks, ShrinkRefused}
 use Rattle.imago_access.specs.Room.{IsUncutAt}
@@ -80,13 +80,14 @@ module _ {D E St Su : Type 0} {f : D → E} {h : Ghosts E Su} {g : Ghosts D St} 
     stops = λ safe below told. stops kind a b below _ _ (PartGives call below offset n) (d.stops safe below told);
   }
 
-  pub part_refused : (offset n : ℕ) (result : Result (ℕ × ℕ) Fault) → PartRefused (through f h g) offset n result a b → PartRefused h offset n result (f a) (f b)
-  part_refused offset n result r = record {
+  pub part_refused : (part : PartCall) (offset n : ℕ) (result : Result (ℕ × ℕ) Fault) → PartRefused part (through f h g) offset n result a b
+      → PartRefused part h offset n result (f a) (f b)
+  part_refused part offset n result r = record {
     failed = r.failed;
     marks = marks kind a b result r.marks;
     cause = λ safe below.
-        begun kind a b (λ x call. IsPartOf call offset n → IfErr result (DeclinableCause below (h.layer (f a)) offset n (h.own_cause x below call) (files h (f a)) (files h (f b))))
-        (λ d call now part. r.cause safe below d call now part);
+        begun kind a b (λ x call. IsPartOf call offset n → IsFor part call → IfErr result (DeclinableCause below (h.layer (f a)) offset n (h.own_cause x below call) (files h (f a)) (files h (f b))))
+        (λ d call now inside is_for. r.cause safe below d call now inside is_for);
   }
 
   -- ---- Mappings.
@@ -97,7 +98,7 @@ module _ {D E St Su : Type 0} {f : D → E} {h : Ghosts E Su} {g : Ghosts D St} 
     failed = r.failed;
     marks = marks_over kind a b result r.marks;
     cause = λ safe sees.
-        begun kind a b (λ e call. IsUncutPart (h.layer (f a)) call asked.offset asked.length → asked.overwrite ≡ announces call
+        begun kind a b (λ e call. IsUncutPart (h.layer (f a)) call asked.offset asked.length → Some asked.overwrite ≡ announces call
         → IfErr result (PartCause (u.under x) (h.layer (f a)) asked.offset asked.length (h.own_cause e (u.under x) call) (files h (f a) ++ u.files_under x) (files h (f b) ++ u.files_under y)))
         (λ d call now part same. r.cause safe sees d call now part same);
   }

@@ -11,6 +11,7 @@ ghost use Rattle.qcow2_image.specs.HeldHomes as qcow2_homes;
 ghost use Rattle.qcow2_image.specs.ImageLayer as qcow2_layers;
 ghost use Rattle.qcow2_image.specs.Rooms as qcow2_rooms;
 ghost use Rattle.qcow2_image.specs.Unspent.{holding_in};
+ghost use Rattle.qcow2_image.specs.Writing.{begun_itself};
 ghost use Rattle.qimg_chain.specs.declared.chain.image_driver.ImageDriver.TheVariants as variant;
 
 use crate::chain::image_driver::ImageDriver;
@@ -97,7 +98,7 @@ impl<S: Storage> FormatDriverInstance for ImageDriver<S> {
     ghost begins = { elim [
       | variant.Raw d ↦ λ call. tt
       | variant.Vmdk d ↦ λ call. tt
-      | variant.Qcow2 d ↦ λ call safe. (safe, λ p at is. is)
+      | variant.Qcow2 d ↦ λ call. begun_itself S.Storage.own d
     ] };
 
     ghost free_loose = { elim [

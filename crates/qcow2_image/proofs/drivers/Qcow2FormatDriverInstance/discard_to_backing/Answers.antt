@@ -1,7 +1,8 @@
+use Rattle.imago_access.specs.PartCalls.{discards_to_backing}
 use Rattle.qcow2_image.proofs.Settling.{declined}
 use Rattle.qcow2_image.proofs.drivers.Qcow2FormatDriverInstance.discard_to_backing.Goals as goal
 
 pub returns-clause-refused : goal.returns-clause-refused
 returns-clause-refused g c =
-    declined g.row.S g.S.Storage g.S.Storage-dict g.S.Destruct-dict c.args.self.now c.args.offset c.args.length c.decline.result c.decline.ensures.mild c.decline.ensures.failed
+    declined g.row.S g.S.Storage g.S.Storage-dict g.S.Destruct-dict discards_to_backing c.args.self.now c.args.offset c.args.length c.decline.result c.decline.ensures.mild c.decline.ensures.failed
     c.decline.ensures.cause

@@ -17,7 +17,7 @@ returns-in-Raw-clause-at_once g c =
 pub returns-in-Raw-clause-refused : goal.returns-in-Raw-clause-refused
 returns-in-Raw-clause-refused g c =
     rw (c.in-Raw.is) (part_refused (raw_kind g.row.S g.S.Storage g.S.Storage-dict g.S.Destruct-dict)
-    c.in-Raw.raw c.discard_to_any.new.self _ _ _ c.discard_to_any.ensures.refused)
+    c.in-Raw.raw c.discard_to_any.new.self _ _ _ _ c.discard_to_any.ensures.refused)
 
 pub returns-in-Vmdk-clause-does : goal.returns-in-Vmdk-clause-does
 returns-in-Vmdk-clause-does g c =
@@ -32,7 +32,7 @@ returns-in-Vmdk-clause-at_once g c =
 pub returns-in-Vmdk-clause-refused : goal.returns-in-Vmdk-clause-refused
 returns-in-Vmdk-clause-refused g c =
     rw (c.in-Vmdk.is) (part_refused (vmdk_kind g.row.S g.S.Storage g.S.Storage-dict g.S.Destruct-dict)
-    c.in-Vmdk.vmdk c.discard_to_any-in-Vmdk.new.self _ _ _ c.discard_to_any-in-Vmdk.ensures.refused)
+    c.in-Vmdk.vmdk c.discard_to_any-in-Vmdk.new.self _ _ _ _ c.discard_to_any-in-Vmdk.ensures.refused)
 
 pub returns-in-Qcow2-clause-does : goal.returns-in-Qcow2-clause-does
 returns-in-Qcow2-clause-does g c =
@@ -47,4 +47,4 @@ returns-in-Qcow2-clause-at_once g c =
 pub returns-in-Qcow2-clause-refused : goal.returns-in-Qcow2-clause-refused
 returns-in-Qcow2-clause-refused g c =
     rw (c.in-Qcow2.is) (part_refused (qcow2_kind g.row.S g.S.Storage g.S.Storage-dict g.S.Destruct-dict)
-    c.in-Qcow2.qcow2 c.discard_to_any-in-Qcow2.new.self _ _ _ c.discard_to_any-in-Qcow2.ensures.refused)
+    c.in-Qcow2.qcow2 c.discard_to_any-in-Qcow2.new.self _ _ _ _ c.discard_to_any-in-Qcow2.ensures.refused)

@@ -77,7 +77,7 @@ pub returns-in-Qcow2-clause-does : goal.returns-in-Qcow2-clause-does
 returns-in-Qcow2-clause-does g c =
     let kind = qcow2_kind g.row.S g.S.Storage g.S.Storage-dict g.S.Destruct-dict in
     rw (c.in-Qcow2.is) (prepares kind
-    c.in-Qcow2.qcow2 c.prepare_data_mapping-in-Qcow2.new.self g.B.SeenBelow c.args.below.now c.prepare_data_mapping-in-Qcow2.new._below
+    c.in-Qcow2.qcow2 c.prepare_data_mapping-in-Qcow2.new.self g.B.SeenBelow c.args.below.now c.prepare_data_mapping-in-Qcow2.new.below
     (asking c.args.offset c.args.length c.args.overwrite) c.prepare_data_mapping-in-Qcow2.result c.prepare_data_mapping-in-Qcow2.result
     (same_runs kind (λ m. refl) c.prepare_data_mapping-in-Qcow2.result) c.prepare_data_mapping-in-Qcow2.ensures.does)
 

@@ -2,7 +2,7 @@ use Rattle.std.proofs.Common.{arith, refl}
 use Rattle.std.proofs.lemmas.Nat.{mod_below}
 use Rattle.qcow2_types.specs.Places.{l2_entries}
 use Rattle.qcow2_image.proofs.Ranges.{high-bits, low-bits, some-words}
-use Rattle.qcow2_image.proofs.qcow2.Qcow2.is_fresh_at.Goals as goal
+use Rattle.qcow2_image.proofs.qcow2.Qcow2.shown_at.Goals as goal
 
 pub look_up-requires-clause-one_table : goal.look_up-requires-clause-one_table
 look_up-requires-clause-one_table g c =

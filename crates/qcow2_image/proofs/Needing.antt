@@ -1,0 +1,156 @@
+-- What a call needs of the layers below, and how an image stays what it was as the call began.
+use Rattle.std.proofs.Common.{◌≡◌, ℕ, ◌+◌, ◌-◌, ◌*◌, ◌/◌, ◌%◌, ◌^◌, ◌<◌, ◌≤◌, refl, arith, ap, sym, subst, ◌∙◌, inl, inr, Some, List}
+use Rattle.std.specs.Prelude.{◌⊎◌, Bool, None, false, length, min, slice_index, true}
+use Rattle.std.proofs.lemmas.Bool.{cases_lt}
+use Rattle.std.proofs.lemmas.Nat.{div-add-mod', mod_below, pow_pos}
+use Rattle.imago_storage.specs.Disk.{Value, byte}
+use Rattle.imago_storage.specs.Causes.{offset_of, length_of}
+use Rattle.imago_storage.specs.Steps.{Call}
+use Rattle.imago_storage.specs.declared.storage.Storage.{Ghosts}
+use Rattle.imago_access.specs.Chain.{at}
+use Rattle.imago_access.specs.Changes.{Asked, Settles, TakesByte, Wrote}
+use Rattle.imago_access.specs.Layer.{Cell, Held, Layer, beside, inside, loose, own, through}
+use Rattle.imago_access.specs.Parts.{IsUncutPart, announces}
+use Rattle.imago_access.specs.Room.{IsOfUnit, IsUncutAt, IsWholeUnit}
+use Rattle.imago_access.specs.declared.seen.SeenBelow.{Ghosts as GhostsBelow}
+use Rattle.imago_access.proofs.Holding.{at_inside}
+use Rattle.qcow2_types.specs.Header.{Fields, cluster_size}
+use Rattle.qcow2_image.specs.Filling.{IsNeededFor, NeedsShown}
+use Rattle.qcow2_image.specs.Preparing.{first_part}
+use Rattle.qcow2_image.specs.Seen.{homes_of, layer_of}
+use Rattle.qcow2_image.specs.Writing.{ComesToBytes, IsNeeded, NeedsValue, Since}
+use Rattle.qcow2_image.specs.declared.qcow2.Qcow2.{Qcow2}
+
+-- Changes of places to bytes add up.
+bytes-then : (a b c : ℕ → Cell) → ComesToBytes a b → ComesToBytes b c → ComesToBytes a c
+bytes-then a b c first second p = elim (second p) [
+  | inr given ↦ inr given
+  | inl same ↦ elim (first p) [
+    | inl before ↦ inl (same ∙ before)
+    | inr given ↦ inr (given.0, same ∙ given.1)
+  ]
+]
+
+-- An image that has become another in which each place that can be written can be still, and shows what it did or a byte of its own.
+pub since-as : {S : Type 0} (g : Ghosts S) (d old new : Qcow2 S g) → ((p : ℕ) (at : ℕ × ℕ) → homes_of g old p ≡ Some at → homes_of g new p ≡ Some at)
+    → ComesToBytes (layer_of g old).cell (layer_of g new).cell
+    → new.tables.file.header.fields.size ≡ old.tables.file.header.fields.size
+    → new.tables.file.header.fields.cluster_bits ≡ old.tables.file.header.fields.cluster_bits → Since g d old → Since g d new
+since-as g d old new homes cells size bits since = record {
+  homes = λ p at is. homes p at (since.homes p at is);
+  cells = bytes-then (layer_of g d).cell (layer_of g old).cell (layer_of g new).cell since.cells cells;
+  size = size ∙ since.size;
+  bits = bits ∙ since.bits;
+}
+
+-- A place shows what it did, or a byte, behind a commit,
+pub settles-byte : (h : Held) (was is : Cell) → Settles h was is → (is ≡ was) ⊎ ((b : ℕ) × (is ≡ own (byte b)))
+settles-byte loose was is done = inl done
+settles-byte (beside b) was is done = inr (b, done)
+settles-byte (inside copied (Some b) announced) was is done = inr (b, done)
+settles-byte (inside (Some b) None announced) was is done = inr (b, done)
+settles-byte (inside None None true) was is done = elim done [
+  | inl same ↦ inl same
+  | inr any ↦ inr (any.1.0, any.2 ∙ ap (λ (v : Value). own v) any.1.2)
+]
+settles-byte (inside None None false) was is done = inl done
+
+takes-byte : (b : ℕ) (h h' : Held) (was is : Cell) → TakesByte b h was h' is → (is ≡ was) ⊎ ((x : ℕ) × (is ≡ own (byte x)))
+takes-byte b loose h' was is done = inr (b, done.0)
+takes-byte b (beside x) h' was is done = inr (b, done.0)
+takes-byte b (inside copied written announced) h' was is done = inl done.0
+
+-- and behind a write.
+pub wrote-byte : (old new : Layer) (guest : ℕ) (bytes : List ℕ) → Wrote old new guest bytes → ComesToBytes old.cell new.cell
+wrote-byte old new guest bytes w p = elim (cases_lt p guest) [
+  | inl before ↦ inl (w.others p (inl before)).0
+  | inr low ↦ elim (cases_lt p (guest + length bytes)) [
+    | inl high ↦
+        let i : ℕ = p - guest in
+        let at : guest + (p - guest) ≡ p = omega (arith, low) in
+        let less : p - guest < length bytes = omega (arith, low, high) in
+        subst (λ (q : ℕ). (new.cell q ≡ old.cell q) ⊎ ((x : ℕ) × (new.cell q ≡ own (byte x)))) at
+        (takes-byte (slice_index bytes i) (old.held (guest + i)) (new.held (guest + i)) (old.cell (guest + i)) (new.cell (guest + i)) (w.range i less))
+    | inr behind ↦ inl (w.others p (inr behind)).0
+  ]
+]
+
+-- The clusters of a range, by their size.
+module _ (c size offset n : ℕ) (one : 0 < c) (some : 0 < n) (inside : offset + n ≤ size) where
+  abbrev unit : ℕ
+  unit = offset / c
+
+  -- A place in the cluster of another is of that unit.
+  of-unit : (p : ℕ) → p / c ≡ unit → p < size → IsOfUnit c size unit p
+  of-unit p same on =
+      let here : p / c * c ≡ unit * c = ap (λ (x : ℕ). x * c) same in
+      let rest : p % c < c = mod_below p c one in
+      let split = div-add-mod' p c in
+      record { start = omega (arith, here, split); end = omega (arith, here, split, rest); on_disk = on }
+
+  first-of : IsOfUnit c size unit offset
+  first-of = of-unit offset refl (omega (arith, some, inside))
+
+  -- Where a call covers the first cluster whole, so does a range that cuts none such, and its part in that cluster.
+  whole-part : (start length : ℕ) → IsUncutAt c size start length offset → IsUncutAt c size start length (offset + n)
+      → IsWholeUnit c size start length unit → IsWholeUnit c size offset (min n (c - offset % c)) unit
+  whole-part start length uncut-start uncut-end whole =
+      let split = div-add-mod' offset c in
+      let rest : offset % c < c = mod_below offset c one in
+      let first = first-of in
+      let begins : offset ≤ unit * c = elim (uncut-start unit whole) [
+        | inl is ↦ is
+        | inr past ↦ absurd (omega (arith, past, first.end, first.on_disk))
+      ] in
+      let ends : min (unit * c + c) size ≤ offset + n = elim (uncut-end unit whole) [
+        | inl before ↦ absurd (omega (arith, before, first.start, some))
+        | inr is ↦ is
+      ] in
+      record { start = begins; on_disk = whole.on_disk; end = omega (arith, begins, ends, split, rest) }
+
+some-true : (b : Bool) → Some b ≡ Some true → b ≡ true
+some-true b is = cc is
+
+-- A place that is needed for a part of a range is needed by the call that the range is a part of: it shows what it did as that began.
+module _ {S : Type 0} (g : Ghosts S) (old d : Qcow2 S g) (since : Since g d old) (below : List Layer) (asked : Asked) (call : Call)
+    (some : 0 < asked.length) (inside : asked.offset + asked.length ≤ old.tables.file.header.fields.size)
+    (uncut : IsUncutPart (layer_of g old) call asked.offset asked.length) (same : Some asked.overwrite ≡ announces call) where
+  abbrev h : Fields
+  h = old.tables.file.header.fields
+
+  abbrev c : ℕ
+  c = cluster_size h
+
+  one : 0 < c
+  one = pow_pos h.cluster_bits
+
+  needed : (p : ℕ) → IsNeededFor h (first_part h asked) p → IsNeeded c h.size call p
+  needed p n = record {
+    cluster = asked.offset / c;
+    here = of-unit c h.size asked.offset asked.length one some inside p n.first.0 n.first.1;
+    met = asked.offset;
+    in_range = (uncut.part.start, omega (arith, some, uncut.part.end));
+    there = first-of c h.size asked.offset asked.length one some inside;
+    part = λ announced whole. n.part (some-true asked.overwrite (same ∙ announced))
+        (whole-part c h.size asked.offset asked.length one some inside (offset_of call) (length_of call) uncut.start uncut.end whole);
+  }
+
+  -- it shows the same, where that is no byte
+  shown-since : (value : Value) → ((b : ℕ) → byte b ≡ value → ⊥) → (p : ℕ) → through ((layer_of g old).cell p) (at below p) ≡ value
+      → through ((layer_of g d).cell p) (at below p) ≡ value
+  shown-since value none p shows = elim (since.cells p) [
+    | inl same ↦ ap (λ (x : Cell). through x (at below p)) (sym same) ∙ shows
+    | inr given ↦ absurd (none given.0 (sym (ap (λ (x : Cell). through x (at below p)) given.1) ∙ shows))
+  ]
+
+  pub needs-shown : {B : Type 0} (u : GhostsBelow B) (x : B) → below ≡ u.under x → (value : Value) → ((b : ℕ) → byte b ≡ value → ⊥)
+      → NeedsShown g u (first_part h asked) (old, x) value → NeedsValue g d below call value
+  needs-shown u x is value none which =
+      let p : ℕ = which.0 in
+      let n = which.1 in
+      let here : IsNeeded (cluster_size d.tables.file.header.fields) d.tables.file.header.fields.size call p =
+      subst (λ (b : ℕ). IsNeeded (2 ^ b) d.tables.file.header.fields.size call p) since.bits
+      (subst (λ (s : ℕ). IsNeeded c s call p) since.size (needed p n)) in
+      let on : p < d.tables.file.header.fields.size = subst (λ (s : ℕ). p < s) since.size n.first.1 in
+      let shows : through ((layer_of g old).cell p) (at below p) ≡ value = ap (λ (l : List Layer). through ((layer_of g old).cell p) (at l p)) is ∙ which.2 in
+      (p, here, at_inside (layer_of g d) below p on ∙ shown-since value none p shows)

@@ -1,0 +1,106 @@
+-- How the content of a host cluster is made for a guest cluster that has no data in the file.
+use Rattle.std.specs.Prelude.{◌≡◌, ◌⊎◌, ⊤, ℕ, ◌+◌, ◌-◌, ◌*◌, ◌/◌, ◌%◌, ◌^◌, ◌<◌, ◌≤◌, List, length, min, slice_index, Result, IfOk, IfErr, OnOk, IsErrOf, IsTrue, Vec}
+use Rattle.std.specs.declared.alloc.Global.{Global}
+use Rattle.imago_storage.specs.Disk.{Value, barred, byte, damaged_place}
+use Rattle.imago_storage.specs.Steps.{IsOut}
+use Rattle.imago_storage.specs.declared.fault.Fault.{Fault}
+use Rattle.imago_storage.specs.declared.fault.Fault.TheVariants.{Barred, DamagedTable, Failed, Memory, MissingData, RangeOverflow, Storage}
+use Rattle.imago_storage.specs.declared.storage.Storage.{Ghosts}
+use Rattle.imago_access.specs.Chain.{at, unit_of_chain}
+use Rattle.imago_access.specs.Changes.{Asked, IsCopied}
+use Rattle.imago_access.specs.Files.{ImageCause, SomeRose, WasNotCutOff}
+use Rattle.imago_access.specs.Going.{LookedUnder}
+use Rattle.imago_access.specs.Layer.{through}
+use Rattle.imago_access.specs.Refusals.{ReadCause, SomeUnusable}
+use Rattle.imago_access.specs.Room.{IsWholeUnit}
+use Rattle.imago_access.specs.declared.seen.SeenBelow.{Ghosts as GhostsBelow}
+use Rattle.qcow2_types.specs.Entries.{entry}
+use Rattle.qcow2_types.specs.Header.{Fields, cluster_size}
+use Rattle.qcow2_image.specs.Allocating.{WhyNotReserved, shown_cell}
+use Rattle.qcow2_image.specs.Holding.{IsUncopied}
+use Rattle.qcow2_image.specs.Rooms.{IsSafe}
+use Rattle.qcow2_image.specs.Seen.{file_of, layer_of}
+use Rattle.qcow2_image.specs.Steps.{KeepsImage}
+use Rattle.qcow2_image.specs.declared.allocating.Shown.{Shown}
+use Rattle.qcow2_image.specs.declared.qcow2.Qcow2.{Qcow2}
+
+-- a place that isn't going to be written for sure
+abbrev pub IsLeft : Asked → ℕ → Type 0
+IsLeft asked p = IsTrue asked.overwrite → IsOut asked.offset asked.length p
+
+-- a place of the disk in the guest cluster in which a range begins
+abbrev pub IsInFirst : Fields → Asked → ℕ → Type 0
+IsInFirst h asked p = (p / cluster_size h ≡ asked.offset / cluster_size h) × (p < h.size)
+
+-- where the places of the disk in the guest cluster of one of them begin, and where they end
+abbrev pub first_places : Fields → ℕ → ℕ × ℕ
+first_places h offset = let start = offset / cluster_size h * cluster_size h in (start, min (start + cluster_size h) h.size)
+
+-- The part that is copied of the places from one to another: all of them, but for what is going to be written where they begin or end.
+pub record CopiesPart (start end : ℕ) (asked : Asked) (part : ℕ × ℕ) : Type 0 where
+  pub low : start ≤ part.0
+  pub order : part.0 ≤ part.1
+  pub high : part.1 ≤ end
+  pub all : (p : ℕ) → start ≤ p → p < end → IsLeft asked p → (part.0 ≤ p) × (p < part.1)
+  pub none : IsTrue asked.overwrite → asked.offset ≤ start → end ≤ asked.offset + asked.length → part.0 ≡ part.1
+
+-- what the places of a guest cluster show, over the layers below
+abbrev pub shown_over : {B : Type 0} → GhostsBelow B → Shown → B → ℕ → Value
+shown_over u shown below p = through (shown_cell shown) (at (u.under below) p)
+
+-- Bytes that begin at a place, zeroes at first, come to be what the places of a part show, as those of a guest cluster do.
+pub record CopiesShown {B : Type 0} (u : GhostsBelow B) (shown : Shown) (start : ℕ) (part : ℕ × ℕ) (old : List ℕ × B)
+    (result : Result Unit Fault) (new : List ℕ × B) : Type 0 where
+  pub looked : LookedUnder u (WasNotCutOff result) old.1 new.1
+  pub long : length new.0 ≡ length old.0
+  pub shows : OnOk result (u.sees_under old.1
+      → (p : ℕ) → part.0 ≤ p → p < part.1 → shown_over u shown old.1 p ≡ byte (slice_index new.0 (p - start)))
+  pub failed : IfErr result (ImageCause (u.files_under old.1) (u.files_under new.1))
+  pub cause : u.sees_under old.1 → IfErr result (ReadCause (u.under old.1) (shown_over u shown old.1) (unit_of_chain (u.under old.1))
+      part.0 (part.1 - part.0) (u.files_under old.1) (u.files_under new.1))
+  pub near : u.sees_under old.1 → part.1 ≤ 2 ^ 63 → IsErrOf result RangeOverflow → ⊥
+
+-- The content of a host cluster for a part of a guest cluster: each place has the byte that it shows, unless it is going to be written.
+pub record Fills {S B : Type 0} (g : Ghosts S) (u : GhostsBelow B) (asked : Asked) (old : Qcow2 S g × B) (content : List ℕ)
+    : Type 0 where
+  pub long : length content ≡ cluster_size old.0.tables.file.header.fields
+  pub uncopied : IsSafe g old.0 → let h = old.0.tables.file.header.fields in
+      IsUncopied (entry (file_of g old.0.tables) h (asked.offset / cluster_size h))
+  pub shows : IsSafe g old.0 → u.sees_under old.1 → let h = old.0.tables.file.header.fields in
+      (p : ℕ) → IsInFirst h asked p → IsLeft asked p
+      → IsCopied (at (u.under old.1)) (layer_of g old.0) p (slice_index content (p % cluster_size h))
+
+-- What a place shows is needed for a part of a guest cluster: the part isn't all of that which is going to be written.
+pub record IsNeededFor (h : Fields) (asked : Asked) (p : ℕ) : Type 0 where
+  pub first : IsInFirst h asked p
+  pub part : IsTrue asked.overwrite → IsWholeUnit (cluster_size h) h.size asked.offset asked.length (asked.offset / cluster_size h) → ⊥
+
+-- a place that is needed shows this
+abbrev pub NeedsShown : {S B : Type 0} (g : Ghosts S) → GhostsBelow B → Asked → Qcow2 S g × B → Value → Type 0
+NeedsShown g u asked old value = (p : ℕ) × IsNeededFor old.0.tables.file.header.fields asked p
+    × (through ((layer_of g old.0).cell p) (at (u.under old.1) p) ≡ value)
+
+-- Why the places that are needed aren't read.
+abbrev pub WhyNotCopied : {S B : Type 0} (g : Ghosts S) → GhostsBelow B → Asked → Qcow2 S g × B → B → Fault → Type 0
+WhyNotCopied g u asked old now Failed = SomeUnusable (u.under old.1) Failed
+WhyNotCopied g u asked old now MissingData = SomeUnusable (u.under old.1) MissingData
+WhyNotCopied g u asked old now DamagedTable = NeedsShown g u asked old damaged_place
+WhyNotCopied g u asked old now Barred = NeedsShown g u asked old barred
+WhyNotCopied g u asked old now Memory = ⊤
+WhyNotCopied g u asked old now Storage = SomeRose (u.files_under old.1) (u.files_under now)
+WhyNotCopied g u asked old now fault = ⊥
+
+-- A refusal by what the guest cluster shows.
+pub record RefusesCopy {S B : Type 0} (g : Ghosts S) (u : GhostsBelow B) (asked : Asked) (old : Qcow2 S g × B) (now : B) (fault : Fault)
+    : Type 0 where
+  pub failed : ImageCause (u.files_under old.1) (u.files_under now) fault
+  pub cause : IsSafe g old.0 → u.sees_under old.1 → WhyNotCopied g u asked old now fault
+
+-- The content is made, of what the layers below show, or that is refused: the image is left as a lookup leaves it. Any storage's fault
+-- marks it as failed, also one of the layers below.
+pub record MakesContent {S B : Type 0} (g : Ghosts S) (u : GhostsBelow B) (asked : Asked) (old : Qcow2 S g × B)
+    (result : Result (Vec ℕ Global) Fault) (new : Qcow2 S g × B) : Type 0 where
+  pub below : LookedUnder u (WasNotCutOff result) old.1 new.1
+  pub keeps : KeepsImage g old.0 result new.0
+  pub ok : IfOk result (λ content. Fills g u asked old content.items)
+  pub err : IfErr result (λ e. WhyNotReserved g old.0 new.0 e ⊎ RefusesCopy g u asked old new.1 e)

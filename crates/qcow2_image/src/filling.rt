@@ -1,0 +1,124 @@
+// The content of host clusters for guest clusters that have no data in the file: what they show, copied from the layers below where these
+// show.
+ghost use Rattle.std.specs.Prelude.{◌≡◌, ◌<◌, ◌≤◌, ◌+◌, ◌-◌, ◌%◌, false, length, replicate, IfOk, IfErr};
+ghost use Rattle.imago_access.specs.Changes.{asking};
+ghost use Rattle.imago_access.specs.declared.seen.SeenBelow.{Ghosts as BelowGhosts};
+ghost use Rattle.qcow2_types.specs.Header.{cluster_size};
+ghost use Rattle.qcow2_image.specs.Filling.{CopiesPart, CopiesShown, MakesContent, first_places};
+
+use crate::allocating::Shown;
+use crate::qcow2::Qcow2;
+use imago_access::{ReadBelow, SeenBelow};
+use imago_storage::{Fault, Storage};
+use qcow2_types::GuestOffset;
+use std::alloc::Global;
+
+// So many zeroes.
+fn zeroes(alloc: Global, count: usize) -> Result<Vec<u8>, Fault>
+    ensures ok { IfOk result (λ bytes. bytes.items ≡ replicate count 0) }
+    ensures err { IfErr result (λ e. e ≡ Fault.Memory) }
+{
+    Ok(vec![in alloc; 0u8; count]?)
+}
+
+// The part that is copied of the places from one to another: all of them, but for a range that is going to be written where they begin or
+// end.
+fn copied_part(start: u64, end: u64, offset: u64, length: u64, overwrite: bool) -> (u64, u64)
+    requires low { start ≤ offset }
+    requires high { offset + length ≤ end }
+    ensures { CopiesPart start end (asking offset length overwrite) result }
+{
+    if overwrite && offset == start {
+        (offset + length, end)
+    } else if overwrite && offset + length == end {
+        (start, offset)
+    } else {
+        (start, end)
+    }
+}
+
+// Has bytes that begin at a place, zeroes so far, be what the places of a part show, as those of a guest cluster do.
+fn copy_shown<B: ReadBelow>(
+    alloc: Global,
+    below: &mut B,
+    shown: Shown,
+    content: &mut [u8],
+    start: u64,
+    part: (u64, u64),
+) -> Result<(), Fault>
+    requires low { start ≤ part.0 }
+    requires order { part.0 ≤ part.1 }
+    requires fits { part.1 - start ≤ length content.old }
+    requires zero { content.old ≡ replicate (length content.old) 0 }
+    ensures { CopiesShown B.SeenBelow shown start part (content.old, below.old) result (content.new, below.new) }
+{
+    let (first, end) = part;
+    if first == end {
+        return Ok(());
+    }
+    match shown {
+        Shown::Zeroes => Ok(()),
+        Shown::Barred => Err(Fault::Barred),
+        Shown::Below => {
+            let from = (first - start) as usize;
+            let to = (end - start) as usize;
+            below.read(alloc, &mut content[from..to], first)
+        }
+    }
+}
+
+impl<S: Storage> Qcow2<S> {
+    // The places of the disk in the guest cluster of one of them: where they begin, and where they end.
+    fn first_places(&self, offset: u64) -> (u64, u64)
+        requires inside { offset < self.now.tables.file.header.fields.size }
+        ensures { result ≡ first_places self.now.tables.file.header.fields offset }
+    {
+        let cluster_bits = self.tables.file.header.cluster_bits();
+        let start = GuestOffset(offset)
+            .cluster(cluster_bits)
+            .offset(cluster_bits)
+            .0;
+        let rest = self.tables.file.header.size() - start;
+        let count = rest.min(self.tables.file.header.cluster_size() as u64);
+        (start, start + count)
+    }
+
+    // The content of a host cluster for a part of a guest cluster that has no data in the file: what that shows. It is refused with the
+    // offset where it has some.
+    pub(crate) fn content_for<B: ReadBelow>(
+        &mut self,
+        alloc: Global,
+        below: &mut B,
+        offset: u64,
+        length: u64,
+        overwrite: bool,
+    ) -> Result<Vec<u8>, Fault>
+        requires inside { offset + length ≤ self.old.tables.file.header.fields.size }
+        requires row { let c = cluster_size self.old.tables.file.header.fields in length ≤ c - offset % c }
+        requires some { 0 < length }
+        requires runs { self.old.failed ≡ false }
+        ensures { MakesContent S.Storage B.SeenBelow (asking offset length overwrite) (self.old, below.old) result (self.new, below.new) }
+    {
+        let cluster_bits = self.tables.file.header.cluster_bits();
+        let guest = GuestOffset(offset).cluster(cluster_bits);
+        let shown = match self.shown_at(guest) {
+            Ok(Some(shown)) => shown,
+            Ok(None) => return Err(Fault::Limit(offset)),
+            Err(fault) => return Err(fault),
+        };
+        let size = self.tables.file.header.cluster_size();
+        let mut content = match zeroes(alloc, size) {
+            Ok(content) => content,
+            Err(fault) => return Err(fault),
+        };
+        let (start, end) = self.first_places(offset);
+        let part = copied_part(start, end, offset, length, overwrite);
+        match copy_shown(alloc, below, shown, &mut content, start, part) {
+            Ok(()) => Ok(content),
+            Err(fault) => {
+                self.mark(fault);
+                Err(fault)
+            }
+        }
+    }
+}
