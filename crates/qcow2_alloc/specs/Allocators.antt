@@ -1,5 +1,5 @@
 -- What contracts see of an allocator, how cached blocks and L2 tables are used, and how a counter of a block is read or changed.
-use Rattle.std.specs.Prelude.{◌≡◌, ◌⊎◌, ℕ, ◌-◌, ◌/◌, ◌%◌, ◌<◌, ◌≤◌, ◌^◌, Option, Some, None, Result, Ok, Err, MatchOption, IfErr, IfOk, nat_eq, if◌then◌else◌, ◌==◌, List, slice_index, length}
+use Rattle.std.specs.Prelude.{◌≡◌, ◌⊎◌, ℕ, ◌-◌, ◌/◌, ◌%◌, ◌<◌, ◌≤◌, ◌^◌, Option, Some, None, Result, Ok, Err, MatchOption, IfErr, IfOk, OnOk, nat_eq, if◌then◌else◌, ◌==◌, List, slice_index, length}
 use Rattle.std.specs.Option.{option_map}
 use Rattle.std.specs.Map.{lookup}
 use Rattle.imago_storage.specs.State.{StorageState}
@@ -11,7 +11,7 @@ use Rattle.qcow2_types.specs.Header.{Fields, cluster_size, refcount_table_entrie
 use Rattle.qcow2_types.specs.Counts.{counters_of_block}
 use Rattle.qcow2_types.specs.Words.{block_offset, max_offset}
 use Rattle.qcow2_types.specs.Pending.{FreeEntry}
-use Rattle.qcow2_metadata.specs.Tables.{TableValue, WhyNotLoaded, block_words, words_in, table_in}
+use Rattle.qcow2_metadata.specs.Tables.{TableValue, AreSound, WhyNotLoaded, block_words, words_in, table_in}
 use Rattle.qcow2_metadata.specs.Blocks.{Block, with_counter}
 use Rattle.qcow2_alloc.specs.declared.allocation.Allocator.{Allocator}
 use Rattle.qcow2_alloc.specs.declared.cache.MetadataCaches.{MetadataCaches}
@@ -90,9 +90,12 @@ pub record IsTablePlaced (h : Fields) : Type 0 where
   pub aligned : h.refcount_table_offset % cluster_size h ≡ 0
   pub reach : h.refcount_table_offset ≤ max_offset
 
--- An allocator was loaded: its table is the file's, and of a consistent image names the blocks that the file's does.
+-- An allocator was loaded: its table is the file's, each word of which has a meaning, and of a consistent image names the blocks that the
+-- file's does.
 pub record LoadsAllocator (old : StorageState) (h : Fields) (result : Result Allocator Fault) (new : StorageState) : Type 0 where
   pub ok : IfOk result (λ a. IsTablePlaced h × (table_of a ≡ table_in (bytes_of old.bytes) h (h.refcount_table_offset / cluster_size h) (refcount_table_entries h)) × (mark_of a ≡ 0))
+  pub sound : OnOk result (AreSound block_words (layout_of h)
+      (words_in (bytes_of old.bytes) h.refcount_table_offset (refcount_table_entries h)))
   pub table : IfOk result (λ a. 0 < refcount_table_entries h → IsTableOf (bytes_of old.bytes) h (table_of a))
   pub out : (IsTablePlaced h → ⊥) → (result ≡ Err DamagedTable) × (new ≡ old)
   pub err : IsTablePlaced h → IfErr result (WhyNotLoaded block_words (layout_of h) (words_in (bytes_of old.bytes) h.refcount_table_offset (refcount_table_entries h)) old.faults new.faults)

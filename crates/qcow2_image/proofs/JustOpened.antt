@@ -1,6 +1,6 @@
 -- What is in memory of an image right after it was opened.
-use Rattle.std.proofs.Common.{◌≡◌, ℕ, ◌≤◌, refl, sym, subst, ap, [], false, Ok, None}
-use Rattle.std.specs.Prelude.{Bool, IsTrue, IsSome}
+use Rattle.std.proofs.Common.{◌≡◌, ℕ, ◌≤◌, refl, sym, subst, ap, [], List, false, Ok, Option, Some, None}
+use Rattle.std.specs.Prelude.{Bool, IfSome, IsTrue, IsSome}
 use Rattle.std.specs.List.{AllByRecursion}
 use Rattle.std.proofs.Math.Nat.{le_refl}
 use Rattle.imago_storage.specs.State.{StorageState}
@@ -9,33 +9,39 @@ use Rattle.imago_access.specs.Files.{IsKept}
 use Rattle.imago_access.specs.Stops.{IsMeant}
 use Rattle.qcow2_types.specs.Bytes.{Bytes, bytes_of}
 use Rattle.qcow2_types.specs.Header.{Fields, Header, header_of, has_external_data}
-use Rattle.qcow2_types.specs.Consistency.{Consistent, leaks}
+use Rattle.qcow2_types.specs.Consistency.{Consistent, IsConsistent, leaks}
 use Rattle.qcow2_types.specs.Over.{over}
+use Rattle.qcow2_types.specs.Pending.{FreeEntry}
+use Rattle.qcow2_alloc.specs.Allocators.{LoadsAllocator}
 use Rattle.qcow2_alloc.specs.Caches.{cached_in, order_of}
 use Rattle.qcow2_alloc.specs.Memory.{Cached, memory}
 use Rattle.qcow2_alloc.specs.Opening.{IsL1Of}
+use Rattle.qcow2_alloc.specs.Quiet.{IsSound}
 use Rattle.qcow2_alloc.specs.Safety.{AreTablesClean, AreBlocksClean}
-use Rattle.qcow2_alloc.proofs.Growth.LoadingTable.{verdict-consistent}
+use Rattle.qcow2_alloc.proofs.Growth.LoadingTable.{opened-sound, verdict-consistent}
 use Rattle.qcow2_alloc.specs.declared.cache.CacheDependency.TheVariants.{Unset}
+use Rattle.qcow2_clusters.specs.declared.space.Space.{Space}
 use Rattle.qcow2_image.specs.Seen.{IsOfFile, file_of, memory_of}
 use Rattle.qcow2_image.specs.ImageLayer.{qcow2_layer, meaning_of, blank_of}
-use Rattle.qcow2_image.specs.Rooms.{IsSafe}
-use Rattle.qcow2_image.specs.Opening.{IsJustOpened, is_qcow2}
+use Rattle.qcow2_image.specs.Rooms.{IsSafe, rest_of}
+use Rattle.qcow2_image.specs.Opening.{IsJustOpened, IsSpaceOpened, header_for, is_qcow2}
 use Rattle.qcow2_image.specs.Unspent.{holding_in}
 use Rattle.qcow2_image.specs.declared.qcow2.Qcow2.{Qcow2}
 use Rattle.qcow2_image.specs.declared.tables.Tables.{Tables}
-use Rattle.qcow2_image.proofs.OpeningRules.{none-refused, reads-too}
+use Rattle.qcow2_image.proofs.OpeningRules.{reads-too}
 use Rattle.qcow2_image.proofs.Probing.{header-begins}
 
 module _ {S : Type 0} (g : Ghosts S) (before : StorageState) (writable : Bool) (l2_tables refcount_blocks : ℕ) (t : Tables S g) (same : g.state t.file.image ≡ before)
     (loads : header_of writable (bytes_of before.bytes) ≡ Ok t.file.header) (inside : has_external_data t.file.header.fields ≡ false) (l1 : IsL1Of (bytes_of before.bytes) t.file.header.fields t.l1)
-    (empty : cached_in t.caches ≡ record { tables = []; blocks = [] }) (unordered : order_of t.caches ≡ Unset) (spaceless : t.space ≡ None)
+    (allowed : header_for writable (bytes_of before.bytes) ≡ Ok t.file.header)
+    (empty : cached_in t.caches ≡ record { tables = []; blocks = [] }) (unordered : order_of t.caches ≡ Unset)
+    (space : IsSpaceOpened before t.file.header.fields writable t.space)
     (tables : t.caches.l2.slots.cap ≡ l2_tables) (blocks : t.caches.rb.slots.cap ≡ refcount_blocks) where
   -- The metadata, by what was loaded of the file.
   pub just-opened : IsJustOpened g before writable l2_tables refcount_blocks t
   just-opened = record {
     same = same;
-    allowed = none-refused writable (bytes_of before.bytes) t.file.header loads inside l1.sound;
+    allowed = allowed;
     seen = record {
       loads = subst (λ (s : StorageState). header_of false (bytes_of s.bytes) ≡ Ok t.file.header) (sym same)
           (reads-too writable (bytes_of before.bytes) t.file.header loads);
@@ -45,7 +51,7 @@ module _ {S : Type 0} (g : Ghosts S) (before : StorageState) (writable : Bool) (
     };
     empty = empty;
     unordered = unordered;
-    spaceless = spaceless;
+    space = space;
     tables = tables;
     blocks = blocks;
   }
@@ -81,13 +87,25 @@ module _ {S : Type 0} (g : Ghosts S) (before : StorageState) (writable : Bool) (
   opened-still = subst (λ (c : Cached). AreTablesClean c × AreBlocksClean c) (sym now.empty) (tt, tt)
 
   -- and which is safe where the file is consistent, by whatever header.
+  module _ (sound : Consistent (bytes_of state.bytes)) where
+    consistent : IsConsistent (bytes_of state.bytes) H
+    consistent = verdict-consistent (bytes_of state.bytes) (leaks (bytes_of state.bytes) sound.0.fields) false H (sound.0, sound.1, refl)
+        now.seen.loads
+
+    sound-space : (o : Option Space) → IsSpaceOpened before H.fields writable o → IfSome o (λ space. IsSound (rest_of g d.tables space))
+    sound-space None opened = tt
+    sound-space (Some space) opened =
+        let loads = subst (λ (s : StorageState). LoadsAllocator s H.fields (Ok space.allocator) s) (sym now.same) opened.loads in
+        subst (λ (es : List FreeEntry). IsSound (record (rest_of g d.tables space) { pending = es })) (sym opened.idle)
+        (opened-sound (bytes_of state.bytes) H consistent state state space.allocator refl loads)
+
   pub opened-safe : d.failed ≡ false → d.unspent ≡ None → IsTrue state.shape.keeps → Consistent (bytes_of state.bytes) → IsSafe g d
   opened-safe runs free keeps sound = record {
     runs = runs;
     keeps = keeps;
-    consistent = verdict-consistent (bytes_of state.bytes) (leaks (bytes_of state.bytes) sound.0.fields) false H (sound.0, sound.1, refl) now.seen.loads;
+    consistent = consistent sound;
     seen = now.seen;
-    sound = rw now.spaceless tt;
+    sound = sound-space sound d.tables.space now.space;
     held = rw free tt;
     writable = λ some. absurd (Prim.cc (subst IsSome free some));
   }

@@ -1,14 +1,16 @@
 -- Which rule keeps a file from being opened, and what is loaded where none does.
 use Rattle.std.proofs.Common.{◌≡◌, ◌≢◌, ℕ, ◌*◌, ◌/◌, ◌<◌, ◌≤◌, refl, arith, ap, sym, subst, ◌∙◌, Bool, true, false, Result, Ok, Err, List, [], ◌∷◌, length, inl, inr}
-use Rattle.std.specs.Prelude.{⊤, not, slice_index}
+use Rattle.std.specs.Prelude.{⊤, not, ◌&&◌, slice_index}
+use Rattle.std.proofs.Math.Nat.{div-add-mod}
 use Rattle.std.proofs.lemmas.Bool.{cases_Bool}
 use Rattle.imago_storage.specs.State.{StorageState}
 use Rattle.imago_storage.specs.declared.fault.Fault.{Fault}
 use Rattle.imago_storage.specs.declared.fault.Fault.TheVariants.{Memory, Storage, Unsupported, DamagedTable, Limit}
 use Rattle.imago_storage.proofs.Failing.{may-fail}
-use Rattle.qcow2_types.specs.Bytes.{Bytes, word}
-use Rattle.qcow2_types.specs.Words.{l1_word_sound, max_offset}
-use Rattle.qcow2_types.specs.Header.{Header, Limited, first_fault, header_of, has_external_data, cluster_size, layout_of, ◌and-then◌, ◌>>=◌}
+use Rattle.qcow2_types.specs.Bytes.{Bytes, all_below, bytes_of, word}
+use Rattle.qcow2_types.specs.Words.{Layout, l1_word_sound, max_offset}
+use Rattle.qcow2_types.specs.Counts.{refcount_table_sound}
+use Rattle.qcow2_types.specs.Header.{Header, Limited, refcount_table_entries, first_fault, header_of, has_external_data, cluster_size, layout_of, ◌and-then◌, ◌>>=◌}
 use Rattle.qcow2_types.specs.Entries.{l1_table_sound}
 use Rattle.qcow2_types.proofs.Bounded.{all-below}
 use Rattle.qcow2_types.proofs.Consistent.{header-reading}
@@ -17,10 +19,12 @@ use Rattle.qcow2_types.proofs.Sound.{all-below-holds}
 use Rattle.qcow2_types.proofs.WriteBack.{place-near, place-whole}
 use Rattle.qcow2_metadata.specs.Loading.{NotLoaded}
 use Rattle.qcow2_metadata.specs.Places.{IsInReach}
-use Rattle.qcow2_metadata.specs.Tables.{TableValue, AreSound, HasUnsound, WhyNotLoaded, l1_words, table_in, words_in}
+use Rattle.qcow2_metadata.specs.Tables.{TableValue, Kind, AreSound, HasUnsound, WhyNotLoaded, block_words, l1_words, table_in, word_sound, words_in}
 use Rattle.qcow2_metadata.proofs.Refusals.{IsRefusal, header-refusal}
 use Rattle.qcow2_metadata.proofs.TableFacts.{words_long, words_at}
+use Rattle.qcow2_alloc.specs.Allocators.{IsTablePlaced, LoadsAllocator}
 use Rattle.qcow2_alloc.specs.Opening.{IsL1Of}
+use Rattle.qcow2_alloc.specs.declared.allocation.Allocator.{Allocator}
 use Rattle.qcow2_image.specs.Opening.{WhyNotOpened, header_for, rules_of_opening}
 
 -- the refusals of a header by its bytes, and of an L1 table
@@ -36,24 +40,51 @@ one-of : (fault : Fault) → IsRefusal fault → IsReadingRefusal fault
 one-of DamagedTable is = tt
 one-of fault is = is
 
-only-reading : (f : Bytes) (r : Result Header Fault) → ((fault : Fault) → r ≡ Err fault → IsRefusal fault) → OnlyReading (r >>= λ H. first_fault (rules_of_opening f H.fields) and-then Ok H)
-only-reading f (Err fault) only = one-of fault (only fault refl)
-only-reading f (Ok H) only = from (has_external_data H.fields) (l1_table_sound f H.fields) where
-  from : (external sound : Bool) → OnlyReading (first_fault ((external, Unsupported) ∷ (not sound, DamagedTable) ∷ []) and-then Ok H)
-  from true sound = tt
-  from false false = tt
-  from false true = tt
+only-reading : (writable : Bool) (f : Bytes) (r : Result Header Fault) → ((fault : Fault) → r ≡ Err fault → IsRefusal fault)
+    → OnlyReading (r >>= λ H. first_fault (rules_of_opening writable f H.fields) and-then Ok H)
+only-reading writable f (Err fault) only = one-of fault (only fault refl)
+only-reading writable f (Ok H) only =
+    from (has_external_data H.fields) (l1_table_sound f H.fields) (writable && not (refcount_table_sound f H.fields)) where
+      from : (external sound bad : Bool)
+          → OnlyReading (first_fault ((external, Unsupported) ∷ (not sound, DamagedTable) ∷ (bad, DamagedTable) ∷ []) and-then Ok H)
+      from true sound bad = tt
+      from false false bad = tt
+      from false true true = tt
+      from false true false = tt
 
 -- By its bytes a file isn't opened for nothing else.
 pub reading-refusal : (writable : Bool) (f : Bytes) (fault : Fault) → header_for writable f ≡ Err fault → IsReadingRefusal fault
 unfolding header_for
 reading-refusal writable f fault is =
-    subst OnlyReading is (only-reading f (header_of writable f) (λ why same. header-refusal writable f why same))
+    subst OnlyReading is (only-reading writable f (header_of writable f) (λ why same. header-refusal writable f why same))
 
 -- A file that loads for writing loads for reading.
 pub reads-too : (writable : Bool) (f : Bytes) (H : Header) → header_of writable f ≡ Ok H → header_of false f ≡ Ok H
 reads-too true f H loads = header-reading f H loads
 reads-too false f H loads = loads
+
+-- Of the words of a table in a file one without a meaning damages all of it,
+module _ (f : Bytes) (kind : Kind) (layout : Layout) (place n : ℕ) where
+  abbrev are-sound : Bool
+  are-sound = all_below n (λ i. word_sound kind layout (word f place i))
+
+  long-so : length (words_in f place n) ≡ n
+  long-so = words_long f place n
+
+  damaged-word : HasUnsound kind layout (words_in f place n) → are-sound ≡ false
+  damaged-word bad = elim (cases_Bool are-sound) [
+    | inr broken ↦ broken
+    | inl fine ↦
+        let inside : bad.0 < n = let lt = bad.1 in omega (arith, lt, long-so) in
+        let good = all-below n (λ i. word_sound kind layout (word f place i)) fine bad.0 inside in
+        let no = subst (λ w. word_sound kind layout w ≡ false) (words_at f place n bad.0 inside) bad.2 in
+        absurd (let e = sym good ∙ no in cc)
+  ]
+
+  -- and with none it is sound.
+  sound-table : AreSound kind layout (words_in f place n) → are-sound ≡ true
+  sound-table sound = all-below-holds n (λ i. word_sound kind layout (word f place i))
+      (λ i inside. subst (λ w. word_sound kind layout w ≡ true) (words_at f place n i inside) (sound i (omega (arith, long-so, inside))))
 
 module _ (writable : Bool) (f : Bytes) where
   -- Where the file says why, that is why; else memory was wanting, or the storage failed.
@@ -86,9 +117,20 @@ module _ (writable : Bool) (f : Bytes) where
       unfolding header_for
       table-refused bad = rw (loads, inside, bad) refl
 
-      pub none-refused : l1_table_sound f H.fields ≡ true → header_for writable f ≡ Ok H
+      -- To be read no more is asked,
+      pub none-refused : l1_table_sound f H.fields ≡ true → (writable ≡ true → refcount_table_sound f H.fields ≡ true)
+          → header_for writable f ≡ Ok H
       unfolding header_for
-      none-refused sound = rw (loads, inside, sound) refl
+      none-refused sound counts = elim (cases_Bool writable) [
+        | inl is ↦ let fine = counts is in rw (loads, inside, sound, is, fine) refl
+        | inr not ↦ rw (loads, inside, sound, not) refl
+      ]
+
+      -- and to be written, the rule on the refcount table.
+      counts-refused : l1_table_sound f H.fields ≡ true → writable ≡ true → refcount_table_sound f H.fields ≡ false
+          → header_for writable f ≡ Err DamagedTable
+      unfolding header_for
+      counts-refused sound is bad = rw (loads, inside, sound, is, bad) refl
 
       limited : Limited H.fields
       limited = header-limited writable f H loads
@@ -126,14 +168,8 @@ module _ (writable : Bool) (f : Bytes) where
         -- One of its words without a meaning damages all of it.
         unsound : HasUnsound l1_words (layout_of H.fields) words → l1_table_sound f H.fields ≡ false
         unfolding l1_table_sound
-        unsound bad = elim (cases_Bool (l1_table_sound f H.fields)) [
-          | inr broken ↦ broken
-          | inl fine ↦
-              let inside : bad.0 < H.fields.l1_entries = let lt = bad.1 in omega (arith, lt, long) in
-              let good = all-below H.fields.l1_entries (λ i. l1_word_sound H.fields.cluster_bits (word f H.fields.l1_offset i)) fine bad.0 inside in
-              let no = subst (λ w. l1_word_sound H.fields.cluster_bits w ≡ false) (word-of bad.0 inside) bad.2 in
-              absurd (let e = sym good ∙ no in cc)
-        ]
+        unsound bad = damaged-word f l1_words (layout_of H.fields) H.fields.l1_offset H.fields.l1_entries
+            (subst (λ p. HasUnsound l1_words (layout_of H.fields) (words_in f p H.fields.l1_entries)) place bad)
 
         pub table-not-loaded : (old new : StorageState) (fault : Fault) → WhyNotLoaded l1_words (layout_of H.fields) words old.faults new.faults fault
             → NotLoaded (header_for writable f) old new fault
@@ -142,3 +178,46 @@ module _ (writable : Bool) (f : Bytes) where
         table-not-loaded old new DamagedTable why = (table-refused (unsound why.0), why.1)
         table-not-loaded old new (Limit n) why = let same = why.0 in let more = why.1 in let few = limited.l1_entries in absurd (omega (arith, same, more, few, long))
         table-not-loaded old new fault why = absurd why
+
+      -- The refcount table stands where words can name it, too.
+      counts-placed : IsTablePlaced H.fields
+      counts-placed = record {
+        aligned =
+            let whole = place-whole H.fields.cluster_bits H.fields.refcount_table_offset limited.refcount_place in
+            omega (arith, div-add-mod H.fields.refcount_table_offset (cluster_size H.fields), whole);
+        reach = place-near H.fields.cluster_bits H.fields.refcount_table_offset limited.refcount_place;
+      }
+
+      module _ (old new : StorageState) (same : bytes_of old.bytes ≡ f) (l1 : l1_table_sound f H.fields ≡ true) (is : writable ≡ true) where
+        -- Where it is loaded nothing is refused,
+        pub space-allowed : (a : Allocator) → LoadsAllocator old H.fields (Ok a) new → header_for writable f ≡ Ok H
+        unfolding refcount_table_sound
+        space-allowed a loaded = none-refused l1 (λ w. sound-table f block_words (layout_of H.fields) H.fields.refcount_table_offset
+            (refcount_table_entries H.fields)
+            (subst (λ (x : Bytes). AreSound block_words (layout_of H.fields) (words_in x H.fields.refcount_table_offset (refcount_table_entries H.fields)))
+            same loaded.sound))
+
+        counts-why : (fault : Fault) → WhyNotLoaded block_words (layout_of H.fields)
+            (words_in f H.fields.refcount_table_offset (refcount_table_entries H.fields)) old.faults new.faults fault
+            → NotLoaded (header_for writable f) old new fault
+        unfolding refcount_table_sound
+        counts-why Memory why = why
+        counts-why Storage why = why
+        counts-why DamagedTable why = (
+          counts-refused l1 is
+              (damaged-word f block_words (layout_of H.fields) H.fields.refcount_table_offset (refcount_table_entries H.fields) why.0),
+          why.1,
+        )
+        counts-why (Limit n) why =
+            let same = why.0 in
+            let more = why.1 in
+            let few = limited.refcount_entries in
+            let long = words_long f H.fields.refcount_table_offset (refcount_table_entries H.fields) in
+            absurd (omega (arith, same, more, few, long))
+        counts-why fault why = absurd why
+
+        -- and else that is why.
+        pub space-not-loaded : (fault : Fault) → LoadsAllocator old H.fields (Err fault) new → NotLoaded (header_for writable f) old new fault
+        space-not-loaded fault loaded = counts-why fault
+            (subst (λ (x : Bytes). WhyNotLoaded block_words (layout_of H.fields)
+            (words_in x H.fields.refcount_table_offset (refcount_table_entries H.fields)) old.faults new.faults fault) same (loaded.err counts-placed))

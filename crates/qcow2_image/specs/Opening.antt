@@ -1,14 +1,17 @@
 -- What an image is right after it was opened, and why it isn't opened.
-use Rattle.std.specs.Prelude.{◌≡◌, ⊤, ℕ, Bool, false, not, ◌&&◌, ◌||◌, ◌==◌, List, [], ◌∷◌, Option, Some, None, Ok, Err, Result, is_some}
+use Rattle.std.specs.Prelude.{◌≡◌, ⊤, ℕ, Bool, false, not, ◌&&◌, ◌||◌, ◌==◌, List, [], ◌∷◌, Option, Some, None, IfSome, Ok, Err, Result, is_some}
 use Rattle.imago_storage.specs.State.{MayFail, StorageState}
 use Rattle.imago_storage.specs.declared.fault.Fault.{Fault}
 use Rattle.imago_storage.specs.declared.fault.Fault.TheVariants.{DamagedTable, Memory, Storage, Unsupported}
 use Rattle.imago_storage.specs.declared.storage.Storage.{Ghosts}
 use Rattle.qcow2_types.specs.Bytes.{Bytes, be, bytes_of}
 use Rattle.qcow2_types.specs.Header.{Fields, Header, Rule, first_fault, has_external_data, header_of, ◌and-then◌, ◌>>=◌}
+use Rattle.qcow2_types.specs.Counts.{refcount_table_sound}
 use Rattle.qcow2_types.specs.Entries.{l1_table_sound}
+use Rattle.qcow2_alloc.specs.Allocators.{LoadsAllocator}
 use Rattle.qcow2_alloc.specs.Caches.{cached_in, order_of}
 use Rattle.qcow2_alloc.specs.declared.cache.CacheDependency.TheVariants.{Unset}
+use Rattle.qcow2_clusters.specs.declared.space.Space.{Space}
 use Rattle.qcow2_image.specs.Seen.{IsSeen}
 use Rattle.qcow2_image.specs.declared.qcow2.Qcow2.{Qcow2}
 use Rattle.qcow2_image.specs.declared.tables.Tables.{Tables}
@@ -17,17 +20,18 @@ use Rattle.qcow2_image.specs.declared.tables.Tables.{Tables}
 abbrev pub is_qcow2 : Bytes → Bool
 is_qcow2 f = (be f 0 4 == 0x5146_49fb) && ((be f 4 4 == 2) || (be f 4 4 == 3))
 
--- The rules behind those on the header: an image whose data is in another file isn't carried yet, and each word of the L1 table has a
--- meaning.
-abbrev pub rules_of_opening : Bytes → Fields → List Rule
-rules_of_opening f h =
+-- The rules behind those on the header: an image whose data is in another file isn't carried yet; each word of the L1 table has a meaning,
+-- and so has each of the refcount table, where the file is to be written.
+abbrev pub rules_of_opening : Bool → Bytes → Fields → List Rule
+rules_of_opening writable f h =
     (has_external_data h, Unsupported)
     ∷ (not (l1_table_sound f h), DamagedTable)
+    ∷ (writable && not (refcount_table_sound f h), DamagedTable)
     ∷ []
 
 -- The header by which a file is opened for reading, or also for writing, or the first rule that it breaks.
 unfoldable pub header_for : Bool → Bytes → Result Header Fault
-header_for writable f = header_of writable f >>= λ H. first_fault (rules_of_opening f H.fields) and-then Ok H
+header_for writable f = header_of writable f >>= λ H. first_fault (rules_of_opening writable f H.fields) and-then Ok H
 
 -- Why it isn't opened: by that rule, unless memory was wanting or the storage has failed, which is of a kind that may.
 abbrev pub WhyNotOpened : {S : Type 0} → (S → StorageState) → Bool → Bytes → Fault → Type 0
@@ -35,8 +39,14 @@ WhyNotOpened state writable f Memory = ⊤
 WhyNotOpened state writable f Storage = MayFail state
 WhyNotOpened state writable f fault = header_for writable f ≡ Err fault
 
--- The storage is as it was, what is in memory is what its file says, and nothing is cached, with room for so many tables and blocks. Its free
--- space isn't known yet.
+-- What is known of the free space of an image right after it was opened: its refcount table, where it is to be written, and else nothing.
+-- Nothing waits to be freed.
+pub record IsSpaceOpened (before : StorageState) (h : Fields) (writable : Bool) (space : Option Space) : Type 0 where
+  pub known : is_some space ≡ writable
+  pub loads : IfSome space (λ s. LoadsAllocator before h (Ok s.allocator) before)
+  pub idle : IfSome space (λ s. s.to_free.entries ≡ [])
+
+-- The storage is as it was, what is in memory is what its file says, and nothing is cached, with room for so many tables and blocks.
 pub record IsJustOpened {S : Type 0} (g : Ghosts S) (before : StorageState) (writable : Bool) (l2_tables refcount_blocks : ℕ)
     (t : Tables S g) : Type 0 where
   pub same : g.state t.file.image ≡ before
@@ -44,7 +54,7 @@ pub record IsJustOpened {S : Type 0} (g : Ghosts S) (before : StorageState) (wri
   pub seen : IsSeen g t
   pub empty : cached_in t.caches ≡ record { tables = []; blocks = [] }
   pub unordered : order_of t.caches ≡ Unset
-  pub spaceless : t.space ≡ None
+  pub space : IsSpaceOpened before t.file.header.fields writable t.space
   pub tables : t.caches.l2.slots.cap ≡ l2_tables
   pub blocks : t.caches.rb.slots.cap ≡ refcount_blocks
 

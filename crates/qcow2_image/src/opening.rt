@@ -1,14 +1,16 @@
-// How the metadata of an image is opened: its header, its L1 table, and caches of which nothing is filled.
-ghost use Rattle.std.specs.Prelude.{◌≡◌, ◌≢◌, false, None, Ok, OnOk, IfOk, IfErr, IsTrue, length};
+// How the metadata of an image is opened: its header, its L1 table, its refcount table where it is to be written, and caches of which
+// nothing is filled.
+ghost use Rattle.std.specs.Prelude.{◌≡◌, ◌≢◌, true, false, None, Ok, OnOk, IfOk, IfErr, IsTrue, length};
 ghost use Rattle.imago_storage.specs.Calls.{CountsFaults, Kept};
 ghost use Rattle.imago_storage.specs.declared.fault.Fault.TheVariants.{DamagedTable};
 ghost use Rattle.imago_access.specs.Building.{IsOpened};
 ghost use Rattle.imago_access.specs.declared.format.Format.TheVariants as format;
 ghost use Rattle.qcow2_types.specs.Bytes.{bytes_of};
+ghost use Rattle.qcow2_types.specs.Entries.{l1_table_sound};
 ghost use Rattle.qcow2_types.specs.Header.{header_of, has_external_data};
 ghost use Rattle.qcow2_metadata.specs.Loading.{file, NotLoaded};
 ghost use Rattle.qcow2_alloc.specs.Opening.{IsL1Of};
-ghost use Rattle.qcow2_image.specs.Opening.{header_for, WhyNotOpened, IsJustOpened, IsOpenedAs, is_qcow2};
+ghost use Rattle.qcow2_image.specs.Opening.{header_for, WhyNotOpened, IsJustOpened, IsOpenedAs, IsSpaceOpened, is_qcow2};
 
 use crate::cache_entries::CacheEntries;
 use crate::mode::OpenMode;
@@ -17,6 +19,7 @@ use crate::tables::Tables;
 use imago_access::Seen;
 use imago_storage::{Fault, Storage, StorageExt};
 use qcow2_alloc::{ImageFile, MetadataCaches};
+use qcow2_clusters::Space;
 use qcow2_metadata::{Header, L1Table, Table};
 use qcow2_types::{MAGIC, OnDiskStruct, V2Header};
 use std::alloc::Global;
@@ -88,6 +91,31 @@ fn load_metadata<S: Storage>(
     }
 }
 
+// The free space of an image with this header that is to be written; of another nothing is known. Nothing but reads is asked of the
+// storage.
+fn load_free_space<S: Storage>(
+    alloc: Global,
+    file: &mut ImageFile<S>,
+    writable: bool,
+) -> Result<Option<Space>, Fault>
+    requires loads { header_of writable (bytes_of (S.state file.old.image).bytes) ≡ Ok file.old.header }
+    requires inside { has_external_data file.old.header.fields ≡ false }
+    requires l1 { l1_table_sound (bytes_of (S.state file.old.image).bytes) file.old.header.fields ≡ true }
+    ensures ok { IfOk result (IsSpaceOpened (S.state file.old.image) file.old.header.fields writable) }
+    ensures allowed { OnOk result (header_for writable (bytes_of (S.state file.old.image).bytes) ≡ Ok file.old.header) }
+    ensures err { IfErr result (WhyNotOpened S.state writable (bytes_of (S.state file.old.image).bytes)) }
+    ensures same { OnOk result (S.state file.new.image ≡ S.state file.old.image) }
+    ensures header { file.new.header ≡ file.old.header }
+{
+    if !writable {
+        return Ok(None);
+    }
+    match Space::load(alloc, file) {
+        Ok(space) => Ok(Some(space)),
+        Err(fault) => Err(fault),
+    }
+}
+
 // Opens the metadata of an image, with caches of so many entries.
 fn open_tables<S: Storage>(
     alloc: Global,
@@ -102,15 +130,20 @@ fn open_tables<S: Storage>(
         Ok(loaded) => loaded,
         Err(fault) => return Err(fault),
     };
+    let mut file = ImageFile { image, header };
+    let space = match load_free_space(alloc, &mut file, writable) {
+        Ok(space) => space,
+        Err(fault) => return Err(fault),
+    };
     let caches = match MetadataCaches::new(alloc, entries.l2_tables, entries.refcount_blocks) {
         Ok(caches) => caches,
         Err(fault) => return Err(fault),
     };
     Ok(Tables {
-        file: ImageFile { image, header },
+        file,
         l1,
         caches,
-        space: None,
+        space,
     })
 }
 
@@ -159,15 +192,16 @@ impl<S: Storage> Qcow2<S> {
     /// Opens an image for reading, or also for writing, with the number 0 and caches of 128 L2 tables and 32 refcount blocks. Layers are
     /// below where its header names a backing file.
     ///
-    /// It reads the header and the L1 table, and nothing else is asked of the storage. It is refused, and the storage dropped then:
+    /// It reads the header and the L1 table, to be written also the refcount table, and nothing else is asked of the storage. It is
+    /// refused, and the storage dropped then:
     ///
     /// - by the first of the header's rules that the file breaks, as `Header::load` has them: with `Fault::DamagedHeader`,
     ///   `Fault::Unsupported` or `Fault::Limit`; to be written it may have neither the dirty nor the corrupt bit, nor any autoclear bit;
     /// - with `Fault::Unsupported` where the data is in an external file, which isn't carried yet;
-    /// - with `Fault::DamagedTable` where a word of the L1 table has no meaning;
+    /// - with `Fault::DamagedTable` where a word of the L1 table has no meaning, or, to be written, one of the refcount table;
     /// - with `Fault::Memory`, and with `Fault::Storage` where the storage may fail.
     ///
-    /// What the tables below the L1 table say doesn't matter here: a place under a damaged one is refused when it is looked up.
+    /// What L2 tables and refcount blocks say doesn't matter here: a place under a damaged table is refused when it is looked up.
     pub fn open_image(alloc: Global, image: S, writable: bool) -> Result<Self, Fault>
         ensures ok { IfOk result (IsOpenedAs S.Storage (S.state image) writable None 0 128 32) }
         // As a driver it shows what the file means, and where the file is a consistent image it is safe.

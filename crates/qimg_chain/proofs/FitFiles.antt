@@ -12,6 +12,7 @@ use Rattle.qcow2_types.specs.Entries.{l1_table_sound}
 use Rattle.qcow2_types.specs.Header.{Header, header_of}
 use Rattle.qcow2_types.proofs.Consistent.{header-reading}
 use Rattle.qcow2_image.specs.Opening.{header_for}
+use Rattle.qcow2_image.proofs.OpeningRules.{none-refused}
 use Rattle.qimg_core.specs.declared.plain.ChainFile.{ChainFile}
 use Rattle.qimg_chain.specs.Chains.{IsFit, IsSoundAs, OfTop}
 use Rattle.qimg_chain.specs.FileLayers.{IsLayer, asked_of}
@@ -38,11 +39,11 @@ loads false f h sound = header-reading f h sound.readable.loads
 
 -- and opens by its header
 opens : (writable : Bool) (f : Bytes) (h : Header) → IsConsistent f h → header_for writable f ≡ Ok h
-unfolding header_for tables_sound
+unfolding tables_sound
 opens writable f h sound =
     let tables = and_parts (l1_table_sound f h.fields && refcount_table_sound f h.fields) _ sound.readable.tables in
-    let l1 : IsTrue (l1_table_sound f h.fields) = (and_parts (l1_table_sound f h.fields) (refcount_table_sound f h.fields) tables.0).0 in
-    rw (loads writable f h sound, sound.readable.data_inside, l1) refl
+    let both = and_parts (l1_table_sound f h.fields) (refcount_table_sound f h.fields) tables.0 in
+    none-refused writable f h (loads writable f h sound) sound.readable.data_inside both.0 (λ w. both.1)
 
 pub image-fits : (writable : Bool) (file : ChainFile MemStorage) (h : Header) → file.format ≡ Qcow2 → IsConsistent (bytes_of (mem_state file.image).bytes) h → h.backing_name ≡ None
     → FormChain mem_state writable (file ∷ []) × OfTop (IsFit mem_state) (file ∷ [])

@@ -24,7 +24,7 @@ use Rattle.qcow2_types.proofs.Named.{structure-le-refs}
 use Rattle.qcow2_types.proofs.Sound.{all-below-holds, sound-words}
 use Rattle.qcow2_types.proofs.WriteBack.{place-near, place-whole}
 use Rattle.qcow2_metadata.specs.Places.{IsInReach}
-use Rattle.qcow2_metadata.specs.Tables.{TableValue, Kind, table_in, words_in, max_entries, word_sound, WhyNotLoaded, block_words, l1_words}
+use Rattle.qcow2_metadata.specs.Tables.{TableValue, AreSound, Kind, table_in, words_in, max_entries, word_sound, WhyNotLoaded, block_words, l1_words}
 use Rattle.qcow2_alloc.specs.declared.allocation.Allocator.{Allocator}
 use Rattle.qcow2_alloc.specs.declared.cache.CacheDependency.TheVariants.{Unset}
 use Rattle.qcow2_alloc.specs.Allocators.{IsTablePlaced, LoadsAllocator, table_of, mark_of}
@@ -72,12 +72,22 @@ loaded-from h offset bits cluster entries at same many aligned place reach =
     let aligned' : h.refcount_table_offset % cluster_size h ≡ 0 = subst (λ b. h.refcount_table_offset % 2 ^ b ≡ 0) same (subst (λ n. n % 2 ^ bits ≡ 0) at aligned) in
     record { placed = placed-here h aligned' (subst (λ b. IsInReach b (h.refcount_table_offset / cluster_size h)) same (subst (λ n. IsInReach bits n) here reach)); cluster_is = here; entries_are = many }
 
-pub table-loaded : (old : StorageState) (h : Fields) (cluster entries : ℕ) (a : Allocator) (table : TableValue) (new : StorageState) → IsLoadedFrom h cluster entries → table ≡ table_in (bytes_of old.bytes) h cluster entries → table_of a ≡ table → mark_of a ≡ 0 → Kept old new → new.faults ≡ old.faults
-    → LoadsAllocator old h (Ok a) new
-table-loaded old h cluster entries a table new from is same mark kept faults =
+-- the words that are loaded
+from-words : (f : Bytes) (h : Fields) (cluster entries : ℕ) → IsLoadedFrom h cluster entries
+    → words_in f (cluster * cluster_size h) entries ≡ words_in f h.refcount_table_offset (refcount_table_entries h)
+from-words f h cluster entries from =
+    ap (λ n. words_in f (n * cluster_size h) entries) from.cluster_is ∙ ap (λ p. words_in f p entries) (placed-whole h from.placed.aligned)
+    ∙ ap (λ n. words_in f h.refcount_table_offset n) from.entries_are
+
+pub table-loaded : (old : StorageState) (h : Fields) (cluster entries : ℕ) (a : Allocator) (table : TableValue) (new : StorageState)
+    → IsLoadedFrom h cluster entries → table ≡ table_in (bytes_of old.bytes) h cluster entries
+    → AreSound block_words (layout_of h) (words_in (bytes_of old.bytes) (cluster * cluster_size h) entries)
+    → table_of a ≡ table → mark_of a ≡ 0 → Kept old new → new.faults ≡ old.faults → LoadsAllocator old h (Ok a) new
+table-loaded old h cluster entries a table new from is sound same mark kept faults =
     let whole : table_of a ≡ table_in (bytes_of old.bytes) h (h.refcount_table_offset / cluster_size h) (refcount_table_entries h) = same ∙ is ∙ ap (λ n. table_in (bytes_of old.bytes) h n entries) from.cluster_is ∙ ap (λ n. table_in (bytes_of old.bytes) h (h.refcount_table_offset / cluster_size h) n) from.entries_are in
     record {
       ok = (from.placed, whole, mark);
+      sound = subst (AreSound block_words (layout_of h)) (from-words (bytes_of old.bytes) h cluster entries from) sound;
       table = λ some. subst (λ (t : TableValue). IsTableOf (bytes_of old.bytes) h t) (sym whole) (table-of-file (bytes_of old.bytes) h from.placed some);
       out = λ no. absurd (no from.placed);
       err = λ placed. tt;
@@ -89,6 +99,7 @@ pub table-not-loaded : (old : StorageState) (h : Fields) (cluster entries : ℕ)
     → LoadsAllocator old h (Err fault) new
 table-not-loaded old h cluster entries fault new from why kept = record {
   ok = tt;
+  sound = tt;
   table = tt;
   out = λ no. absurd (no from.placed);
   err = λ placed. why-placed (bytes_of old.bytes) h old.faults new.faults fault from.placed.aligned

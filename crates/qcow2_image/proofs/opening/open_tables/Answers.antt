@@ -1,5 +1,10 @@
-use Rattle.std.proofs.Common.{refl}
+use Rattle.std.proofs.Common.{◌≡◌, sym, subst, ◌∙◌, false, Ok}
+use Rattle.imago_storage.specs.State.{StorageState}
+use Rattle.qcow2_types.specs.Bytes.{bytes_of}
+use Rattle.qcow2_types.specs.Header.{Header, header_of, has_external_data}
 use Rattle.qcow2_metadata.specs.Loading.{file}
+use Rattle.qcow2_alloc.specs.Opening.{IsL1Of}
+use Rattle.qcow2_image.specs.Opening.{IsSpaceOpened, header_for}
 use Rattle.qcow2_image.proofs.JustOpened.{just-opened}
 use Rattle.qcow2_image.proofs.OpeningRules.{not-opened}
 use Rattle.qcow2_image.proofs.opening.open_tables.Goals as goal
@@ -10,5 +15,20 @@ returns-in-Err-clause-err g c =
 
 pub returns-clause-ok : goal.returns-clause-ok
 returns-clause-ok g c =
-    just-opened g.S.Storage (g.S.Storage.state c.args.image) c.args.writable c.args.entries.l2_tables c.args.entries.refcount_blocks _ c.in-Ok.ensures.same c.in-Ok.ensures.loads c.in-Ok.ensures.inside c.in-Ok.ensures.l1
-    c.in-Ok-new.ensures.empty.0 c.in-Ok-new.ensures.empty.1 refl c.in-Ok-new.ensures.room.0 c.in-Ok-new.ensures.room.1
+    let w = c.args.writable in
+    let before = g.S.Storage.state c.args.image in
+    let loaded = c.in-Ok.ensures in
+    let spaced = c.in-Ok-load_free_space.ensures in
+    let header = c.load_free_space.ensures.header in
+    let H = c.load_free_space.new.file.header in
+    just-opened g.S.Storage before w c.args.entries.l2_tables c.args.entries.refcount_blocks _
+    (spaced.same ∙ loaded.same)
+    (subst (λ (K : Header). header_of w (file before) ≡ Ok K) (sym header) loaded.loads)
+    (subst (λ (K : Header). has_external_data K.fields ≡ false) (sym header) loaded.inside)
+    (subst (λ (K : Header). IsL1Of (file before) K.fields c.in-Ok.loaded.1) (sym header) loaded.l1)
+    (subst (λ (K : Header). header_for w (file before) ≡ Ok K) (sym header)
+    (subst (λ (s : StorageState). header_for w (bytes_of s.bytes) ≡ Ok c.in-Ok.loaded.0) loaded.same spaced.allowed))
+    c.in-Ok-new.ensures.empty.0 c.in-Ok-new.ensures.empty.1
+    (subst (λ (K : Header). IsSpaceOpened before K.fields w c.in-Ok-load_free_space.space) (sym header)
+    (subst (λ (s : StorageState). IsSpaceOpened s c.in-Ok.loaded.0.fields w c.in-Ok-load_free_space.space) loaded.same spaced.ok))
+    c.in-Ok-new.ensures.room.0 c.in-Ok-new.ensures.room.1

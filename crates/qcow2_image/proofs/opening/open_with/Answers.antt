@@ -19,7 +19,7 @@ returns-clause-seen g c =
       kept = opened-kept g.S.Storage before c.args.writable l2 rb d c.in-Ok.ensures.ok;
       free = refl;
       usable = refl;
-      sees = record { seen = c.in-Ok.ensures.ok.seen; sure = inl (refl, rw c.in-Ok.ensures.ok.spaceless tt) };
+      sees = record { seen = c.in-Ok.ensures.ok.seen; sure = inl (refl, c.in-Ok.ensures.ok.space.idle) };
       still = opened-still g.S.Storage before c.args.writable l2 rb d c.in-Ok.ensures.ok;
       lasting = tt;
       safe = λ keeps sound. opened-safe g.S.Storage before c.args.writable l2 rb d c.in-Ok.ensures.ok refl refl keeps sound;

@@ -18,7 +18,7 @@ returns-in-Err g c =
       same = search rules;
       left = search rules;
       cause = c.in-Err.ensures.err;
-      known = λ seen. c.in-Err.ensures.known seen.loads (none-refused false (file old) c.args.tables.now.file.header seen.loads seen.inside seen.l1.sound);
+      known = λ seen. c.in-Err.ensures.known seen.loads (none-refused false (file old) c.args.tables.now.file.header seen.loads seen.inside seen.l1.sound (λ w. absurd (cc w)));
     }
 
 pub returns : goal.returns
