@@ -31,6 +31,7 @@ as_kind f h g = record {
   vacant = λ d. h.vacant (f d);
   has_room = λ d. h.has_room (f d);
   zeroed = λ d. h.zeroed (f d);
+  stated = λ d. h.stated (f d);
   claim = g.claim;
   tag = g.tag;
   sound = h.sound;

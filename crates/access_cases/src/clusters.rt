@@ -298,6 +298,8 @@ impl<S: Storage> Seen for OneCluster<S> {
 
     ghost zeroed = { λ d. IsBare d.content d.size };
 
+    ghost stated = { λ d p. d.content ≡ content.Zeroed };
+
     ghost claim = { λ s. s.claim };
 
     ghost tag = { λ s. s.image };

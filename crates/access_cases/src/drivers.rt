@@ -85,6 +85,8 @@ impl<S: Storage> Seen for Driver<S> {
 
     ghost zeroed = { elim [ driver.Raw r ↦ ⟦<Raw<S> as Seen>⟧.zeroed r | driver.Words w ↦ ⟦<OneCluster<S> as Seen>⟧.zeroed w ] };
 
+    ghost stated = { elim [ driver.Raw r ↦ ⟦<Raw<S> as Seen>⟧.stated r | driver.Words w ↦ ⟦<OneCluster<S> as Seen>⟧.stated w ] };
+
     ghost claim = { λ s. s.claim };
 
     ghost tag = { λ s. s.image };

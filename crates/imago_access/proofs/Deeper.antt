@@ -9,7 +9,7 @@ use Rattle.imago_storage.specs.declared.fault.Fault.TheVariants.{Failed, Missing
 use Rattle.imago_access.specs.Layer.{Layer, unmapped, through}
 use Rattle.imago_access.specs.Chain.{at}
 use Rattle.imago_access.specs.Files.{Pairs, IsLater}
-use Rattle.imago_access.specs.Mappings.{EachIs, Names, IsRun, IsDeepRun, NamesHome, stored_at, DeepNames, DeepNamesWritable, AreWritable, SaysBarred, IsRunBelow, IsDeepBelow, HasStorage, IsThere, lower, is_deep_end}
+use Rattle.imago_access.specs.Mappings.{AreStated, EachIs, States, Names, IsRun, IsDeepRun, NamesHome, stored_at, DeepNames, DeepNamesWritable, AreWritable, SaysBarred, IsRunBelow, IsDeepBelow, HasStorage, IsThere, lower, is_deep_end}
 use Rattle.imago_access.specs.Refusals.{LookCause, DeepLookCause}
 use Rattle.imago_access.specs.declared.mapping.Mapping.{Mapping}
 use Rattle.imago_access.specs.declared.mapping.Mapping.TheVariants.{Raw, Zero, Eof, Special}
@@ -57,6 +57,16 @@ there_lower g d ds above (Raw depth storage place writable) h = subst (λ (k : �
 there_lower g d ds above (Special depth place) h = tt
 there_lower g d ds above (Zero explicit) h = tt
 there_lower g d ds above Eof h = tt
+
+-- the top layer states none of the places of an answer that goes on below
+pub unstated_below : (stated : ℕ → Type 0) (offset asked n : ℕ) (m : Mapping) → AreStated stated offset asked false → IsRunBelow asked m n → AreStated stated offset n false
+unstated_below stated offset asked n (Raw depth storage place writable) none run = λ i lt. none i (omega (arith, lt, run.0))
+unstated_below stated offset asked n (Special depth place) none run = λ i lt. none i (omega (arith, lt, run.0))
+unstated_below stated offset asked n (Zero explicit) none run = λ i lt. none i (omega (arith, lt, run.0))
+unstated_below stated offset asked n Eof none run = absurd run
+
+pub indirect_unstated : (stated : ℕ → Type 0) (offset n place : ℕ) (writable : Bool) (mapping : ShallowMapping) → mapping ≡ shallow.Indirect place writable → States stated offset (mapping, n) → AreStated stated offset n false
+indirect_unstated stated offset n place writable mapping is states = subst (λ (m : ShallowMapping). States stated offset (m, n)) is states
 
 -- a run of a layer below that isn't its end is as long as that layer's
 pub run_below : (size offset asked n : ℕ) (m : Mapping) → (m ≡ Eof → ⊥) → IsDeepRun size offset asked m n → IsRunBelow asked m n

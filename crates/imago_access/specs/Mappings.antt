@@ -57,6 +57,27 @@ NamesRoom layer vacant zeroed offset n (shallow.Raw storage place writable) = Ha
 NamesRoom layer vacant zeroed offset n (shallow.Special place) = HasStoredRoom layer vacant zeroed offset n
 NamesRoom layer vacant zeroed offset n mapping = ⊤
 
+-- the answer tells a zero that the layer states, or the top layer of a chain
+abbrev pub is_explicit : ShallowMapping → Bool
+is_explicit (shallow.Zero explicit) = explicit
+is_explicit mapping = false
+
+abbrev pub is_deep_explicit : Mapping → Bool
+is_deep_explicit (deep.Zero explicit) = explicit
+is_deep_explicit mapping = false
+
+-- each place of the run is stated, or none is
+abbrev pub AreStated : (ℕ → Type 0) → ℕ → ℕ → Bool → Type 0
+AreStated stated offset n true = (i : ℕ) → i < n → stated (offset + i)
+AreStated stated offset n false = (i : ℕ) → i < n → stated (offset + i) → ⊥
+
+-- A layer's answer is an explicit zero exactly of places that the layer states, and a chain's exactly of those that its top layer states.
+abbrev pub States : (ℕ → Type 0) → ℕ → ShallowMapping × ℕ → Type 0
+States stated offset answer = AreStated stated offset answer.1 (is_explicit answer.0)
+
+abbrev pub DeepStates : (ℕ → Type 0) → ℕ → Mapping × ℕ → Type 0
+DeepStates stated offset answer = AreStated stated offset answer.1 (is_deep_explicit answer.0)
+
 -- what a lookup of one layer answers
 pub record Looks (layer : Layer) (stored : ℕ → ℕ → ℕ) (offset asked : ℕ) (mapping : ShallowMapping) (n : ℕ) : Type 0 where
   pub names : Names layer stored offset n mapping
@@ -90,12 +111,12 @@ AreWritable zero (layer ∷ below) storage place offset n =
 AreWritable (suc depth) (layer ∷ below) storage place offset n =
     IsTrue layer.fixed.writable × IsTrue layer.fixed.lets_through × AreWritable depth below storage place offset n
 
--- the top layer itself says that the places are 0
+-- the places are 0 in the top layer itself
 abbrev pub SaysZero : List Layer → ℕ → ℕ → Type 0
 SaysZero [] offset n = ⊥
 SaysZero (layer ∷ below) offset n = EachIs layer.cell offset n (λ i. own (byte 0))
 
--- The top layer doesn't state the places itself: it leaves them to the layers below, it ends before them, or it shows no layer below.
+-- The top layer need not state the places: it leaves them to the layers below, it ends before them, or it shows no layer below.
 abbrev pub LeavesZero : List Layer → ℕ → ℕ → Type 0
 LeavesZero [] offset n = ⊤
 LeavesZero (layer ∷ below) offset n =
@@ -108,7 +129,7 @@ SaysBarred zero (layer ∷ below) offset n = EachIs layer.cell offset n (λ i. o
 SaysBarred (suc depth) (layer ∷ below) offset n = SaysBarred depth below offset n
 
 -- What a chain's answer says of each place of its run, by the bytes at the places of its storages. A place can be written where each
--- layer on the way says so. A zero is explicit where the top layer says so, and any other isn't stated by that layer.
+-- layer on the way says so. An explicit zero is one of the top layer itself, and any other is one that this layer need not state.
 abbrev pub DeepNames : List Layer → (ℕ → Value) → (ℕ → ℕ → ℕ → ℕ) → ℕ → ℕ → Mapping → Type 0
 DeepNames chain value stored offset n (deep.Raw depth storage place writable) =
     ((i : ℕ) → i < n → value (offset + i) ≡ byte (stored depth storage (place + i)))

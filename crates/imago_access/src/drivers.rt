@@ -9,7 +9,7 @@ ghost use Rattle.imago_access.specs.Room.{SaysRoom};
 ghost use Rattle.imago_access.specs.Files.{AreRead, OverflowsIn, Pairs, IsKept, IsStorageAt, WasNotCutOff, IsStale, files};
 ghost use Rattle.imago_access.specs.PartCalls.{IsPart, DoesPart, PartRefused, ensures_zero, discards_to_zero, discards_to_any, discards_to_backing};
 ghost use Rattle.imago_access.specs.Going.{AtOnce, RangeAtOnce, KeepsWhatIsFlushed, IsUnchanged, Marks, Looked, LookedUnder, Went};
-ghost use Rattle.imago_access.specs.Mappings.{IsRun, IsOneOf, IsMappedRun, LooksIn, NamesRoomIn};
+ghost use Rattle.imago_access.specs.Mappings.{IsRun, IsOneOf, IsMappedRun, LooksIn, NamesRoomIn, States};
 ghost use Rattle.imago_access.specs.Refusals.{barrier, own_refusal, IsOfStorages};
 ghost use Rattle.imago_access.specs.Changes.{asking};
 ghost use Rattle.imago_access.specs.Stops.{IsWritten, IsCovered, KeepsStops, MakesNone, GivesNone};
@@ -94,7 +94,7 @@ pub trait FormatDriverInstance: Seen {
         ensures { result ≡ is_some (Self.layer self.now).unspent };
 
     /// One run of places from the offset on, not longer than asked, and where they lie: at or past the size the end, of no length, and
-    /// else at least one byte where one is asked for.
+    /// else at least one byte where one is asked for. It is an explicit zero exactly of places that the layer states to be 0.
     ///
     /// It refuses with `Fault::DamagedTable` where the image's tables say nothing of a place of the range, with `Fault::Memory` and with
     /// `Fault::Storage`.
@@ -108,6 +108,7 @@ pub trait FormatDriverInstance: Seen {
         ensures run { IfOk result (λ r. IsRun (Self.layer self.old) offset max_length r.0 r.1) }
         ensures looks { Self.sees self.old → IfOk result (LooksIn Self.Seen offset max_length self.old self.new) }
         ensures room { Self.sees self.old → IfOk result (NamesRoomIn Self.Seen offset self.old) }
+        ensures stated { Self.sees self.old → IfOk result (States (Self.stated self.old) offset) }
         ensures there { IfOk result (λ r. IsOneOf (length (files Self.Seen self.old)) r.0) }
 
         // When it ends at once, and what it keeps.

@@ -1,6 +1,6 @@
 // Where the places of a disk lie.
-ghost use Rattle.std.specs.Prelude.{◌≡◌, ◌-◌, ◌^◌, Some, None, is_none};
-ghost use Rattle.imago_access.specs.Mappings.{is_deep_end, lower, IsDeepBelow};
+ghost use Rattle.std.specs.Prelude.{false, ◌≡◌, ◌-◌, ◌^◌, Some, None, is_none};
+ghost use Rattle.imago_access.specs.Mappings.{is_deep_end, is_deep_explicit, lower, IsDeepBelow};
 
 /// What one layer says of a run of places.
 #[derive(Clone, Copy, Debug, Drop, PartialEq, Eq)]
@@ -77,6 +77,7 @@ impl Mapping {
     pub(crate) fn lowered(self, writable_above: bool) -> Mapping
         ensures value { IsDeepBelow (2 ^ 64 - 1) self → result ≡ lower writable_above self }
         ensures end { is_deep_end result ≡ is_deep_end self }
+        ensures explicit { is_deep_explicit result ≡ false }
     {
         match self {
             Mapping::Raw {

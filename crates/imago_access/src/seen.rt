@@ -46,6 +46,10 @@ pub trait Seen {
     /// the disk's end may count as zeroed.
     ghost zeroed: { Self → ℕ → Type 0 };
 
+    /// The layer itself says of a place that it is 0, in place of having nothing there. It says so of no place that shows the layer below,
+    /// nor of one that is 0 because it has nothing there and no layer is below.
+    ghost stated: { Self → ℕ → Type 0 };
+
     /// Which mapping a state belongs to, and the number of the image that prepared it.
     ghost claim: { Self.State → ℕ };
 

@@ -5,7 +5,7 @@ use Rattle.imago_storage.specs.State.{StorageState, Shape}
 use Rattle.imago_storage.specs.Disk.{byte, barred}
 use Rattle.imago_storage.specs.Through.{Overflows, round_up}
 use Rattle.imago_storage.proofs.Rounding.{round_up-le, le_round_up}
-use Rattle.imago_access.specs.Mappings.{EachIs, IsOneOf, Looks}
+use Rattle.imago_access.specs.Mappings.{EachIs, IsOneOf, Looks, States}
 use Rattle.imago_access.specs.declared.mapping.ShallowMapping.TheVariants as shallow
 use Rattle.imago_formats.specs.RawHome.{never}
 use Rattle.imago_storage.specs.declared.fault.Fault.{Fault}
@@ -24,7 +24,7 @@ use Rattle.imago_formats.specs.declared.vmdk.descriptor.Access.{Access}
 use Rattle.imago_formats.specs.declared.vmdk.descriptor.Access.TheVariants.{ReadWrite, ReadOnly, NoAccess}
 use Rattle.imago_formats.specs.declared.vmdk.descriptor.Source.{Source}
 use Rattle.imago_formats.specs.declared.vmdk.descriptor.Source.TheVariants.{Flat, Zero}
-use Rattle.imago_formats.specs.VmdkLayer.{AreInReach, IsExtentAt, ReadsReach, asks_file, end_in_file, mapping_of, in_source, in_extents, files_asked, meaning_of, vmdk_layer}
+use Rattle.imago_formats.specs.VmdkLayer.{AreInReach, IsExtentAt, IsZeroByDescriptor, ReadsReach, asks_file, end_in_file, mapping_of, in_source, in_extents, files_asked, meaning_of, vmdk_layer}
 use Rattle.imago_formats.specs.declared.vmdk.descriptor.Extent.{Extent}
 
 greatest_kept : (part : Shape → ℕ) (s s' : StorageState) (ss ss' : List StorageState) → IsKept s s' → Pairs IsKept ss ss' →
@@ -224,3 +224,23 @@ pub looks_at : (extents : List (Extent (String Global))) (image : StorageState) 
     n ≤ 512 * x.sectors - (offset - start) → Looks (vmdk_layer extents image files) (byte_in (image ∷ files)) offset asked (mapping_of x.access x.source k offset (offset - start)) n
 looks_at extents image files offset asked n x start k at some reach short =
     looks_in extents image files offset asked start k x.sectors n at.low at.high short some x.access x.source (at.reach _ reach) (at.shows (byte_in (image ∷ files)))
+
+-- which zeroes of a run the descriptor states
+module _ (extents : List (Extent (String Global))) (offset start k sectors n : ℕ) (low : start ≤ offset) (high : offset < start + 512 * sectors) (short : n ≤ 512 * sectors - (offset - start)) where
+  shown : (a : Access) (s : Source (String Global)) → ((files : ℕ → ℕ → ℕ) (q : ℕ) → q < 512 * sectors → in_extents files extents 1 (start + q) ≡ in_source a s (files k) q) →
+      (files : ℕ → ℕ → ℕ) (i : ℕ) → i < n → in_extents files extents 1 (offset + i) ≡ in_source a s (files k) (offset - start + i)
+  shown a s shows files i below =
+      let q : offset + i ≡ start + (offset - start + i) = omega arith in
+      ap (λ p. in_extents files extents 1 p) q ∙ shows files (offset - start + i) (omega arith)
+
+  states_in : (a : Access) (s : Source (String Global)) → ((files : ℕ → ℕ → ℕ) (q : ℕ) → q < 512 * sectors → in_extents files extents 1 (start + q) ≡ in_source a s (files k) q) →
+      States (IsZeroByDescriptor extents) offset (mapping_of a s k offset (offset - start), n)
+  states_in NoAccess s shows = λ i below stated. cc (sym (shown NoAccess s shows (λ k p. 1) i below) ∙ stated (λ k p. 1))
+  states_in ReadWrite (Flat name sector) shows = λ i below stated. cc (sym (shown ReadWrite (Flat name sector) shows (λ k p. 1) i below) ∙ stated (λ k p. 1))
+  states_in ReadWrite Zero shows = λ i below files. shown ReadWrite Zero shows files i below
+  states_in ReadOnly (Flat name sector) shows = λ i below stated. cc (sym (shown ReadOnly (Flat name sector) shows (λ k p. 1) i below) ∙ stated (λ k p. 1))
+  states_in ReadOnly Zero shows = λ i below files. shown ReadOnly Zero shows files i below
+
+pub states_at : (extents : List (Extent (String Global))) (offset n : ℕ) (x : Extent (String Global)) (start k : ℕ) → IsExtentAt extents offset x start k → n ≤ 512 * x.sectors - (offset - start) →
+    States (IsZeroByDescriptor extents) offset (mapping_of x.access x.source k offset (offset - start), n)
+states_at extents offset n x start k at short = states_in extents offset start k x.sectors n at.low at.high short x.access x.source at.shows

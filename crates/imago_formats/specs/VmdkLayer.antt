@@ -52,6 +52,10 @@ in_extents files [] k p = own (byte 0)
 in_extents files (x ∷ xs) k p = let later = in_extents files xs (if has_file x then k + 1 else k) (p - 512 * x.sectors) in
     if ltb p (512 * x.sectors) then in_source x.access x.source (files k) p else later
 
+-- the descriptor says of a place that it is 0: it is, whatever the files hold
+abbrev pub IsZeroByDescriptor : {N : Type 0} → List (Extent N) → ℕ → Type 0
+IsZeroByDescriptor extents p = (files : ℕ → ℕ → ℕ) → in_extents files extents 1 p ≡ own (byte 0)
+
 -- the end of an extent in its file, in bytes, if it has one
 abbrev pub end_in_file : {N : Type 0} → Access → Source N → ℕ → ℕ
 end_in_file NoAccess source sectors = 0

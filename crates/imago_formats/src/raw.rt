@@ -11,7 +11,7 @@ ghost use Rattle.imago_access.specs.Going.{AtOnce, RangeAtOnce, Looked, LookedUn
 ghost use Rattle.imago_access.specs.PartCalls.{DoesPart, PartCall, PartRefused, ensures_zero};
 ghost use Rattle.imago_access.specs.Refusals.{own_refusal, barrier};
 ghost use Rattle.imago_access.specs.declared.mapping.ShallowMapping.TheVariants as shallow;
-ghost use Rattle.imago_access.specs.Mappings.{IsOneOf, IsRun, LooksIn, NamesRoomIn};
+ghost use Rattle.imago_access.specs.Mappings.{IsOneOf, IsRun, LooksIn, NamesRoomIn, States};
 ghost use Rattle.imago_access.specs.Failing.{Fails, RefusesLookup};
 ghost use Rattle.imago_access.specs.PreparingCalls.{Commits, CommitRefused, Cancels};
 ghost use Rattle.imago_access.specs.ResizeCalls.{Resizes, Grows, GrowthRefused, IsUngrown, Shrinks, ShrinkRefused};
@@ -290,6 +290,8 @@ impl<S: Storage> Seen for Raw<S> {
 
     ghost zeroed = { λ d p. ⊤ };
 
+    ghost stated = { λ d p. ⊥ };
+
     ghost claim = { λ _. 0 };
 
     ghost tag = { λ _. 0 };
@@ -390,6 +392,7 @@ impl<S: Storage> FormatDriverInstance for Raw<S> {
         ensures run { let d = ⟦<Raw<S> as Seen>⟧ in IfOk result (λ r. IsRun (d.layer self.old) offset max_length r.0 r.1) }
         ensures looks { let d = ⟦<Raw<S> as Seen>⟧ in d.sees self.old → IfOk result (LooksIn d offset max_length self.old self.new) }
         ensures room { let d = ⟦<Raw<S> as Seen>⟧ in d.sees self.old → IfOk result (NamesRoomIn d offset self.old) }
+        ensures stated { let d = ⟦<Raw<S> as Seen>⟧ in d.sees self.old → IfOk result (States (d.stated self.old) offset) }
         ensures at_once { let d = ⟦<Raw<S> as Seen>⟧ in AtOnce d (barrier (d.layer self.old)) (max_length ≡ 0) result self.old self.new }
         ensures looked { let d = ⟦<Raw<S> as Seen>⟧ in Looked d (WasNotCutOff result) self.old self.new }
         ensures there { let d = ⟦<Raw<S> as Seen>⟧ in IfOk result (λ r. IsOneOf (length (files d self.old)) r.0) }

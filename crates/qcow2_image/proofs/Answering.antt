@@ -10,7 +10,7 @@ use Rattle.imago_storage.specs.declared.fault.Fault.{Fault}
 use Rattle.imago_storage.specs.declared.fault.Fault.TheVariants.{DamagedTable, Memory, Storage}
 use Rattle.imago_access.specs.Files.{byte_in}
 use Rattle.imago_access.specs.Layer.{Layer, Cell, own}
-use Rattle.imago_access.specs.Mappings.{IsOneOf, IsRun, IsInReach, HasStoredRoom, Looks, Names, NamesRoom}
+use Rattle.imago_access.specs.Mappings.{IsOneOf, IsRun, IsInReach, HasStoredRoom, Looks, Names, NamesRoom, States}
 use Rattle.imago_access.specs.Refusals.{LookCause}
 use Rattle.imago_access.specs.declared.mapping.ShallowMapping.TheVariants as shallow
 use Rattle.imago_access.proofs.Units.{overflows_late, alignment_max}
@@ -28,7 +28,7 @@ use Rattle.qcow2_image.specs.Looking.{EndsNear, Follows, IsRunOf, WhyNotLooked}
 use Rattle.qcow2_clusters.specs.Naming.{TakesNone}
 use Rattle.qcow2_image.specs.HeldHomes.{free-homes, words-first}
 use Rattle.qcow2_image.specs.Holding.{Holding}
-use Rattle.qcow2_image.specs.Rooms.{ReadsNone, IsVacant, IsZeroed}
+use Rattle.qcow2_image.specs.Rooms.{ReadsNone, StatesZero, IsStated, IsVacant, IsZeroed}
 use Rattle.qcow2_image.specs.Homes.{home-there}
 use Rattle.qcow2_image.proofs.Ranges.{cluster-of, in-run, byte-place}
 
@@ -133,6 +133,17 @@ packed-taken o l k (packed o' l') on (inl none) = none
 packed-taken o l k (packed o' l') on (inr none) = none
 packed-taken o l k m on which = absurd on
 
+-- All of a run say themselves that they are 0, or none does.
+zero-first : (m m' : Mapping) (k : ℕ) → IsOn m k m' → StatesZero m' → StatesZero m
+zero-first (zeroes c x) m' k on says = tt
+zero-first m (zeroes d y) k on says = absurd on
+zero-first m m' k on says = absurd says
+
+zero-on : (m m' : Mapping) (k : ℕ) → IsOn m k m' → StatesZero m → StatesZero m'
+zero-on (zeroes c x) (zeroes d y) k on says = tt
+zero-on (zeroes c x) m' k on says = absurd on
+zero-on m m' k on says = absurd says
+
 -- What a lookup answers is a run.
 pub is-run : (layer : Layer) (mode : OpenMode) (bits offset within n asked : ℕ) (m : L2Mapping) → offset < layer.size → n ≤ asked → offset + n ≤ layer.size → (0 < asked → 0 < n) → IsRun layer offset asked (shallow_of mode bits offset within (mapping_seen m)) n
 is-run layer mode bits offset within n asked (DataFile c mark) lt few inside one = (lt, few, inside, one)
@@ -234,6 +245,24 @@ module _ (s : StorageState) (words-there : Bytes) (h : Fields) (mode : OpenMode)
     from (Zero c mark) each = tt
     from (Compressed o l) each = roomy (λ i lt. packed-taken o l ((within + i) / cluster_size h) (entry f h ((offset + i) / cluster_size h)) (each i lt))
     from (Backing o) each = backing mode.backing
+
+  -- It is an explicit zero exactly where the words say so.
+  pub states-run : States (IsStated words-there h) offset (shallow_of mode h.cluster_bits offset within (mapping_seen run.0), n)
+  states-run = from run.0 on-place where
+    none : (m : L2Mapping) → ((i : ℕ) → i < n → IsOn (mapping_seen m) ((within + i) / cluster_size h) (entry f h ((offset + i) / cluster_size h)))
+        → (StatesZero (mapping_seen m) → ⊥) → (i : ℕ) → i < n → IsStated words-there h (offset + i) → ⊥
+    none m each other i lt stated = other (zero-first (mapping_seen m) (entry f h ((offset + i) / cluster_size h)) ((within + i) / cluster_size h) (each i lt) (rw (sym clean) stated))
+
+    backing : (b : Bool) → ((i : ℕ) → i < n → IsStated words-there h (offset + i) → ⊥) → States (IsStated words-there h) offset (unmapped_answer b offset, n)
+    backing true unsaid = unsaid
+    backing false unsaid = unsaid
+
+    from : (m : L2Mapping) → ((i : ℕ) → i < n → IsOn (mapping_seen m) ((within + i) / cluster_size h) (entry f h ((offset + i) / cluster_size h)))
+        → States (IsStated words-there h) offset (shallow_of mode h.cluster_bits offset within (mapping_seen m), n)
+    from (DataFile c mark) each = none (DataFile c mark) each (λ is. is)
+    from (Zero c mark) each = λ i lt. rw clean (zero-on (mapping_seen (Zero c mark)) (entry f h ((offset + i) / cluster_size h)) ((within + i) / cluster_size h) (each i lt) tt)
+    from (Compressed o l) each = none (Compressed o l) each (λ is. is)
+    from (Backing o) each = backing mode.backing (none (Backing o) each (λ is. is))
 
   -- Places that words can name are in reach of requests.
   pub reach-run : IsAlignment s.shape.req_align → IsAlignment s.shape.mem_align → IsNamed h.cluster_bits run.0 → n ≤ 2 ^ 42 → cluster_size h ≤ 2 ^ 21 → IsInReach layer offset (shallow_of mode h.cluster_bits offset within (mapping_seen run.0)) n

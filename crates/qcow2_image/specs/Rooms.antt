@@ -34,6 +34,11 @@ ReadsNone words.unmapped = ⊤
 ReadsNone (zeroes cluster copied) = ⊤
 ReadsNone mapping = ⊥
 
+-- it says itself that the guest cluster is 0, which one that maps nothing does not
+abbrev pub StatesZero : Mapping → Type 0
+StatesZero (zeroes cluster copied) = ⊤
+StatesZero mapping = ⊥
+
 -- of a place of an image, by the words in memory
 abbrev pub IsVacant : Bytes → Fields → ℕ → Type 0
 IsVacant memory h p = (h.size ≤ p) ⊎ TakesNone (entry memory h (p / cluster_size h))
@@ -44,6 +49,9 @@ pub record HasRoom (memory : Bytes) (h : Fields) (p : ℕ) : Type 0 where
 
 abbrev pub IsZeroed : Bytes → Fields → ℕ → Type 0
 IsZeroed memory h p = (h.size ≤ p) ⊎ ReadsNone (entry memory h (p / cluster_size h))
+
+abbrev pub IsStated : Bytes → Fields → ℕ → Type 0
+IsStated memory h p = StatesZero (entry memory h (p / cluster_size h))
 
 none-or-own : (m : Mapping) → TakesNone m → HasCluster m → ⊥
 none-or-own words.unmapped none has = has

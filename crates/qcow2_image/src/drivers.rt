@@ -9,7 +9,7 @@ ghost use Rattle.imago_access.specs.Failing.{Fails, RefusesFlush, RefusesLookup,
 ghost use Rattle.imago_access.specs.Files.{AreRead, IsKept, IsStale, OverflowsIn, Pairs, WasNotCutOff, files};
 ghost use Rattle.imago_access.specs.Going.{AtOnce, KeepsWhatIsFlushed, Looked, LookedUnder, Marks, RangeAtOnce, Went};
 ghost use Rattle.imago_access.specs.Layer.{IsFree, IsLike, Layer};
-ghost use Rattle.imago_access.specs.Mappings.{IsMappedRun, IsOneOf, IsRun, LooksIn, NamesRoomIn};
+ghost use Rattle.imago_access.specs.Mappings.{IsMappedRun, IsOneOf, IsRun, LooksIn, NamesRoomIn, States};
 ghost use Rattle.imago_access.specs.PreparingCalls.{Cancels, Commits, CommitRefused, IsHeldBy, Prepares, WritesMapped, WritingRefused, nowhere};
 ghost use Rattle.imago_access.specs.Refusals.{barrier, own_refusal};
 ghost use Rattle.imago_access.specs.Stops.{GivesNone, IsWritten, KeepsStops, MakesNone};
@@ -123,6 +123,7 @@ impl<S: Storage> FormatDriverInstance for Qcow2<S> {
         ensures run { let d = ⟦<Qcow2<S> as Seen>⟧ in IfOk result (λ r. IsRun (d.layer self.old) offset max_length r.0 r.1) }
         ensures looks { let d = ⟦<Qcow2<S> as Seen>⟧ in d.sees self.old → IfOk result (LooksIn d offset max_length self.old self.new) }
         ensures room { let d = ⟦<Qcow2<S> as Seen>⟧ in d.sees self.old → IfOk result (NamesRoomIn d offset self.old) }
+        ensures stated { let d = ⟦<Qcow2<S> as Seen>⟧ in d.sees self.old → IfOk result (States (d.stated self.old) offset) }
         ensures there { let d = ⟦<Qcow2<S> as Seen>⟧ in IfOk result (λ r. IsOneOf (length (files d self.old)) r.0) }
         ensures at_once { let d = ⟦<Qcow2<S> as Seen>⟧ in AtOnce d (barrier (d.layer self.old)) (max_length ≡ 0) result self.old self.new }
         ensures looked { Looked ⟦<Qcow2<S> as Seen>⟧ (WasNotCutOff result) self.old self.new }

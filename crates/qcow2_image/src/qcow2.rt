@@ -13,7 +13,7 @@ ghost use Rattle.qcow2_alloc.specs.Safety.{AreTablesClean, AreBlocksClean};
 ghost use Rattle.imago_access.specs.Layer.{IsFree};
 ghost use Rattle.qcow2_image.specs.ImageLayer.{qcow2_text};
 ghost use Rattle.qcow2_image.specs.Seen.{layer_of, memory_of};
-ghost use Rattle.qcow2_image.specs.Rooms.{IsVacant, HasRoom, IsZeroed, IsSafe, Sees, is_sound};
+ghost use Rattle.qcow2_image.specs.Rooms.{IsVacant, HasRoom, IsZeroed, IsStated, IsSafe, Sees, is_sound};
 ghost use Rattle.qcow2_image.specs.Writing.{HasBegun, WhyUnwritten};
 
 use crate::mode::OpenMode;
@@ -97,6 +97,8 @@ impl<S: Storage> Seen for Qcow2<S> {
     ghost has_room = { λ d p. HasRoom (memory_of S.Storage d.tables) d.tables.file.header.fields p };
 
     ghost zeroed = { λ d p. IsZeroed (memory_of S.Storage d.tables) d.tables.file.header.fields p };
+
+    ghost stated = { λ d p. IsStated (memory_of S.Storage d.tables) d.tables.file.header.fields p };
 
     ghost claim = { λ s. s.claim };
 

@@ -3,7 +3,7 @@ ghost use Rattle.std.specs.Prelude.{◌≡◌, ◌<◌, ◌≤◌, ◌+◌, ◌*
 ghost use Rattle.imago_access.specs.Files.{WasNotCutOff};
 ghost use Rattle.imago_access.specs.Failing.{Fails, RefusesLookup};
 ghost use Rattle.imago_access.specs.Going.{Looked, Marks};
-ghost use Rattle.imago_access.specs.Mappings.{IsOneOf, IsRun, LooksIn, NamesRoomIn};
+ghost use Rattle.imago_access.specs.Mappings.{IsOneOf, IsRun, LooksIn, NamesRoomIn, States};
 ghost use Rattle.qcow2_metadata.specs.MappingView.{mapping_seen, IsNamed};
 ghost use Rattle.qcow2_image.specs.ImageLayer.{shallow_of};
 ghost use Rattle.qcow2_image.specs.Looking.{EndsNear, IsWholeRunIn, answer_at};
@@ -128,6 +128,8 @@ impl<S: Storage> Qcow2<S> {
         ensures looks { let d = ⟦<Qcow2<S> as Seen>⟧ in
             IsSeen S.Storage self.old.tables → IfOk result (LooksIn d offset max_length self.old self.new) }
         ensures room { let d = ⟦<Qcow2<S> as Seen>⟧ in IsSeen S.Storage self.old.tables → IfOk result (NamesRoomIn d offset self.old) }
+        ensures stated { let d = ⟦<Qcow2<S> as Seen>⟧ in
+            IsSeen S.Storage self.old.tables → IfOk result (States (d.stated self.old) offset) }
         ensures there { IfOk result (λ r. IsOneOf 1 r.0) }
         ensures near { IfOk result (λ r. EndsNear r.0 r.1) }
         ensures entry { let t = self.old.tables in

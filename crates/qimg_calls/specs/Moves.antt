@@ -13,7 +13,7 @@ use Rattle.imago_access.specs.Chain.{at, unit_of_chain, Each}
 use Rattle.imago_access.specs.ChainCalls.{ChainSteps, ChainPartly, ChainStays, chain_refusal, chain_look_refusal, ChainCause, OwnCause, ChainMappedCause, CanWriteRun, KeepsHomes, IsMappedFor}
 use Rattle.imago_access.specs.Failing.{RefusesLookup, RefusesFlush}
 use Rattle.imago_access.specs.Files.{files, files_of, IsMild}
-use Rattle.imago_access.specs.Mappings.{DeepNames, DeepNamesHome, DeepNamesWritable, IsDeepBelow, IsHomeRun, IsOneOf, IsThere, LooksIn, NamesRoomIn, stored_at}
+use Rattle.imago_access.specs.Mappings.{DeepNames, DeepNamesHome, DeepNamesWritable, DeepStates, IsDeepBelow, IsHomeRun, IsOneOf, IsThere, LooksIn, NamesRoomIn, States, stored_at}
 use Rattle.imago_access.specs.Parts.{GrowthCause, ShrinkCause}
 use Rattle.imago_access.specs.PreparingCalls.{nowhere}
 use Rattle.imago_access.specs.Refusals.{ReadCause, DeepLookCause, barrier}
@@ -38,8 +38,8 @@ pub record NamesOneThere {D St : Type 0} (g : Ghosts D St) (offset asked : ℕ) 
   pub writable : DeepNamesWritable (map g.layer (chain c)) offset asked mapping
 
 -- Which places an answer names: of storages that there are, what their bytes are and where the run can be written, and by the top layer
--- none of those that it has no room for. A look leaves the top as it was. A flush with nothing prepared is done where the top's file by
--- itself means the disk.
+-- none of those that it has no room for. A lookup's zero is explicit exactly where the top layer states it. A look leaves the top as it
+-- was. A flush with nothing prepared is done where the top's file by itself means the disk.
 abbrev pub Names : {D St : Type 0} → Ghosts D St → Call → Answer → D × List D → D × List D → Type 0
 Names g (calls.Read offset n) answer old new = TopStays g old new
 Names g (calls.GetMapping offset asked) (told.Mapped mapping n) old new =
@@ -47,11 +47,13 @@ Names g (calls.GetMapping offset asked) (told.Mapped mapping n) old new =
     × DeepNamesHome (g.layer old.0) offset asked mapping
     × TopStays g old new
     × NamesOneThere g offset asked mapping old
+    × DeepStates (g.stated old.0) offset (mapping, n)
 Names g (calls.GetShallowMapping offset asked) (told.Shallow mapping n) old new =
     LooksIn g offset asked old.0 new.0 (mapping, n)
     × TopStays g old new
     × IsOneOf (length (files g old.0)) mapping
     × NamesRoomIn g offset old.0 (mapping, n)
+    × States (g.stated old.0) offset (mapping, n)
 Names g (calls.EnsureDataMapping offset asked overwrite) (told.Mapped mapping n) old new =
     IsHomeRun (g.layer new.0) offset mapping n × (asked ≡ 0 → (mapping ≡ deep.Raw 0 0 0 true) × (n ≡ 0))
 Names g (calls.WriteMapped guest place bytes) told.Done old new =

@@ -29,6 +29,7 @@ through f h g = record {
   vacant = λ d. h.vacant (f d);
   has_room = λ d. h.has_room (f d);
   zeroed = λ d. h.zeroed (f d);
+  stated = λ d. h.stated (f d);
   claim = g.claim;
   tag = g.tag;
   sound = g.sound;

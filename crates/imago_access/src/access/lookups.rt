@@ -4,7 +4,7 @@ ghost use Rattle.imago_storage.specs.declared.fault.Fault.{Fault};
 ghost use Rattle.imago_access.specs.Layers.{chain, layers};
 ghost use Rattle.imago_access.specs.Files.{Pairs, WasNotCutOff, ImageCause, files, files_of};
 ghost use Rattle.imago_access.specs.Going.{IsUnchanged, Looked, Marks, MarksSome};
-ghost use Rattle.imago_access.specs.Mappings.{IsRun, IsDeepRun, IsOneOf, IsRunBelow, DeepNamesHome, LooksIn, NamesRoomIn};
+ghost use Rattle.imago_access.specs.Mappings.{IsRun, IsDeepRun, IsOneOf, IsRunBelow, DeepNamesHome, DeepStates, LooksIn, NamesRoomIn, States};
 ghost use Rattle.imago_access.specs.Refusals.{barrier};
 ghost use Rattle.imago_access.specs.ChainCalls.{ChainFails};
 ghost use Rattle.imago_access.specs.Failing.{Fails, RefusesLookup};
@@ -34,6 +34,7 @@ impl<D: FormatDriverInstance> FormatAccess<D> {
         ensures run { IfOk result (λ r. IsRun (D.layer self.old.0) offset max_length r.0 r.1) }
         ensures looks { D.sees self.old.0 → IfOk result (LooksIn D.Seen offset max_length self.old.0 self.new.0) }
         ensures room { D.sees self.old.0 → IfOk result (NamesRoomIn D.Seen offset self.old.0) }
+        ensures stated { D.sees self.old.0 → IfOk result (States (D.stated self.old.0) offset) }
         ensures there { IfOk result (λ r. IsOneOf (length (files D.Seen self.old.0)) r.0) }
 
         // When it ends at once.
@@ -57,7 +58,8 @@ impl<D: FormatDriverInstance> FormatAccess<D> {
     /// end, of no length, and else at least one byte where one is asked for. Past the end of a lower layer the disk is 0.
     ///
     /// A place is answered as one that can be written only where each layer on the way says so, and wherever they do while nothing is
-    /// prepared in the last of them. A zero is explicit only where the top layer says so, and always there if it shows a layer below.
+    /// prepared in the last of them. A zero is explicit exactly where the top layer states it itself, in place of having nothing there.
+    /// If it shows a layer below, each zero of its own is explicit.
     ///
     /// It refuses with `Fault::DamagedTable` where a layer's tables say nothing of a place of the range, with `Fault::Memory` and
     /// `Fault::Storage`, and where a layer that it asks can't be used. With `Fault::Storage` the layer whose storage it was has failed, if
@@ -77,6 +79,7 @@ impl<D: FormatDriverInstance> FormatAccess<D> {
         ensures there { NamesStorage D.Seen result (chain self.old) }
         ensures home { D.sees self.old.0 → IfOk result (λ r. DeepNamesHome (D.layer self.old.0) offset max_length r.0) }
         ensures writable { NamesWritable D.Seen offset max_length result (chain self.old) }
+        ensures stated { D.sees self.old.0 → IfOk result (DeepStates (D.stated self.old.0) offset) }
 
         // When it ends at once.
         ensures idle { max_length ≡ 0 → barrier (D.layer self.old.0) ≡ None → IsOk result }
@@ -109,6 +112,7 @@ impl<D: FormatDriverInstance> FormatAccess<D> {
         ensures there { NamesStorage D.Seen result (driver.old ∷ layers below.old) }
         ensures home { D.sees driver.old → IfOk result (λ r. DeepNamesHome (D.layer driver.old) offset max_length r.0) }
         ensures writable { NamesWritable D.Seen offset max_length result (driver.old ∷ layers below.old) }
+        ensures stated { D.sees driver.old → IfOk result (DeepStates (D.stated driver.old) offset) }
         ensures idle { max_length ≡ 0 → barrier (D.layer driver.old) ≡ None → IsOk result }
         ensures unusable { (f : Fault) → barrier (D.layer driver.old) ≡ Some f → IsErrOf result f }
         ensures unchanged { UnchangedIfIdle D.Seen max_length (driver.old, layers below.old) (driver.new, layers below.new) }

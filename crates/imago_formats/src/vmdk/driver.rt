@@ -5,7 +5,7 @@ ghost use Rattle.std.proofs.Math.Nat.{le_refl};
 ghost use Rattle.imago_storage.specs.Calls.{CountsFaults, IsFaultless, Kept};
 ghost use Rattle.imago_access.specs.Failing.{Fails, RefusesFlush, RefusesLookup};
 ghost use Rattle.imago_access.specs.Files.{AreRead, OverflowsIn, Pairs, WasNotCutOff, byte_in, files, keep_all};
-ghost use Rattle.imago_access.specs.Mappings.{IsOneOf, IsRun, LooksIn, NamesRoomIn};
+ghost use Rattle.imago_access.specs.Mappings.{IsOneOf, IsRun, LooksIn, NamesRoomIn, States};
 ghost use Rattle.imago_access.specs.Going.{AtOnce, IsUnchanged, Looked, Marks, RangeAtOnce};
 ghost use Rattle.imago_access.specs.PartCalls.{IsPart, DoesPart, PartCall, PartRefused};
 ghost use Rattle.imago_formats.specs.VmdkFiles.{IsUnread, Keeps, Refuses};
@@ -14,7 +14,7 @@ ghost use Rattle.imago_access.specs.Refusals.{barrier};
 ghost use Rattle.imago_formats.specs.Descriptor.{descriptor_of, is_signed, text_of};
 ghost use Rattle.imago_formats.specs.DescriptorView.{RefusesOpening, kept_extents, kept_names};
 ghost use Rattle.imago_formats.specs.RawHome.{never};
-ghost use Rattle.imago_formats.specs.VmdkLayer.{IsWholeRun, ReadsReach, vmdk_layer, vmdk_text};
+ghost use Rattle.imago_formats.specs.VmdkLayer.{IsWholeRun, IsZeroByDescriptor, ReadsReach, vmdk_layer, vmdk_text};
 ghost use Rattle.imago_formats.specs.VmdkOpening.{NotAllOpened, OpensNext};
 ghost use Rattle.imago_formats.specs.contracts.vmdk.driver.Vmdk.{the_row};
 ghost use Rattle.std.specs.Borrow.{Lends, sem};
@@ -114,6 +114,7 @@ impl<S: Storage> Vmdk<S> {
         ensures run { IsRun (⟦<Vmdk<S> as Seen>⟧.layer self.now) offset max_length result.0 result.1 }
         ensures looks { let d = ⟦<Vmdk<S> as Seen>⟧ in d.sees self.now → LooksIn d offset max_length self.now self.now result }
         ensures there { let d = ⟦<Vmdk<S> as Seen>⟧ in barrier (d.layer self.now) ≡ None → IsOneOf (length (files d self.now)) result.0 }
+        ensures stated { States (IsZeroByDescriptor self.now.disk.extents.items) offset result }
         ensures whole { IsWholeRun self.now.disk.extents.items offset max_length result.1 }
     {
         match self.disk.find(offset) {
@@ -281,6 +282,8 @@ impl<S: Storage> Seen for Vmdk<S> {
 
     ghost zeroed = { λ d p. ⊤ };
 
+    ghost stated = { λ d. IsZeroByDescriptor d.disk.extents.items };
+
     ghost claim = { λ _. 0 };
 
     ghost tag = { λ _. 0 };
@@ -379,6 +382,7 @@ impl<S: Storage> FormatDriverInstance for Vmdk<S> {
         ensures run { let d = ⟦<Vmdk<S> as Seen>⟧ in IfOk result (λ r. IsRun (d.layer self.old) offset max_length r.0 r.1) }
         ensures looks { let d = ⟦<Vmdk<S> as Seen>⟧ in d.sees self.old → IfOk result (LooksIn d offset max_length self.old self.new) }
         ensures room { let d = ⟦<Vmdk<S> as Seen>⟧ in d.sees self.old → IfOk result (NamesRoomIn d offset self.old) }
+        ensures stated { let d = ⟦<Vmdk<S> as Seen>⟧ in d.sees self.old → IfOk result (States (d.stated self.old) offset) }
         ensures there { let d = ⟦<Vmdk<S> as Seen>⟧ in IfOk result (λ r. IsOneOf (length (files d self.old)) r.0) }
         ensures at_once { let d = ⟦<Vmdk<S> as Seen>⟧ in AtOnce d (barrier (d.layer self.old)) (max_length ≡ 0) result self.old self.new }
         ensures looked { Looked ⟦<Vmdk<S> as Seen>⟧ (WasNotCutOff result) self.old self.new }

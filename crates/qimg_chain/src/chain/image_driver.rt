@@ -115,6 +115,12 @@ impl<S: Storage> Seen for ImageDriver<S> {
       | variant.Qcow2 d ↦ ⟦<Qcow2<S> as Seen>⟧.zeroed d
     ] };
 
+    ghost stated = { elim [
+      | variant.Raw d ↦ ⟦<Raw<S> as Seen>⟧.stated d
+      | variant.Vmdk d ↦ ⟦<Vmdk<S> as Seen>⟧.stated d
+      | variant.Qcow2 d ↦ ⟦<Qcow2<S> as Seen>⟧.stated d
+    ] };
+
     ghost claim = { ⟦<Qcow2<S> as Seen>⟧.claim };
 
     ghost tag = { ⟦<Qcow2<S> as Seen>⟧.tag };

@@ -3,12 +3,12 @@ use Rattle.std.specs.Prelude.{⊤}
 use Rattle.imago_access.specs.Chain.{at}
 use Rattle.imago_access.specs.Layers.{layers}
 use Rattle.imago_access.specs.Files.{ImageCause, IsMild, WasNotCutOff, files_of, files, byte_in}
-use Rattle.imago_access.specs.Mappings.{NamesHome, DeepNames, IsOneOf, IsThere, stored_at, lower}
+use Rattle.imago_access.specs.Mappings.{AreStated, NamesHome, DeepNames, IsOneOf, IsThere, stored_at, lower}
 use Rattle.imago_access.specs.declared.mapping.Mapping.{Mapping}
 use Rattle.imago_access.proofs.Looking.{all_looked_same, chain_same}
 use Rattle.imago_access.proofs.ReadCauses.{indirect_free}
 use Rattle.imago_access.proofs.LookedUp.{deep_step}
-use Rattle.imago_access.proofs.Deeper.{names_lower, there_lower, writable_here, run_inside, indirect_run, indirect_writable, deep_look_top, deep_look_below}
+use Rattle.imago_access.proofs.Deeper.{indirect_unstated, names_lower, there_lower, unstated_below, writable_here, run_inside, indirect_run, indirect_writable, deep_look_top, deep_look_below}
 use Rattle.imago_access.proofs.ImageCauses.{failed_left, failed_right}
 use Rattle.imago_access.proofs.Marking.{marked_top}
 use Rattle.imago_access.proofs.access.FormatAccess.+map.Goals as goal
@@ -68,6 +68,14 @@ map_part-returns-in-Ok-map_under-clause-there g t c = λ few. let d = g.D.Seen i
     let lowered : c.lowered.result ≡ lower c.in-Indirect.writable m = c.lowered.ensures.value (search (rules)) in
     subst (IsThere d (c.args.driver.now ∷ layers c.args.below.now)) (sym lowered)
     (there_lower d c.args.driver.now (layers c.args.below.now) c.in-Indirect.writable m (c.in-Ok-map_under.ensures.there (omega (arith, few))))
+
+pub map_part-returns-in-Ok-map_under-clause-stated : goal.map_part-returns-in-Ok-map_under-clause-stated
+map_part-returns-in-Ok-map_under-clause-stated g t c = λ see.
+    let stated = g.D.Seen.stated c.args.driver.now in
+    let asked = (c.in-Ok.run').1 in
+    let n = c.in-Ok-map_under.length in
+    let none = indirect_unstated stated c.args.offset asked c.in-Indirect.offset c.in-Indirect.writable (c.in-Ok.run').0 c.in-Indirect.is (c.in-Ok.ensures.stated see) in
+    subst (AreStated stated c.args.offset n) (sym c.lowered.ensures.explicit) (unstated_below stated c.args.offset asked n c.in-Ok-map_under.mapping none c.in-Ok-map_under.ensures.run)
 
 pub map_part-returns-in-Raw-clause-there : goal.map_part-returns-in-Raw-clause-there
 map_part-returns-in-Raw-clause-there g t c = λ few. let d = g.D.Seen in subst (IsOneOf (length (files d c.args.driver.now))) c.in-Raw.is c.in-Ok.ensures.there

@@ -10,6 +10,9 @@ returns-clause-looks g c = λ sees. c.run_from.ensures.looks sees.seen
 pub returns-clause-room : goal.returns-clause-room
 returns-clause-room g c = λ sees. c.run_from.ensures.room sees.seen
 
+pub returns-clause-stated : goal.returns-clause-stated
+returns-clause-stated g c = λ sees. c.run_from.ensures.stated sees.seen
+
 pub returns-clause-cause : goal.returns-clause-cause
 returns-clause-cause g c = λ sees. c.run_from.ensures.cause sees.seen
 

@@ -8,20 +8,20 @@ use Rattle.qcow2_types.specs.Entries.{entry}
 use Rattle.qcow2_types.specs.Words.{damaged}
 use Rattle.qcow2_metadata.specs.MappingView.{mapping_seen, IsNamed}
 use Rattle.qcow2_metadata.specs.declared.mapping.L2Mapping.{L2Mapping}
-use Rattle.imago_access.specs.Mappings.{IsOneOf, IsRun, Looks, NamesRoom}
+use Rattle.imago_access.specs.Mappings.{IsOneOf, IsRun, Looks, NamesRoom, States}
 use Rattle.imago_access.specs.Files.{byte_in}
 use Rattle.imago_access.specs.Refusals.{LookCause}
 use Rattle.qcow2_image.specs.Unspent.{holding_in}
 use Rattle.qcow2_image.specs.declared.qcow2.Qcow2.{Qcow2}
 use Rattle.imago_access.specs.declared.mapping.ShallowMapping.{ShallowMapping}
 use Rattle.qcow2_image.specs.ImageLayer.{qcow2_layer, shallow_of}
-use Rattle.qcow2_image.specs.Rooms.{IsVacant, IsZeroed}
+use Rattle.qcow2_image.specs.Rooms.{IsStated, IsVacant, IsZeroed}
 use Rattle.qcow2_image.specs.Looking.{EndsNear, WhyNotLooked, IsRunOf}
 use Rattle.qcow2_image.specs.Seen.{file_of, memory_of}
 use Rattle.qcow2_image.proofs.Ranges.{low-bits, high-bits, some-words, range-some, range-near, range-few, range-small, range-one-table, range-fits, range-within, range-word, range-ends}
 use Rattle.qcow2_image.proofs.Ends.{long-run, run-goes-on}
 use Rattle.qcow2_image.proofs.Steps.{began-kept, keeps-marked, looked-kept, marks-kept, memory-is}
-use Rattle.qcow2_image.proofs.Answering.{ends-near, is-run, names-one, looks-run, room-run, look-cause}
+use Rattle.qcow2_image.proofs.Answering.{ends-near, is-run, names-one, looks-run, room-run, states-run, look-cause}
 use Rattle.qcow2_image.proofs.qcow2.Qcow2.run_from.Goals as goal
 
 pub clusters_met-most-requires-clause-some : goal.clusters_met-most-requires-clause-some
@@ -148,6 +148,28 @@ returns-in-Ok-clause-room g c = λ seen.
     c.shallow.ensures ∙ ap (λ x. shallow_of q.mode x c.args.offset c.in_cluster_offset-within.result (mapping_seen c.in-Ok.mapping)) b ∙ ap (λ x. shallow_of q.mode h.cluster_bits c.args.offset x (mapping_seen c.in-Ok.mapping)) within in
     subst (λ x. NamesRoom layer (IsVacant (memory_of g.S.Storage t) h) (IsZeroed (memory_of g.S.Storage t) h) c.args.offset n x) (sym answer)
     (room-run s (memory_of g.S.Storage t) h q.mode q.number q.failed (holding_in g.S.Storage q.unspent) c.args.offset n c.clusters_met-most.result run (memory-is g.S.Storage t) (omega (arith, c.bytes_met-length.ensures, near, c.size-size.ensures)) (omega (arith, c.bytes_met-length.ensures, within, end)) is)
+
+pub returns-in-Ok-clause-stated : goal.returns-in-Ok-clause-stated
+returns-in-Ok-clause-stated g c = λ seen.
+    let q = c.args.self.now in
+    let t = q.tables in
+    let h = t.file.header.fields in
+    let s = g.S.Storage.state t.file.image in
+    let b = c.cluster_bits-cluster_bits.ensures.value in
+    let n = c.bytes_met-length.result in
+    let run : L2Mapping × ℕ = (c.in-Ok.mapping, c.in-Ok.count) in
+    let near = range-near c.cluster_bits-cluster_bits.result c.args.offset c.size-size.result c.args.max_length c.remaining_in_l2_table.result c.min-rest.result c.min-length.result c.in_cluster_offset-within.result c.clusters_met-most.result
+    (low-bits c.cluster_bits-cluster_bits.result _ c.cluster_bits-cluster_bits.ensures.value c.cluster_bits-cluster_bits.ensures.shaped) (high-bits c.cluster_bits-cluster_bits.result _ c.cluster_bits-cluster_bits.ensures.value c.cluster_bits-cluster_bits.ensures.shaped)
+    c.remaining_in_l2_table.ensures c.min-rest.ensures c.min-length.ensures c.in_cluster_offset-within.ensures c.clusters_met-most.ensures (omega (arith, c.size-size.ensures, c.requires.inside)) c.requires.some in
+    let power : 2 ^ c.cluster_bits-cluster_bits.result ≡ 2 ^ h.cluster_bits = ap (λ x. 2 ^ x) b in
+    let within : c.in_cluster_offset-within.result ≡ c.args.offset % cluster_size h = c.in_cluster_offset-within.ensures ∙ ap (λ x. c.args.offset % x) power in
+    let guest : c.cluster.result ≡ c.args.offset / cluster_size h = c.cluster.ensures ∙ ap (λ x. c.args.offset / x) power in
+    let end : c.in-Ok.count * 2 ^ c.cluster_bits-cluster_bits.result ≡ c.in-Ok.count * cluster_size h = ap (λ x. c.in-Ok.count * x) power in
+    let is = subst (λ x. IsRunOf x c.clusters_met-most.result (entry (file_of g.S.Storage t) h) run) guest (c.in-Ok.ensures.says seen) in
+    let answer : c.shallow.result ≡ shallow_of q.mode h.cluster_bits c.args.offset (c.args.offset % cluster_size h) (mapping_seen c.in-Ok.mapping) =
+    c.shallow.ensures ∙ ap (λ x. shallow_of q.mode x c.args.offset c.in_cluster_offset-within.result (mapping_seen c.in-Ok.mapping)) b ∙ ap (λ x. shallow_of q.mode h.cluster_bits c.args.offset x (mapping_seen c.in-Ok.mapping)) within in
+    subst (λ x. States (IsStated (memory_of g.S.Storage t) h) c.args.offset (x, n)) (sym answer)
+    (states-run s (memory_of g.S.Storage t) h q.mode q.number q.failed (holding_in g.S.Storage q.unspent) c.args.offset n c.clusters_met-most.result run (memory-is g.S.Storage t) (omega (arith, c.bytes_met-length.ensures, near, c.size-size.ensures)) (omega (arith, c.bytes_met-length.ensures, within, end)) is)
 
 pub returns-in-Ok-clause-whole : goal.returns-in-Ok-clause-whole
 returns-in-Ok-clause-whole g c = λ seen.

@@ -26,7 +26,7 @@ returns-in-Ok g c kept is =
           found (deep_kind_of c.in-Ok.mapping) c.in-Ok.count,
           refl,
           e.ok rests.1 rests.0,
-          (e.names rests.1 rests.0, e.home rests.0.0, (e.looked.0.stays tt rests.0.0).0, record { layer = e.deep rests.1; storage = e.there rests.1; writable = e.writable rests.1 rests.0 }),
+          (e.names rests.1 rests.0, e.home rests.0.0, (e.looked.0.stays tt rests.0.0).0, record { layer = e.deep rests.1; storage = e.there rests.1; writable = e.writable rests.1 rests.0 }, e.stated rests.0.0),
         ),
         refl,
       );

@@ -3,7 +3,7 @@ use Rattle.std.specs.Prelude.{map}
 use Rattle.imago_formats.specs.VmdkLayer.{files_asked}
 use Rattle.imago_formats.proofs.ExtentLemmas.{whole_run}
 use Rattle.imago_formats.proofs.StorageLemmas.{all_aligned}
-use Rattle.imago_formats.proofs.VmdkSteps.{all_open, looks_at, names_one}
+use Rattle.imago_formats.proofs.VmdkSteps.{all_open, looks_at, names_one, states_at}
 use Rattle.imago_formats.proofs.vmdk.driver.Vmdk.run_from.Goals as goal
 
 pub returns-in-Some-clause-there : goal.returns-in-Some-clause-there
@@ -29,3 +29,10 @@ returns-in-Some-clause-looks g c = λ reach.
     let short : c.min.result ≤ 512 * x.sectors - (c.args.offset - c.in-Some.found.start) = omega (arith, c.min.ensures) in
     rw c.mapping_at.ensures (looks_at r.disk.extents.items (state r.image) (map state r.files.items) c.args.offset c.args.max_length c.min.result x
     c.in-Some.found.start c.in-Some.found.number c.in-Some.ensures.found (all_aligned state g.met.S.Storage.aligned r.image r.files.items).positive reach short)
+
+pub returns-in-Some-clause-stated : goal.returns-in-Some-clause-stated
+returns-in-Some-clause-stated g c =
+    let x = c.in-Some.found.extent.now in
+    let short : c.min.result ≤ 512 * x.sectors - (c.args.offset - c.in-Some.found.start) = omega (arith, c.min.ensures) in
+    rw c.mapping_at.ensures (states_at c.args.self.now.disk.extents.items c.args.offset c.min.result x c.in-Some.found.start c.in-Some.found.number
+    c.in-Some.ensures.found short)

@@ -67,3 +67,9 @@ returns-in-Vmdk-clause-cause g c = rw (c.in-Vmdk.is) c.get_mapping-in-Vmdk.ensur
 
 pub returns-in-Qcow2-clause-looks : goal.returns-in-Qcow2-clause-looks
 returns-in-Qcow2-clause-looks g c = rw (c.in-Qcow2.is) c.get_mapping-in-Qcow2.ensures.looks
+
+pub returns-in-Vmdk-clause-stated : goal.returns-in-Vmdk-clause-stated
+returns-in-Vmdk-clause-stated g c = rw (c.in-Vmdk.is) c.get_mapping-in-Vmdk.ensures.stated
+
+pub returns-in-Qcow2-clause-stated : goal.returns-in-Qcow2-clause-stated
+returns-in-Qcow2-clause-stated g c = rw (c.in-Qcow2.is) c.get_mapping-in-Qcow2.ensures.stated
