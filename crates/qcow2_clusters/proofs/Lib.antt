@@ -11,3 +11,4 @@ pub mod NamedWords
 pub mod NamedAtRest
 pub mod NamingTables
 pub mod MakingTables
+pub mod CopyingTables

@@ -1,19 +1,19 @@
--- How the making of an L2 table ends.
-use Rattle.std.proofs.Common.{◌≡◌, ℕ, ◌+◌, ◌-◌, ◌*◌, ◌^◌, ◌<◌, refl, arith, ap, sym, subst, ◌∙◌, inl, inr, length, List, Ok, Err, Result, true}
-use Rattle.std.specs.Prelude.{◌⊎◌, IsTrue, replicate, slice_set}
+-- How a word of the L1 table comes to name a new L2 table.
+use Rattle.std.proofs.Common.{◌≡◌, ◌≢◌, ℕ, ◌+◌, ◌*◌, ◌^◌, ◌<◌, refl, arith, ap, sym, subst, ◌∙◌, inl, inr, length, List, Ok, Err, Result, true}
+use Rattle.std.specs.Prelude.{◌⊎◌, IfErr, IsTrue, slice_set}
 use Rattle.std.specs.Int.{w64, to_be_bytes}
-use Rattle.std.proofs.lemmas.List.{get_or-replicate, length-replicate}
-use Rattle.imago_storage.specs.State.{StorageState, Rose}
-use Rattle.imago_storage.specs.Calls.{Cause, Later}
+use Rattle.imago_storage.specs.State.{StorageState, Rose, Shape}
+use Rattle.imago_storage.specs.Calls.{Cause, IsFaultless, Kept, Later}
 use Rattle.imago_storage.specs.Through.{Put, PutAtOnce}
 use Rattle.imago_storage.specs.declared.fault.Fault.{Fault}
 use Rattle.imago_storage.specs.declared.fault.Fault.TheVariants.{Counter, DamagedTable, Limit, Memory, Storage}
 use Rattle.imago_storage.proofs.Composing.{keeps_on, later_both, later_same, no_stops, one_stop, tells_on}
-use Rattle.qcow2_types.specs.Bytes.{Bytes, bytes_of, splice}
-use Rattle.qcow2_types.specs.Entries.{l2_table}
-use Rattle.qcow2_types.specs.Header.{Fields, Header, cluster_size, layout_of}
+use Rattle.qcow2_types.specs.Bytes.{Bytes, bytes_of, splice, word}
+use Rattle.qcow2_types.specs.Entries.{entry, l2_mapping, l2_table}
+use Rattle.qcow2_types.specs.Header.{Fields, Header, cluster_size, layout_of, words_of_cluster}
+use Rattle.qcow2_types.specs.References.{meets, of_cluster}
 use Rattle.qcow2_types.specs.Switched.{with_refcount_table}
-use Rattle.qcow2_types.specs.Words.{is_place}
+use Rattle.qcow2_types.specs.Words.{is_copied, is_place}
 use Rattle.qcow2_types.proofs.HeaderLimits.{header-limited}
 use Rattle.qcow2_metadata.specs.Places.{IsInReach}
 use Rattle.qcow2_metadata.specs.Tables.{TableValue, table_place}
@@ -22,16 +22,17 @@ use Rattle.qcow2_alloc.specs.Caches.{HasRoomOf}
 use Rattle.qcow2_alloc.specs.Allocating.{MovedTable}
 use Rattle.qcow2_alloc.specs.Going.{WasNotCutOff}
 use Rattle.qcow2_alloc.specs.Opening.{IsL1Of}
-use Rattle.qcow2_alloc.specs.Quiet.{Metadata, IsIn, IsSound, one_at}
+use Rattle.qcow2_alloc.specs.Quiet.{Metadata, IsIn, IsSound, named_at_all, one_at}
 use Rattle.qcow2_alloc.proofs.Flushing.Faultless.{faultless-then, put-faultless}
 use Rattle.qcow2_alloc.proofs.Quiet.AtOnce.{at-once-file, put-done}
 use Rattle.qcow2_steps.specs.Advancing.{MayBeLeft}
-use Rattle.qcow2_clusters.specs.MakingTables.{EntersTable, HasWordsOf, IsTableless, MakesTable, making}
+use Rattle.qcow2_steps.specs.NewTables.{old_table, slot_or_none}
+use Rattle.qcow2_clusters.specs.MakingTables.{EntersTable, HasWordsOf, IsContent, NamesNewTable, PlacesTable, replacing}
 use Rattle.qcow2_clusters.specs.Progress.{Kind, Progresses, both, handing}
-use Rattle.qcow2_clusters.specs.Rest.{AreEmpty, Clusters, IsReady, resting, storage}
+use Rattle.qcow2_clusters.specs.Rest.{AreEmpty, Clusters, IsReady, lent, resting, storage}
 use Rattle.qcow2_clusters.specs.Storing.{Stores, WhyNotAllocated, handed_by}
-use Rattle.qcow2_clusters.proofs.Adding.{AdvancesBy, IsWider, LeftBy, progresses-halted, progresses-in-memory, progresses-otherwise, progresses-then-given, progresses-weaker, wider-both, wider-handing}
-use Rattle.qcow2_clusters.proofs.NamingTables.{IsBlank, blank-advances, blank-entered, blank-named, l1-moved, l1-same, l1-table, naming_word}
+use Rattle.qcow2_clusters.proofs.Adding.{AdvancesBy, IsWider, LeftBy, progresses-halted, progresses-otherwise, progresses-then-given, progresses-weaker, wider-both, wider-handing}
+use Rattle.qcow2_clusters.proofs.NamingTables.{IsReplacement, bytes-mean, from-zero, l1-moved, l1-same, l1-table, naming_word, replaced-advances, replaced-copied, replaced-entered, replaced-named, replaced-unnamed, resting-memory, slots-kept}
 
 -- By one request the image comes to be what its file then makes it.
 module _ (m : Metadata) (kind : Kind) (at : ℕ) (bytes : List ℕ) (some : 0 < length bytes) (old new : StorageState) (is_in : IsIn old m)
@@ -70,7 +71,7 @@ module _ (m : Metadata) (kind : Kind) (at : ℕ) (bytes : List ℕ) (some : 0 < 
   once-progresses = once-answer
 
 -- The L1 table of a sound image begins with a cluster that words can name.
-l1-placed : (m : Metadata) → IsSound m → IsTrue (is_place m.header.fields.cluster_bits m.header.fields.l1_offset)
+pub l1-placed : (m : Metadata) → IsSound m → IsTrue (is_place m.header.fields.cluster_bits m.header.fields.l1_offset)
 l1-placed m sound = (header-limited true m.file m.header sound.safe.consistent.readable.loads).l1_place
 
 -- A cause stays one where less is ready,
@@ -84,84 +85,173 @@ why-wider ready less from before after Counter why = λ is. why (from is)
 why-wider ready less from before after fault why = absurd why
 
 -- and that of a write is one.
-why-put : (ready : Type 0) (before mid after : ℕ) (fault : Fault) → mid ≡ before → Cause mid after fault
+pub why-put : (ready : Type 0) (before mid after : ℕ) (fault : Fault) → mid ≡ before → Cause mid after fault
     → WhyNotAllocated ready before after fault
 why-put ready before mid after Memory same why = tt
 why-put ready before mid after Storage same why = subst (λ n. Rose n after) same why
 why-put ready before mid after fault same why = absurd why
 
--- Room was let go, and nothing else has changed in memory.
-pub record IsReleased {S : Type 0} (c1 c2 : Clusters S) : Type 0 where
-  pub header : c2.file.header ≡ c1.file.header
-  pub caches : c2.caches ≡ c1.caches
-  pub allocator : c2.space.allocator ≡ c1.space.allocator
-  pub entries : c2.space.to_free.entries ≡ c1.space.to_free.entries
-  pub held : c2.space.to_free.held ≡ c1.space.to_free.held - 1
+-- In whatever the answer is refused, it is for a cause of that kind.
+pub if-refused : (result : Result ℕ Fault) (P Q : Fault → Type 0) → ((fault : Fault) → P fault → Q fault) → IfErr result P → IfErr result Q
+if-refused (Ok t) P Q from why = tt
+if-refused (Err fault) P Q from why = from fault why
+
+-- Nothing was asked of the image but reads, and nothing has changed in memory.
+pub record IsKept {S : Type 0} (state : S → StorageState) (c c' : Clusters S) : Type 0 where
+  pub kept : Kept (storage state c) (storage state c')
+  pub later : Later (storage state c) (storage state c')
+  pub header : c'.file.header ≡ c.file.header
+  pub caches : c'.caches ≡ c.caches
+
+pub kept-itself : {S : Type 0} (state : S → StorageState) (c : Clusters S) → IsKept state c c
+kept-itself state c = record {
+  kept = record { shape = refl; bytes = refl; refusals = refl; stop = refl; past = refl };
+  later = later_same (storage state c);
+  header = refl;
+  caches = refl;
+}
+
+-- A call is refused that was cut off before it changed anything, or of an image that isn't as it is asked.
+pub not-begun : {S : Type 0} (state : S → StorageState) (asked : Type 0) (kind : Kind) (i : ℕ) (c : Clusters S) (fault : Fault)
+    (top' : TableValue) (c' : Clusters S) → AreEmpty c.caches → IsKept state c c'
+    → (IsReady state c → asked → WasNotCutOff {T = ℕ} (Err fault) → ⊥)
+    → (WasNotCutOff {T = ℕ} (Err fault) → IsFaultless (storage state c) (storage state c'))
+    → WhyNotAllocated (IsReady state c × asked) (storage state c).faults (storage state c').faults fault
+    → NamesNewTable state asked kind i c (Err fault) top' c'
+not-begun {S} state asked kind i c fault top' c' empty is never faultless why = record {
+  progress = λ asks. record {
+    shape = is.kept.shape;
+    later = is.later;
+    passes = λ keeps sound calm. (
+      λ same tells keeps'. is.kept.stop
+          ∙ same (subst (λ (s : Shape). IsTrue s.tells) is.kept.shape tells) (subst (λ (s : Shape). IsTrue s.keeps) is.kept.shape keeps')
+          ∙ sym is.kept.bytes,
+      no_stops (LeftBy kind (resting state c)) (storage state c) (storage state c') is.kept.stop is.kept.past,
+    );
+    holds = λ keeps sound whole. absurd (never record { keeps = keeps; sound = sound } asks whole);
+  };
+  rests = record {
+    empty = subst (λ (caches : MetadataCaches S). AreEmpty caches) (sym is.caches) empty;
+    room = subst (λ (caches : MetadataCaches S). HasRoomOf c.caches caches) (sym is.caches) record { tables = refl; blocks = refl };
+    header = (c.file.header.fields.refcount_table_offset, c.file.header.fields.refcount_table_clusters, is.header);
+    shape = is.kept.shape;
+    later = is.later;
+    faults = faultless;
+  };
+  l1 = λ ready asks whole. absurd (never ready asks whole);
+  there = λ ready asks. tt;
+  copied = λ ready asks. tt;
+  cause = why;
+}
+
+-- The answer of a call may be said for less that is asked, and of another kind that gives all that its own does.
+pub narrowed : {S : Type 0} (state : S → StorageState) (asked asked' : Type 0) (kind kind' : Kind) (i : ℕ) (c : Clusters S)
+    (result : Result ℕ Fault) (top' : TableValue) (c' : Clusters S) → (asked' → asked) → IsWider kind kind'
+    → (asked' → (d : ℕ) → kind.handed d + kind'.taken d ≡ kind'.handed d + kind.taken d)
+    → (asked' → (d : ℕ) → kind'.taken d ≡ 0 → kind.taken d ≡ 0)
+    → NamesNewTable state asked kind i c result top' c' → NamesNewTable state asked' kind' i c result top' c'
+narrowed state asked asked' kind kind' i c result top' c' from wider same spared named = record {
+  progress = λ asks. progresses-otherwise (WasNotCutOff result) (WasNotCutOff result) kind kind' (storage state c) (resting state c)
+      (storage state c') (resting state c') wider (λ keeps sound whole. whole) (λ keeps sound whole. same asks)
+      (λ keeps sound whole d used none. spared asks d none) (named.progress (from asks));
+  rests = named.rests;
+  l1 = λ ready asks. named.l1 ready (from asks);
+  there = λ ready asks. named.there ready (from asks);
+  copied = λ ready asks. named.copied ready (from asks);
+  cause = if-refused result _ _ (λ fault. why-wider (IsReady state c × asked) (IsReady state c × asked') (λ both. (both.0, from both.1))
+      (storage state c).faults (storage state c').faults fault) named.cause;
+}
+
+-- How much room is held is no matter of the image.
+abbrev pub with_held : {S : Type 0} → Clusters S → ℕ → Clusters S
+with_held c n =
+    lent c.file c.caches (record { allocator = c.space.allocator; to_free = record { entries = c.space.to_free.entries; held = n } })
+
+pub held-aside : {S : Type 0} (state : S → StorageState) (asked : Type 0) (kind : Kind) (i : ℕ) (c : Clusters S) (result : Result ℕ Fault)
+    (top' : TableValue) (c' : Clusters S) (n : ℕ) → NamesNewTable state asked kind i c result top' c'
+    → NamesNewTable state asked kind i c result top' (with_held c' n)
+held-aside state asked kind i c result top' c' n named = record {
+  progress = named.progress;
+  rests = record {
+    empty = named.rests.empty;
+    room = named.rests.room;
+    header = named.rests.header;
+    shape = named.rests.shape;
+    later = named.rests.later;
+    faults = named.rests.faults;
+  };
+  l1 = named.l1;
+  there = named.there;
+  copied = named.copied;
+  cause = named.cause;
+}
 
 -- Why nothing is begun: for want of memory, or since the L1 table can't stand where the header says.
 abbrev pub WhyNotBegun : Fields → TableValue → Fault → Type 0
 WhyNotBegun h l1 fault = (fault ≡ Memory)
     ⊎ ((fault ≡ DamagedTable) × (l1.layout ≡ layout_of h → IsTrue (is_place h.cluster_bits h.l1_offset) → ⊥))
 
-module _ {S : Type 0} (state : S → StorageState) (l1 : TableValue) (i : ℕ) (c : Clusters S) where
-  never-begun : (fault : Fault) → WhyNotBegun c.file.header.fields l1 fault → IsTableless state l1 i c → IsSound (resting state c)
-      → WasNotCutOff {T = ℕ} (Err fault) → ⊥
-  never-begun fault (inl memory) tableless sound whole = subst (λ (x : Fault). WasNotCutOff {T = ℕ} (Err x)) memory whole
-  never-begun fault (inr damaged) tableless sound whole = damaged.1 tableless.l1.layout (l1-placed (resting state c) sound)
+module _ {S : Type 0} (state : S → StorageState) (content : List ℕ) (l1 : TableValue) (i : ℕ) (c : Clusters S) where
+  abbrev Asked : Type 0
+  Asked = IsContent state content l1 i c
+
+  never-begun : (fault : Fault) → WhyNotBegun c.file.header.fields l1 fault → IsReady state c → Asked → WasNotCutOff {T = ℕ} (Err fault) → ⊥
+  never-begun fault (inl memory) ready asked whole = subst (λ (x : Fault). WasNotCutOff {T = ℕ} (Err x)) memory whole
+  never-begun fault (inr damaged) ready asked whole = damaged.1 asked.top_word.l1.layout (l1-placed (resting state c) ready.sound)
 
   why-not-begun : (fault : Fault) (before after : ℕ) → WhyNotBegun c.file.header.fields l1 fault
-      → WhyNotAllocated (IsReady state c × IsTableless state l1 i c) before after fault
-  why-not-begun fault before after (inl memory) =
-      subst (WhyNotAllocated (IsReady state c × IsTableless state l1 i c) before after) (sym memory) tt
+      → WhyNotAllocated (IsReady state c × Asked) before after fault
+  why-not-begun fault before after (inl memory) = subst (WhyNotAllocated (IsReady state c × Asked) before after) (sym memory) tt
   why-not-begun fault before after (inr damaged) =
-      subst (WhyNotAllocated (IsReady state c × IsTableless state l1 i c) before after) (sym damaged.0)
-      (λ both. damaged.1 both.1.l1.layout (l1-placed (resting state c) both.0.sound))
+      subst (WhyNotAllocated (IsReady state c × Asked) before after) (sym damaged.0)
+      (λ both. damaged.1 both.1.top_word.l1.layout (l1-placed (resting state c) both.0.sound))
 
-  pub not-begun : (fault : Fault) (l1' : TableValue) → AreEmpty c.caches → HasWordsOf l1 l1' → WhyNotBegun c.file.header.fields l1 fault
-      → MakesTable state l1 i c (Err fault) l1' c
-  not-begun fault l1' empty same why = record {
-    progress = λ tableless. progresses-in-memory (WasNotCutOff {T = ℕ} (Err fault)) (making (Err fault))
-        (storage state c) (resting state c) (resting state c)
-        (λ sound whole. absurd (never-begun fault why tableless sound whole));
-    rests = record {
-      empty = empty;
-      room = record { tables = refl; blocks = refl };
-      header = (c.file.header.fields.refcount_table_offset, c.file.header.fields.refcount_table_clusters, refl);
-      shape = refl;
-      later = later_same (storage state c);
-      faults = λ whole. (refl, refl);
-    };
+  pub not-placed : (fault : Fault) (l1' : TableValue) → AreEmpty c.caches → WhyNotBegun c.file.header.fields l1 fault
+      → PlacesTable state content l1 i c (Err fault) l1' c
+  not-placed fault l1' empty why = record {
+    named = not-begun state Asked (replacing (resting state c) i (Err fault)) i c fault l1' c empty (kept-itself state c)
+        (never-begun fault why) (λ whole. (refl, refl)) (why-not-begun fault (storage state c).faults (storage state c).faults why);
     held = refl;
-    l1 = λ ready tableless whole. l1-same (resting state c).file c.file.header.fields l1 l1' same.layout same.words tableless.l1;
-    there = λ ready tableless. tt;
-    cause = why-not-begun fault (storage state c).faults (storage state c).faults why;
+    old = λ ready asked. tt;
   }
 
   -- Nothing is stored.
-  pub not-stored : (content : List ℕ) (fault : Fault) (l1' : TableValue) (c1 : Clusters S) → HasWordsOf l1 l1'
-      → Stores state content c (Err fault) c1 → MakesTable state l1 i c (Err fault) l1' c1
-  not-stored content fault l1' c1 same stores = record {
-    progress = λ tableless. progresses-weaker (WasNotCutOff {T = ℕ} (Err fault)) (WasNotCutOff {T = ℕ} (Err fault))
-        (handing (handed_by (Err fault)) (λ _. 0)) (making (Err fault))
-        (storage state c) (resting state c) (storage state c1) (resting state c1)
-        (wider-handing (handed_by (Err fault)) (λ _. 0) (making (Err fault))) (λ whole. whole) (λ d. refl) (λ d. refl) stores.progress;
-    rests = stores.rests;
+  pub not-stored : (fault : Fault) (l1' : TableValue) (c1 : Clusters S) → HasWordsOf l1 l1'
+      → Stores state content c (Err fault) c1 → PlacesTable state content l1 i c (Err fault) l1' c1
+  not-stored fault l1' c1 same stores = record {
+    named = record {
+      progress = λ asked. progresses-weaker (WasNotCutOff {T = ℕ} (Err fault)) (WasNotCutOff {T = ℕ} (Err fault))
+          (handing (handed_by (Err fault)) (λ _. 0)) (replacing (resting state c) i (Err fault))
+          (storage state c) (resting state c) (storage state c1) (resting state c1)
+          (wider-handing (handed_by (Err fault)) (λ _. 0) (replacing (resting state c) i (Err fault))) (λ whole. whole)
+          (λ d. refl) (λ d. refl) stores.progress;
+      rests = stores.rests;
+      l1 = λ ready asked whole.
+          l1-same (resting state c1).file c.file.header.fields l1 l1' same.layout same.words
+          (l1-moved (resting state c1).file c.file.header c1.file.header stores.rests.header.0 stores.rests.header.1 l1
+          stores.rests.header.2 (stores.l1 ready whole l1 asked.top_word.l1));
+      there = λ ready asked. tt;
+      copied = λ ready asked. tt;
+      cause = why-wider (IsReady state c) (IsReady state c × Asked) (λ both. both.0)
+          (storage state c).faults (storage state c1).faults fault stores.cause;
+    };
     held = stores.held;
-    l1 = λ ready tableless whole.
-        l1-same (resting state c1).file c.file.header.fields l1 l1' same.layout same.words
-        (l1-moved (resting state c1).file c.file.header c1.file.header stores.rests.header.0 stores.rests.header.1 l1 stores.rests.header.2
-        (stores.l1 ready whole l1 tableless.l1));
-    there = λ ready tableless. tt;
-    cause = why-wider (IsReady state c) (IsReady state c × IsTableless state l1 i c) (λ both. both.0)
-        (storage state c).faults (storage state c1).faults fault stores.cause;
+    old = λ ready asked. tt;
   }
 
--- Zeroes are stored, and the word is entered.
-module _ {S : Type 0} (state : S → StorageState) (l1 : TableValue) (i : ℕ) (c : Clusters S) (t : ℕ) (c1 : Clusters S)
-    (stores : Stores state (replicate (cluster_size c.file.header.fields) 0) c (Ok t) c1)
+-- The word is written, and nothing else has changed in memory but the room that is held.
+pub record IsWritten {S : Type 0} (c1 c2 : Clusters S) : Type 0 where
+  pub header : c2.file.header ≡ c1.file.header
+  pub caches : c2.caches ≡ c1.caches
+  pub allocator : c2.space.allocator ≡ c1.space.allocator
+  pub entries : c2.space.to_free.entries ≡ c1.space.to_free.entries
+
+-- The content is stored, and the word is entered.
+module _ {S : Type 0} (state : S → StorageState) (content : List ℕ) (l1 : TableValue) (i : ℕ) (c : Clusters S) (t : ℕ) (c1 : Clusters S)
+    (full : length content ≡ cluster_size c.file.header.fields) (stores : Stores state content c (Ok t) c1)
     (placed l1' table : TableValue) (answer : Result Unit Fault) (c2 : Clusters S) (same : HasWordsOf l1 placed)
     (place : table_place placed ≡ c.file.header.fields.l1_offset)
-    (first : table_place table ≡ t * cluster_size c.file.header.fields) (left : IsReleased c1 c2)
+    (first : table_place table ≡ t * cluster_size c.file.header.fields) (left : IsWritten c1 c2)
     (enters : EntersTable state i table placed c1.file answer l1' c2.file) where
   abbrev h : Fields
   h = c.file.header.fields
@@ -169,8 +259,14 @@ module _ {S : Type 0} (state : S → StorageState) (l1 : TableValue) (i : ℕ) (
   abbrev h1 : Fields
   h1 = c1.file.header.fields
 
+  abbrev m : Metadata
+  m = resting state c
+
   abbrev m1 : Metadata
   m1 = resting state c1
+
+  abbrev Given : Type 0
+  Given = IsContent state content l1 i c
 
   moved : c1.file.header ≡ with_refcount_table c.file.header stores.rests.header.0 stores.rests.header.1
   moved = stores.rests.header.2
@@ -202,49 +298,79 @@ module _ {S : Type 0} (state : S → StorageState) (l1 : TableValue) (i : ℕ) (
   resting-is : resting state c2 ≡ m2
   resting-is = cc left.header
 
-  -- What was reserved is ready to be named.
-  blank : IsReady state c → IsTableless state l1 i c → IsBlank m1 i t
-  blank ready tableless = record {
-    rest = refl;
-    inside = inside;
-    none = l1-table m1.file h1 l1 of i inside ∙ sym (l1-table (resting state c).file h l1 tableless.l1 i tableless.inside) ∙ tableless.none;
-    some = stores.named.0;
-    reach = subst (λ (H : Header). IsInReach H.fields.cluster_bits t) (sym moved) stores.named.1;
-    reserved = stores.reserved ready;
-    zeroes = λ k less.
-        let within : k < cluster_size h = subst (λ n. k < n) size-same less in
-        subst (λ n. m1.file (t * n + k) ≡ 0) (sym size-same)
-        (stores.stored ready k (subst (λ n. k < n) (sym (length-replicate (cluster_size h) 0)) within)
-        ∙ get_or-replicate (cluster_size h) k 0 0 within);
-  }
-    where
-      inside : i < h1.l1_entries
-      inside = subst (λ (H : Header). i < H.fields.l1_entries) (sym moved) tableless.inside
+  -- The L1 table stays where it is until then, and so do the tables that it names, which mean what they did.
+  module _ (ready : IsReady state c) (given : Given) where
+    of : IsL1Of m1.file h1 l1
+    of = stores.l1 ready tt l1 given.top_word.l1
 
-      of : IsL1Of m1.file h1 l1
-      of = stores.l1 ready tt l1 tableless.l1
+    inside-still : i < h1.l1_entries
+    inside-still = subst (λ (H : Header). i < H.fields.l1_entries) (sym moved) given.top_word.inside
+
+    table-still : l2_table m1.file h1 i ≡ l2_table m.file h i
+    table-still = l1-table m1.file h1 l1 of i inside-still ∙ sym (l1-table m.file h l1 given.top_word.l1 i given.top_word.inside)
+
+    old-still : (d : ℕ) → old_table m1 i d ≡ old_table m i d
+    old-still d = ap (of_cluster h1 (meets h1 d)) table-still
+        ∙ ap (λ (H : Header). of_cluster H.fields (meets H.fields d) (l2_table m.file h i)) moved
+
+    advanced : AdvancesBy (handing (handed_by (Ok t)) (λ _. 0)) m m1
+    advanced = stores.progress.holds ready.keeps ready.sound tt
+
+    entries-still : (guest : ℕ) → entry m1.file h1 guest ≡ entry m.file h guest
+    entries-still guest = elim (advanced.words guest) [
+      | inl e ↦
+          ap (λ (x : Bytes). entry x h1 guest) (sym (resting-memory m1 refl)) ∙ e
+          ∙ ap (λ (x : Bytes). entry x h guest) (resting-memory m refl)
+      | inr none ↦ absurd none
+    ]
+
+    long-same : words_of_cluster h1 ≡ words_of_cluster h
+    long-same = ap (λ (H : Header). words_of_cluster H.fields) moved
+
+    stored-still : (k : ℕ) → k < cluster_size h1 → m1.file (t * cluster_size h1 + k) ≡ bytes_of content (0 + k)
+    stored-still k within =
+        ap (λ n. m1.file (t * n + k)) size-same ∙ stores.stored ready k (omega (arith, full, within, size-same)) ∙ sym (from-zero content k)
+
+    words-still : (j : ℕ) → j < words_of_cluster h1 → l2_mapping m1.file h1 (t * cluster_size h1) j ≡ slot_or_none m1.file h1 i j
+    words-still j less =
+        bytes-mean m1.file (bytes_of content) h1 (t * cluster_size h1) 0 stored-still j less
+        ∙ ap (λ (H : Header). l2_mapping (bytes_of content) H.fields 0 j) moved
+        ∙ given.words j (subst (λ n. j < n) long-same less)
+        ∙ sym (slots-kept m.file m1.file h h1 i ready.sound.safe.consistent.readable.tables advanced.sound.safe.consistent.readable.tables
+        long-same entries-still j less)
+
+    -- So what was reserved is ready to take the table's place.
+    replacement : IsReplacement m1 i t
+    replacement = record {
+      rest = refl;
+      inside = inside-still;
+      some = stores.named.0;
+      reach = subst (λ (H : Header). IsInReach H.fields.cluster_bits t) (sym moved) stores.named.1;
+      reserved = stores.reserved ready;
+      words = words-still;
+    }
 
   abbrev one : Kind
   one = handing (handed_by (Ok t)) (λ _. 0)
 
   abbrev two : Kind
-  two = handing (λ _. 0) (one_at t)
+  two = handing (old_table m1 i) (one_at t)
 
   wider : (kind : Kind) → IsWider (both one two) kind
-  wider kind = wider-both one two kind (wider-handing (handed_by (Ok t)) (λ _. 0) kind) (wider-handing (λ _. 0) (one_at t) kind)
+  wider kind = wider-both one two kind (wider-handing (handed_by (Ok t)) (λ _. 0) kind) (wider-handing (old_table m1 i) (one_at t) kind)
 
   abbrev Done : Metadata → Type 0
-  Done m = Progresses (answer ≡ Ok tt) (both one two) (storage state c) (resting state c) (storage state c2) m
+  Done m' = Progresses (answer ≡ Ok tt) (both one two) (storage state c) (resting state c) (storage state c2) m'
 
-  progress : IsTableless state l1 i c → Done (resting state c2)
-  progress tableless = subst Done (sym resting-is)
+  progress : Given → Done (resting state c2)
+  progress given = subst Done (sym resting-is)
       (progresses-then-given (answer ≡ Ok tt) (WasNotCutOff {T = ℕ} (Ok t)) one two (storage state c) (resting state c)
       (storage state c1) m1 (storage state c2) m2 tt stores.progress put.put.shape put.put.later
       (λ keeps sound step. once-progresses m1 two at bytes (omega arith) (storage state c1) (storage state c2) refl
-      (λ sound1. blank-advances m1 i t sound1 (blank record { keeps = keeps; sound = sound } tableless)) answer put))
+      (λ sound1. replaced-advances m1 i t sound1 (replacement record { keeps = keeps; sound = sound } given)) answer put))
 
   -- The word is named by the file and in memory.
-  module _ (done : answer ≡ Ok tt) (ready : IsReady state c) (tableless : IsTableless state l1 i c) where
+  module _ (done : answer ≡ Ok tt) (ready : IsReady state c) (given : Given) where
     sound1 : IsSound m1
     sound1 = (stores.progress.holds ready.keeps ready.sound tt).sound
 
@@ -254,17 +380,30 @@ module _ {S : Type 0} (state : S → StorageState) (l1 : TableValue) (i : ℕ) (
 
     entered : IsL1Of (resting state c2).file h l1'
     entered =
-        let of = l1-same m1.file h1 l1 placed same.layout same.words (stores.l1 ready tt l1 tableless.l1) in
+        let of1 = l1-same m1.file h1 l1 placed same.layout same.words (of ready given) in
         let words = enters.words ∙ ap (slice_set placed.words i) word-is in
-        let new = blank-entered m1 i t sound1 (blank ready tableless) placed l1' of enters.layout words in
+        let is = replaced-entered m1 i t sound1 (replacement ready given) placed l1' of1 enters.layout words in
         l1-moved (resting state c2).file c.file.header c1.file.header stores.rests.header.0 stores.rests.header.1 l1' moved
-        (subst (λ (x : Bytes). IsL1Of x h1 l1') (sym file-is) new)
+        (subst (λ (x : Bytes). IsL1Of x h1 l1') (sym file-is) is)
 
     named : l2_table (resting state c2).file h i ≡ t * cluster_size h
     named =
-        let new = blank-named m1 i t sound1 (blank ready tableless) in
+        let is = replaced-named m1 i t sound1 (replacement ready given) in
         subst (λ (H : Header). l2_table (resting state c2).file H.fields i ≡ t * cluster_size H.fields) moved
-        (subst (λ (x : Bytes). l2_table x h1 i ≡ t * cluster_size h1) (sym file-is) new)
+        (subst (λ (x : Bytes). l2_table x h1 i ≡ t * cluster_size h1) (sym file-is) is)
+
+    marked : is_copied (word (resting state c2).file h.l1_offset i) ≡ true
+    marked =
+        let is = replaced-copied m1 i t sound1 (replacement ready given) in
+        subst (λ (H : Header). is_copied (word (resting state c2).file H.fields.l1_offset i) ≡ true) moved
+        (subst (λ (x : Bytes). is_copied (word x h1.l1_offset i) ≡ true) (sym file-is) is)
+
+    unnamed : (d : ℕ) → d ≢ 0 → l2_table m.file h i ≡ d * cluster_size h → named_at_all (resting state c2) d ≡ 0
+    unnamed d some at-d =
+        let there : l2_table m1.file h1 i ≡ d * cluster_size h1 = table-still ready given ∙ at-d ∙ ap (λ n. d * n) (sym size-same) in
+        let is = replaced-unnamed m1 i t sound1 (replacement ready given) d some there in
+        subst (λ (x : Metadata). named_at_all x d ≡ 0) (sym resting-is)
+        (subst (λ (x : Bytes). named_at_all (record m1 { file = x }) d ≡ 0) (sym file-is) is)
 
   empty-still : AreEmpty c2.caches
   empty-still = subst (λ (caches : MetadataCaches S). AreEmpty caches) (sym left.caches) stores.rests.empty
@@ -281,51 +420,58 @@ module _ {S : Type 0} (state : S → StorageState) (l1 : TableValue) (i : ℕ) (
   later-still : Later (storage state c) (storage state c2)
   later-still = later_both (storage state c) (storage state c1) (storage state c2) stores.rests.later put.put.later
 
-  held-still : c2.space.to_free.held ≡ c.space.to_free.held
-  held-still = let now = left.held in let more = stores.held in omega (arith, now, more)
-
-  pub made : answer ≡ Ok tt → MakesTable state l1 i c (Ok t) l1' c2
-  made done = record {
-    progress = λ tableless. progresses-otherwise (answer ≡ Ok tt) (WasNotCutOff {T = ℕ} (Ok t)) (both one two) (making (Ok t))
-        (storage state c) (resting state c) (storage state c2) (resting state c2)
-        (wider (making (Ok t))) (λ keeps sound whole. done) (λ keeps sound whole d. omega arith)
-        (λ keeps sound whole d used none. omega (arith, none)) (progress tableless);
-    rests = record {
-      empty = empty-still;
-      room = room-still;
-      header = moved-still;
-      shape = shape-still;
-      later = later-still;
-      faults = λ whole. faultless-then (stores.rests.faults tt)
-          (put-faultless (storage state c1) (storage state c2) at bytes answer put.put
-          (subst (λ (r : Result Unit Fault). WasNotCutOff r) (sym done) tt));
+  pub entered-so : answer ≡ Ok tt → c2.space.to_free.held ≡ c1.space.to_free.held → PlacesTable state content l1 i c (Ok t) l1' c2
+  entered-so done held = record {
+    named = record {
+      progress = λ given. progresses-otherwise (answer ≡ Ok tt) (WasNotCutOff {T = ℕ} (Ok t)) (both one two) (replacing m i (Ok t))
+          (storage state c) (resting state c) (storage state c2) (resting state c2)
+          (wider (replacing m i (Ok t))) (λ keeps sound whole. done)
+          (λ keeps sound whole d. let same = old-still record { keeps = keeps; sound = sound } given d in omega (arith, same))
+          (λ keeps sound whole d used none. omega (arith, none)) (progress given);
+      rests = record {
+        empty = empty-still;
+        room = room-still;
+        header = moved-still;
+        shape = shape-still;
+        later = later-still;
+        faults = λ whole. faultless-then (stores.rests.faults tt)
+            (put-faultless (storage state c1) (storage state c2) at bytes answer put.put
+            (subst (λ (r : Result Unit Fault). WasNotCutOff r) (sym done) tt));
+      };
+      l1 = λ ready given whole. entered done ready given;
+      there = λ ready given. (stores.named.0, named done ready given);
+      copied = λ ready given. marked done ready given;
+      cause = tt;
     };
-    held = held-still;
-    l1 = λ ready tableless whole. entered done ready tableless;
-    there = λ ready tableless. (stores.named.0, named done ready tableless);
-    cause = tt;
+    held = held ∙ stores.held;
+    old = λ ready given. unnamed done ready given;
   }
 
   -- The write was cut off.
-  pub not-entered : (fault : Fault) → answer ≡ Err fault → MakesTable state l1 i c (Err fault) l1' c2
-  not-entered fault refused = record {
-    progress = λ tableless. progresses-halted (answer ≡ Ok tt) (WasNotCutOff {T = ℕ} (Err fault)) (both one two) (making (Err fault))
-        (storage state c) (resting state c) (storage state c2) (resting state c2) (resting state c2)
-        (wider (making (Err fault))) (λ keeps sound whole. never whole) (progress tableless);
-    rests = record {
-      empty = empty-still;
-      room = room-still;
-      header = moved-still;
-      shape = shape-still;
-      later = later-still;
-      faults = λ whole. absurd (never whole);
+  pub not-entered : (fault : Fault) → answer ≡ Err fault → c2.space.to_free.held ≡ c.space.to_free.held
+      → PlacesTable state content l1 i c (Err fault) l1' c2
+  not-entered fault refused held = record {
+    named = record {
+      progress = λ given. progresses-halted (answer ≡ Ok tt) (WasNotCutOff {T = ℕ} (Err fault)) (both one two) (replacing m i (Err fault))
+          (storage state c) (resting state c) (storage state c2) (resting state c2) (resting state c2)
+          (wider (replacing m i (Err fault))) (λ keeps sound whole. never whole) (progress given);
+      rests = record {
+        empty = empty-still;
+        room = room-still;
+        header = moved-still;
+        shape = shape-still;
+        later = later-still;
+        faults = λ whole. absurd (never whole);
+      };
+      l1 = λ ready given whole. absurd (never whole);
+      there = λ ready given. tt;
+      copied = λ ready given. tt;
+      cause = why-put (IsReady state c × Given)
+          (storage state c).faults (storage state c1).faults (storage state c2).faults fault (stores.rests.faults tt).0
+          (cause-of answer put refused);
     };
-    held = held-still;
-    l1 = λ ready tableless whole. absurd (never whole);
-    there = λ ready tableless. tt;
-    cause = why-put (IsReady state c × IsTableless state l1 i c)
-        (storage state c).faults (storage state c1).faults (storage state c2).faults fault (stores.rests.faults tt).0
-        (cause-of answer put refused);
+    held = held;
+    old = λ ready given. tt;
   }
     where
       never : WasNotCutOff {T = ℕ} (Err fault) → ⊥

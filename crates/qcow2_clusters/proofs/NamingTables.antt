@@ -1,37 +1,35 @@
--- A word of the L1 table that named no table comes to name one of zeroes: nothing is mapped by it.
-use Rattle.std.proofs.Common.{◌≡◌, ◌≢◌, ℕ, ◌+◌, ◌*◌, ◌/◌, ◌^◌, ◌<◌, ◌≤◌, refl, arith, ap, sym, subst, ◌∙◌, inl, inr, length, List}
-use Rattle.std.specs.Prelude.{IsTrue, slice_index, slice_set}
+-- A word of the L1 table comes to name a table whose words mean what those of the old one do; where there was none, nothing is mapped.
+use Rattle.std.proofs.Common.{◌≡◌, ◌≢◌, ℕ, ◌+◌, ◌*◌, ◌/◌, ◌^◌, ◌<◌, ◌≤◌, arith, ap, sym, subst, ◌∙◌, inl, inr, length, List}
+use Rattle.std.specs.Prelude.{◌%◌, IsTrue, slice_index, slice_set, true}
 use Rattle.std.specs.Int.{w64, to_be_bytes}
 use Rattle.std.proofs.lemmas.Bool.{cases_eq, lt-ltb}
 use Rattle.std.proofs.lemmas.List.{ext_get_or, get_or-set_same, get_or-set_other, length-set}
-use Rattle.qcow2_types.specs.Bytes.{Bytes, splice, word}
+use Rattle.std.proofs.lemmas.Nat.{div-mul-add, mod-mul-add}
+use Rattle.qcow2_types.specs.Bytes.{Bytes, bytes_of, splice, word}
 use Rattle.qcow2_types.specs.Consistency.{tables_sound}
 use Rattle.qcow2_types.specs.Counts.{count}
 use Rattle.qcow2_types.specs.Entries.{entry, l1_table_sound, l2_mapping, l2_table}
 use Rattle.qcow2_types.specs.Header.{Fields, Header, cluster_size, layout_of, words_of_cluster}
+use Rattle.qcow2_types.specs.Slots.{guest_slot}
 use Rattle.qcow2_types.specs.Switched.{with_refcount_table, with_reftable}
-use Rattle.qcow2_types.specs.Unmarked.{unmarked_mapping}
-use Rattle.qcow2_types.specs.Words.{unmapped, l1_word_sound, mapping_of, table_offset}
+use Rattle.qcow2_types.specs.Words.{unmapped, is_copied, l1_word_sound, mapping_of, table_offset}
 use Rattle.qcow2_types.proofs.Consistent.{consistent-shaped}
 use Rattle.qcow2_types.proofs.Frames.{splice-is-outside}
 use Rattle.qcow2_types.proofs.Parts.{other-word, words-fit}
-use Rattle.qcow2_types.proofs.Shows.{guest-slot-none}
 use Rattle.qcow2_types.proofs.Sound.{all-below-holds, sound-words}
-use Rattle.qcow2_types.proofs.Splices.{be-zeroes, word-written}
+use Rattle.qcow2_types.proofs.Splices.{be-same, be-zeroes, word-written}
 use Rattle.qcow2_types.proofs.Values.{entry-slot}
-use Rattle.qcow2_types.proofs.WordLemmas.{fresh-below, fresh-l1-word, fresh-offset, zero-word}
+use Rattle.qcow2_types.proofs.WordLemmas.{fresh-below, fresh-copied, fresh-l1-word, fresh-offset, zero-word}
 use Rattle.qcow2_metadata.specs.Places.{IsInReach}
 use Rattle.qcow2_metadata.specs.Tables.{TableValue, words_in}
 use Rattle.qcow2_metadata.proofs.TableFacts.{words_at, words_long}
 use Rattle.qcow2_alloc.specs.Memory.{memory}
 use Rattle.qcow2_alloc.specs.Opening.{IsL1Of}
-use Rattle.qcow2_alloc.specs.Quiet.{Metadata, IsSound, in_memory, one_at, waiting}
+use Rattle.qcow2_alloc.specs.Quiet.{Metadata, IsSound, in_memory, named_at_all, one_at, waiting}
 use Rattle.qcow2_alloc.proofs.Memory.SafeLaws.{clean-memory}
-use Rattle.qcow2_steps.specs.NewTables.{IsReadyL2Table, NamesTable, old_table, with_l1_word}
+use Rattle.qcow2_steps.specs.NewTables.{IsReadyL2Table, NamesTable, old_table, slot_or_none, with_l1_word}
 use Rattle.qcow2_steps.specs.Words.{IsReserved}
-use Rattle.qcow2_steps.proofs.CopiedTables.{none-there}
-use Rattle.qcow2_steps.proofs.NewTables.{memory-copied, memory-elsewhere, table-advances, table-sound}
-use Rattle.qcow2_steps.proofs.Values.{places-there, within}
+use Rattle.qcow2_steps.proofs.NewTables.{old-unnamed, table-advances, table-sound}
 use Rattle.qcow2_clusters.specs.Progress.{handing}
 use Rattle.qcow2_clusters.specs.Rest.{nothing_cached}
 use Rattle.qcow2_clusters.proofs.Adding.{AdvancesBy}
@@ -95,32 +93,51 @@ l1-entered f h l1 l1' i w of inside fits layout words sound = record {
             ∙ other-word f x h.l1_offset i k (splice-is-outside f (h.l1_offset + 8 * i) (to_be_bytes w64 w)) (λ e. apart (sym e)))
       ]
 
--- Of a word of 0 nothing is mapped.
-pub zeroes-map : (f : Bytes) (h : Fields) (t : ℕ) → ((k : ℕ) → k < cluster_size h → f (t * cluster_size h + k) ≡ 0)
-    → (j : ℕ) → j < words_of_cluster h → l2_mapping f h (t * cluster_size h) j ≡ unmapped
+-- Words of the same bytes mean the same, wherever they are.
+pub bytes-mean : (f g : Bytes) (h : Fields) (at place : ℕ) → ((k : ℕ) → k < cluster_size h → f (at + k) ≡ g (place + k))
+    → (j : ℕ) → j < words_of_cluster h → l2_mapping f h at j ≡ l2_mapping g h place j
 unfolding word
-zeroes-map f h t zeroes j less =
-    let zero : word f (t * cluster_size h) j ≡ 0 = be-zeroes f (t * cluster_size h + 8 * j) 8 (λ k lt.
+bytes-mean f g h at place same j less = ap (mapping_of (layout_of h)) (be-same f g (at + 8 * j) (place + 8 * j) 8 (λ k lt.
     let fits = words-fit h j less in
-    let place : t * cluster_size h + (8 * j + k) ≡ t * cluster_size h + 8 * j + k = omega arith in
-    subst (λ p. f p ≡ 0) place (zeroes (8 * j + k) (omega (arith, fits, lt)))) in
+    let left : at + (8 * j + k) ≡ at + 8 * j + k = omega arith in
+    let right : place + (8 * j + k) ≡ place + 8 * j + k = omega arith in
+    ap f (sym left) ∙ same (8 * j + k) (omega (arith, fits, lt)) ∙ ap g right))
+
+-- A list's bytes as a file begin at 0.
+pub from-zero : (content : List ℕ) (k : ℕ) → bytes_of content (0 + k) ≡ slice_index content k
+from-zero content k = ap (slice_index content) (omega arith)
+
+-- Of a word of 0 nothing is mapped.
+pub zeroes-map : (f : Bytes) (h : Fields) (place : ℕ) → ((k : ℕ) → k < cluster_size h → f (place + k) ≡ 0)
+    → (j : ℕ) → j < words_of_cluster h → l2_mapping f h place j ≡ unmapped
+unfolding word
+zeroes-map f h place zeroes j less =
+    let zero : word f place j ≡ 0 = be-zeroes f (place + 8 * j) 8 (λ k lt.
+    let fits = words-fit h j less in
+    let at : place + (8 * j + k) ≡ place + 8 * j + k = omega arith in
+    subst (λ p. f p ≡ 0) at (zeroes (8 * j + k) (omega (arith, fits, lt)))) in
     ap (mapping_of (layout_of h)) zero ∙ zero-word (layout_of h)
 
 -- the word that names a table as one whose cluster is counted once
 abbrev pub naming_word : Fields → ℕ → ℕ
 naming_word h t = 2 ^ 63 + t * cluster_size h
 
--- Nothing is cached of the image. Word i of its L1 table names no table, and cluster t, which is reserved, has zeroes alone.
-pub record IsBlank (m : Metadata) (i t : ℕ) : Type 0 where
+-- Nothing is cached of the image. Cluster t is reserved, and its words mean what those of the table do that word i of the L1 table names.
+pub record IsReplacement (m : Metadata) (i t : ℕ) : Type 0 where
   pub rest : m.cached ≡ nothing_cached
   pub inside : i < m.header.fields.l1_entries
-  pub none : l2_table m.file m.header.fields i ≡ 0
   pub some : t ≢ 0
   pub reach : IsInReach m.header.fields.cluster_bits t
   pub reserved : IsReserved m t
-  pub zeroes : (k : ℕ) → k < cluster_size m.header.fields → m.file (t * cluster_size m.header.fields + k) ≡ 0
+  pub words : (j : ℕ) → j < words_of_cluster m.header.fields
+      → l2_mapping m.file m.header.fields (t * cluster_size m.header.fields) j ≡ slot_or_none m.file m.header.fields i j
 
-module _ (m : Metadata) (i t : ℕ) (sound : IsSound m) (blank : IsBlank m i t) where
+-- At rest the words in memory are those of the file.
+pub resting-memory : (m : Metadata) → m.cached ≡ nothing_cached → in_memory m ≡ m.file
+resting-memory m rest =
+    subst (λ c. memory m.file m.header.fields c ≡ m.file) (sym rest) (clean-memory m.file m.header.fields nothing_cached tt tt)
+
+module _ (m : Metadata) (i t : ℕ) (sound : IsSound m) (new : IsReplacement m i t) where
   abbrev h : Fields
   h = m.header.fields
 
@@ -132,60 +149,58 @@ module _ (m : Metadata) (i t : ℕ) (sound : IsSound m) (blank : IsBlank m i t) 
 
   pub names : NamesTable h t w
   names = record {
-    fits = fresh-below h.cluster_bits t low blank.reach;
-    sane = fresh-l1-word h.cluster_bits t low blank.reach;
-    names = fresh-offset h.cluster_bits t low blank.reach;
+    fits = fresh-below h.cluster_bits t low new.reach;
+    sane = fresh-l1-word h.cluster_bits t low new.reach;
+    names = fresh-offset h.cluster_bits t low new.reach;
   }
 
-  memory-is : in_memory m ≡ m.file
-  memory-is = subst (λ c. memory m.file h c ≡ m.file) (sym blank.rest) (clean-memory m.file h nothing_cached tt tt)
-
-  ready : IsReadyL2Table m i t
+  ready : IsReadyL2Table m true i t
   ready = record {
-    inside = blank.inside;
-    some = blank.some;
-    reserved = blank.reserved;
-    counts = let less = subst (λ (g : Bytes). waiting m t < count g h t) memory-is blank.reserved.used.taken in omega (arith, less);
-    words = λ j less. zeroes-map m.file h t blank.zeroes j less ∙ sym (ap unmarked_mapping (none-there m.file h i j blank.none));
-    settled = rw blank.rest tt;
-    cached = rw blank.rest tt;
+    inside = new.inside;
+    some = new.some;
+    reserved = new.reserved;
+    counts =
+        let less = subst (λ (g : Bytes). waiting m t < count g h t) (resting-memory m new.rest) new.reserved.used.taken in
+        omega (arith, less);
+    words = new.words;
+    settled = rw new.rest tt;
+    cached = rw new.rest tt;
   }
 
-  -- Nothing was mapped there,
-  none-in-memory : (guest : ℕ) → guest / words_of_cluster h ≡ i → entry (in_memory m) h guest ≡ unmapped
-  none-in-memory guest own =
-      entry-slot (in_memory m) h guest (within m sound).readable.tables
-      ∙ guest-slot-none (in_memory m) h guest (ap (l2_table (in_memory m) h) own ∙ (places-there m sound).l1 i ∙ blank.none)
-
-  -- and nothing is: no word has changed its meaning.
-  pub blank-advances : AdvancesBy (handing (λ _. 0) (one_at t)) m (with_l1_word m i w)
-  blank-advances =
-      let whole = table-advances m i t w sound ready names in
-      record {
-        sound = whole.sound;
-        header = whole.header;
-        file = whole.file;
-        memory = whole.memory;
-        words = λ guest. inl (elim (cases_eq (guest / words_of_cluster h) i) [
-          | inl own ↦
-              let e = none-in-memory guest own in
-              memory-copied m i t w sound ready names guest own ∙ ap unmarked_mapping e ∙ sym e
-          | inr apart ↦ memory-elsewhere m i t w sound ready names guest apart
-        ]);
-        used = whole.used;
-        waits = whole.waits;
-        names = whole.names;
-        kept = whole.kept;
-        law = λ c. let law = whole.law c in let none : old_table m i c ≡ 0 = rw blank.none refl in omega (arith, law, none);
-      }
+  -- No word changes its meaning.
+  pub replaced-advances : AdvancesBy (handing (old_table m i) (one_at t)) m (with_l1_word m i w)
+  replaced-advances = table-advances m true i t w sound ready names
 
   -- The word names the table then,
-  pub blank-named : l2_table (with_l1_word m i w).file h i ≡ t * cluster_size h
-  blank-named = rw (lt-ltb i h.l1_entries blank.inside) (ap table_offset (word-written m.file h.l1_offset i w names.fits) ∙ names.names)
+  pub replaced-named : l2_table (with_l1_word m i w).file h i ≡ t * cluster_size h
+  replaced-named = rw (lt-ltb i h.l1_entries new.inside) (ap table_offset (word-written m.file h.l1_offset i w names.fits) ∙ names.names)
 
-  -- and so does the one in memory.
-  pub blank-entered : (l1 l1' : TableValue) → IsL1Of m.file h l1 → l1'.layout ≡ l1.layout → l1'.words ≡ slice_set l1.words i w
+  -- as copied,
+  pub replaced-copied : is_copied (word (with_l1_word m i w).file h.l1_offset i) ≡ true
+  replaced-copied = ap is_copied (word-written m.file h.l1_offset i w names.fits) ∙ fresh-copied h.cluster_bits t low new.reach
+
+  -- and so does the one in memory;
+  pub replaced-entered : (l1 l1' : TableValue) → IsL1Of m.file h l1 → l1'.layout ≡ l1.layout → l1'.words ≡ slice_set l1.words i w
       → IsL1Of (with_l1_word m i w).file h l1'
-  blank-entered l1 l1' of layout words =
-      l1-entered m.file h l1 l1' i w of blank.inside names.fits layout words
-      (table-sound m i t w sound ready names).safe.consistent.readable.tables
+  replaced-entered l1 l1' of layout words =
+      l1-entered m.file h l1 l1' i w of new.inside names.fits layout words
+      (table-sound m true i t w sound ready names).safe.consistent.readable.tables
+
+  -- and nothing names the old table.
+  pub replaced-unnamed : (d : ℕ) → d ≢ 0 → l2_table m.file h i ≡ d * cluster_size h → named_at_all (with_l1_word m i w) d ≡ 0
+  replaced-unnamed d some place = old-unnamed m true i t w sound ready names d some place
+
+-- Where words of guest clusters mean what they did, the words of tables do that are where they were.
+pub slots-kept : (f x : Bytes) (h h' : Fields) (i : ℕ) → IsTrue (tables_sound f h) → IsTrue (tables_sound x h')
+    → words_of_cluster h' ≡ words_of_cluster h → ((guest : ℕ) → entry x h' guest ≡ entry f h guest)
+    → (j : ℕ) → j < words_of_cluster h' → slot_or_none x h' i j ≡ slot_or_none f h i j
+slots-kept f x h h' i sound still long same j less =
+    let guest : ℕ = i * words_of_cluster h' + j in
+    let row : (i * words_of_cluster h' + j) / words_of_cluster h' ≡ i = div-mul-add i (words_of_cluster h') j less in
+    let column : (i * words_of_cluster h' + j) % words_of_cluster h' ≡ j = mod-mul-add i (words_of_cluster h') j less in
+    sym (at-guest x h' guest row column) ∙ sym (entry-slot x h' guest still) ∙ same guest ∙ entry-slot f h guest sound
+    ∙ at-guest f h guest (ap (λ n. guest / n) (sym long) ∙ row) (ap (λ n. guest % n) (sym long) ∙ column)
+  where
+    at-guest : (y : Bytes) (k : Fields) (guest : ℕ) → guest / words_of_cluster k ≡ i → guest % words_of_cluster k ≡ j
+        → guest_slot y k guest ≡ slot_or_none y k i j
+    at-guest y k guest row column = ap (λ r. slot_or_none y k r (guest % words_of_cluster k)) row ∙ ap (slot_or_none y k i) column

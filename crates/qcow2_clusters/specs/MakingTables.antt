@@ -1,30 +1,77 @@
--- How an L2 table is made where the L1 table names none.
-use Rattle.std.specs.Prelude.{◌≡◌, ◌≢◌, ◌+◌, ◌*◌, ◌^◌, ◌<◌, ℕ, Result, Err, OnOk, OnErr, IfOk, IfErr, IsTrue, slice_set}
+-- How a word of the L1 table comes to name a new L2 table: one in which nothing is mapped, or a copy of the table that it names.
+use Rattle.std.specs.Prelude.{◌≡◌, ◌≢◌, ◌+◌, ◌*◌, ◌^◌, ◌<◌, ℕ, List, length, [], ◌∷◌, ◌++◌, Option, Some, None, true}
+use Rattle.std.specs.Prelude.{Result, Ok, Err, OnOk, OnErr, IfOk, IfErr, IsTrue, slice_set}
 use Rattle.std.specs.Int.{w64, to_be_bytes}
 use Rattle.imago_storage.specs.State.{StorageState}
+use Rattle.imago_storage.specs.Calls.{Reads}
 use Rattle.imago_storage.specs.Through.{PutAtOnce}
 use Rattle.imago_storage.specs.declared.fault.Fault.{Fault}
 use Rattle.imago_storage.specs.declared.fault.Fault.TheVariants.{DamagedTable}
-use Rattle.qcow2_types.specs.Entries.{l2_table}
-use Rattle.qcow2_types.specs.Header.{Fields, cluster_size, layout_of}
-use Rattle.qcow2_types.specs.Words.{is_place}
+use Rattle.qcow2_types.specs.Bytes.{bytes_of, word}
+use Rattle.qcow2_types.specs.Entries.{l2_mapping, l2_table}
+use Rattle.qcow2_types.specs.Header.{Fields, cluster_size, layout_of, words_of_cluster}
+use Rattle.qcow2_types.specs.Pending.{FreeEntry}
+use Rattle.qcow2_types.specs.Words.{is_copied, is_place, table_offset}
+use Rattle.qcow2_metadata.specs.Places.{IsInReach}
 use Rattle.qcow2_metadata.specs.Tables.{TableValue, IsPlacedTable, table_place}
 use Rattle.qcow2_alloc.specs.declared.file.ImageFile.{ImageFile}
 use Rattle.qcow2_alloc.specs.Going.{WasNotCutOff}
 use Rattle.qcow2_alloc.specs.Opening.{IsL1Of}
-use Rattle.qcow2_clusters.specs.Progress.{Kind, Progresses}
+use Rattle.qcow2_alloc.specs.Quiet.{Metadata, named_at_all}
+use Rattle.qcow2_steps.specs.NewTables.{old_table, slot_or_none}
+use Rattle.qcow2_clusters.specs.Progress.{Kind, Progresses, handing}
 use Rattle.qcow2_clusters.specs.Rest.{Clusters, IsReady, resting, storage}
-use Rattle.qcow2_clusters.specs.Storing.{Rests, WhyNotAllocated, handed_by}
+use Rattle.qcow2_clusters.specs.Storing.{Rests, WhyNotAllocated, handed_by, held_by}
 
--- A table is handed out and taken, and what its words mean stays: nothing is mapped.
+-- the cluster of the table that is replaced, which nothing names any more where it is
+abbrev pub given_up : Metadata → ℕ → Result ℕ Fault → ℕ → ℕ
+given_up m i (Ok t) c = old_table m i c
+given_up m i (Err fault) c = 0
+
+-- A table is handed out and taken, and no word changes its meaning.
 abbrev pub making : Result ℕ Fault → Kind
-making result = record { gives = λ p v. ⊥; written = λ q. ⊥; set = λ guest. ⊥; handed = handed_by result; taken = handed_by result }
+making result = handing (handed_by result) (handed_by result)
 
--- Word i of the L1 table in memory is the file's, and names no table.
-pub record IsTableless {S : Type 0} (state : S → StorageState) (top : TableValue) (i : ℕ) (c : Clusters S) : Type 0 where
+-- The same, and the cluster of the table that it replaces is handed out.
+abbrev pub replacing : Metadata → ℕ → Result ℕ Fault → Kind
+replacing m i result = handing (λ c. handed_by result c + given_up m i result c) (handed_by result)
+
+-- The same, and that cluster comes to wait.
+abbrev pub copying : Metadata → ℕ → Result ℕ Fault → Kind
+copying m i result =
+    handing (λ c. handed_by result c + given_up m i result c) (λ c. handed_by result c + given_up m i result c)
+
+-- Word i of the L1 table in memory is the file's,
+pub record IsTopWord {S : Type 0} (state : S → StorageState) (top : TableValue) (i : ℕ) (c : Clusters S) : Type 0 where
   pub l1 : IsL1Of (resting state c).file c.file.header.fields top
   pub inside : i < c.file.header.fields.l1_entries
+
+-- and names no table,
+pub record IsTableless {S : Type 0} (state : S → StorageState) (top : TableValue) (i : ℕ) (c : Clusters S) : Type 0 where
+  pub top_word : IsTopWord state top i c
   pub none : l2_table (resting state c).file c.file.header.fields i ≡ 0
+
+-- or a table,
+pub record HasTable {S : Type 0} (state : S → StorageState) (top : TableValue) (i : ℕ) (c : Clusters S) : Type 0 where
+  pub top_word : IsTopWord state top i c
+  pub some : l2_table (resting state c).file c.file.header.fields i ≢ 0
+
+-- whose words mean what those in these bytes do; where there is none, nothing is mapped.
+pub record IsContent {S : Type 0} (state : S → StorageState) (content : List ℕ) (top : TableValue) (i : ℕ) (c : Clusters S)
+    : Type 0 where
+  pub top_word : IsTopWord state top i c
+  pub words : let h = c.file.header.fields in (j : ℕ) → j < words_of_cluster h
+      → l2_mapping (bytes_of content) h 0 j ≡ slot_or_none (resting state c).file h i j
+
+-- Word w of an L1 table names a table that begins with this cluster, which words can name; or it names none.
+abbrev pub FindsTable : (cluster_bits w : ℕ) → Option ℕ → Type 0
+FindsTable cluster_bits w None = table_offset w ≢ 0 → IsTrue (is_place cluster_bits (table_offset w)) → ⊥
+FindsTable cluster_bits w (Some t) = (t ≢ 0) × IsInReach cluster_bits t × (table_offset w ≡ t * 2 ^ cluster_bits)
+
+-- These are the bytes of a cluster of a file.
+pub record IsClusterOf (file : List ℕ) (h : Fields) (cluster : ℕ) (bytes : List ℕ) : Type 0 where
+  pub whole : length bytes ≡ cluster_size h
+  pub reads : Reads file (cluster * cluster_size h) bytes
 
 -- The same words.
 pub record HasWordsOf (l1 l1' : TableValue) : Type 0 where
@@ -49,15 +96,43 @@ pub record EntersTable {S : Type 0} (state : S → StorageState) (i : ℕ) (tabl
   pub put : PutAtOnce (state before.image) (state after.image) (table_place l1 + 8 * i) (to_be_bytes w64 (2 ^ 63 + table_place table))
       result
 
+-- Where the image is as it is asked, word i of the L1 table comes to name a new table, as one whose cluster is counted once, in the file
+-- and in memory.
+pub record NamesNewTable {S : Type 0} (state : S → StorageState) (asked : Type 0) (kind : Kind) (i : ℕ) (c : Clusters S)
+    (result : Result ℕ Fault) (top' : TableValue) (c' : Clusters S) : Type 0 where
+  pub progress : asked → Progresses (WasNotCutOff result) kind (storage state c) (resting state c) (storage state c') (resting state c')
+  pub rests : Rests state c result c'
+  pub l1 : IsReady state c → asked → WasNotCutOff result → IsL1Of (resting state c').file c.file.header.fields top'
+  pub there : IsReady state c → asked
+      → IfOk result (λ t. (t ≢ 0) × (l2_table (resting state c').file c.file.header.fields i ≡ t * cluster_size c.file.header.fields))
+  pub copied : IsReady state c → asked
+      → IfOk result (λ t. is_copied (word (resting state c').file c.file.header.fields.l1_offset i) ≡ true)
+  pub cause : IfErr result (WhyNotAllocated (IsReady state c × asked) (storage state c).faults (storage state c').faults)
+
+-- A table of these bytes takes the place of the one that word i named, if it named one: nothing names that any more, and room is held for
+-- an entry of it on the list of clusters to free.
+pub record PlacesTable {S : Type 0} (state : S → StorageState) (content : List ℕ) (top : TableValue) (i : ℕ) (c : Clusters S)
+    (result : Result ℕ Fault) (top' : TableValue) (c' : Clusters S) : Type 0 where
+  pub named : NamesNewTable state (IsContent state content top i c) (replacing (resting state c) i result) i c result top' c'
+  pub held : c'.space.to_free.held ≡ held_by result c.space.to_free.held
+  pub old : IsReady state c → IsContent state content top i c → IfOk result (λ t. let h = c.file.header.fields in
+      (d : ℕ) → d ≢ 0 → l2_table (resting state c).file h i ≡ d * cluster_size h → named_at_all (resting state c') d ≡ 0)
+
 -- An L2 table comes to be there in which nothing is mapped; the disk stays as it was.
 pub record MakesTable {S : Type 0} (state : S → StorageState) (top : TableValue) (i : ℕ) (c : Clusters S) (result : Result ℕ Fault)
     (top' : TableValue) (c' : Clusters S) : Type 0 where
-  pub progress : IsTableless state top i c → Progresses (WasNotCutOff result) (making result) (storage state c)
-      (resting state c) (storage state c') (resting state c')
-  pub rests : Rests state c result c'
+  pub named : NamesNewTable state (IsTableless state top i c) (making result) i c result top' c'
   pub held : c'.space.to_free.held ≡ c.space.to_free.held
-  pub l1 : IsReady state c → IsTableless state top i c → WasNotCutOff result → IsL1Of (resting state c').file c.file.header.fields top'
-  pub there : IsReady state c → IsTableless state top i c
-      → IfOk result (λ t. (t ≢ 0) × (l2_table (resting state c').file c.file.header.fields i ≡ t * cluster_size c.file.header.fields))
-  pub cause : IfErr result (WhyNotAllocated (IsReady state c × IsTableless state top i c)
-      (storage state c).faults (storage state c').faults)
+
+-- a table in this cluster, as it waits to be freed
+abbrev pub table_entry : ℕ → FreeEntry
+table_entry cluster = record { first = cluster; count = 1; metadata = true }
+
+-- A copy takes the place of the table that word i named: no word changes its meaning or its mark. The old table is put behind what waits
+-- to be freed.
+pub record CopiesTable {S : Type 0} (state : S → StorageState) (top : TableValue) (i : ℕ) (c : Clusters S) (result : Result ℕ Fault)
+    (top' : TableValue) (c' : Clusters S) : Type 0 where
+  pub named : NamesNewTable state (HasTable state top i c) (copying (resting state c) i result) i c result top' c'
+  pub held : c'.space.to_free.held ≡ c.space.to_free.held
+  pub waits : HasTable state top i c → IfOk result (λ t. let h = c.file.header.fields in (old : ℕ) × (before : List FreeEntry)
+      × (l2_table (resting state c).file h i ≡ old * cluster_size h) × (c'.space.to_free.entries ≡ before ++ table_entry old ∷ []))

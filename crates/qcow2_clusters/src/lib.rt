@@ -12,7 +12,7 @@ mod space;
 mod storing;
 
 pub use freeing::free_waiting;
-pub use making_tables::make_table;
+pub use making_tables::{copy_table, make_table};
 pub use naming::name;
 pub use space::Space;
 pub use storing::store;

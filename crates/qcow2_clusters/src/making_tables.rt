@@ -1,16 +1,18 @@
-// An L2 table is made where there was none.
-ghost use Rattle.std.specs.Prelude.{◌≡◌, ◌<◌, IfOk, IsOkUnless, length, replicate};
+// A word of the L1 table comes to name a new L2 table.
+ghost use Rattle.std.specs.Prelude.{◌≡◌, ◌<◌, IfOk, IsOkUnless, length, replicate, slice_index};
+ghost use Rattle.imago_storage.specs.Calls.{CountsFaults, Kept, Later};
 ghost use Rattle.qcow2_types.specs.Header.{cluster_size};
+ghost use Rattle.qcow2_metadata.specs.Places.{IsInReach};
 ghost use Rattle.qcow2_metadata.specs.Tables.{IsNamable, IsPlacedTable};
 ghost use Rattle.qcow2_clusters.specs.Rest.{AreEmpty, HasEntries, lent};
-ghost use Rattle.qcow2_clusters.specs.MakingTables.{EntersTable, MakesTable, PlacesL1};
+ghost use Rattle.qcow2_clusters.specs.MakingTables.{CopiesTable, EntersTable, FindsTable, IsClusterOf, MakesTable, PlacesL1, PlacesTable};
 
 use crate::space::Space;
 use crate::storing::store;
-use imago_storage::{Fault, Storage};
+use imago_storage::{Fault, Storage, StorageExt};
 use qcow2_alloc::{ImageFile, MetadataCaches};
 use qcow2_metadata::{Header, L1Table, L2Table, Table};
-use qcow2_types::{HostCluster, MAX_OFFSET};
+use qcow2_types::{ClusterCount, ClustersToFreeEntry, HostCluster, MAX_OFFSET, PendingClusters};
 use std::alloc::Global;
 
 // Has the L1 table in memory stand where the header says that it does, so that its words can be written there. It refuses with
@@ -57,6 +59,45 @@ fn enter_table<S: Storage>(
     l1.write_entry(alloc, &mut file.image, index)
 }
 
+// Stores the content of an L2 table in a cluster that was free, and has the word at an index of the L1 table name it. Room is held then for
+// an entry on the list of clusters to free: that of the table that the word named, if it named one.
+fn place_table<S: Storage>(
+    alloc: Global,
+    file: &mut ImageFile<S>,
+    caches: &mut MetadataCaches<S>,
+    space: &mut Space,
+    l1: &mut L1Table,
+    index: usize,
+    content: &[u8],
+) -> Result<HostCluster, Fault>
+    requires rest { AreEmpty caches.old }
+    requires room { HasEntries caches.old }
+    requires bounds { index < length l1.old.words }
+    requires whole { length content.now ≡ cluster_size file.old.header.fields }
+    ensures { PlacesTable S.state content.now l1.old index (lent file.old caches.old space.old) result l1.new
+        (lent file.new caches.new space.new) }
+{
+    if let Err(fault) = place_l1(l1, &file.header) {
+        return Err(fault);
+    }
+    let mut table = match L2Table::new_cleared(alloc, &file.header) {
+        Ok(table) => table,
+        Err(fault) => return Err(fault),
+    };
+    let cluster = match store(alloc, file, caches, space, content) {
+        Ok(cluster) => cluster,
+        Err(fault) => return Err(fault),
+    };
+    table.set_cluster(cluster);
+    match enter_table(alloc, file, l1, index, &table) {
+        Ok(()) => Ok(cluster),
+        Err(fault) => {
+            space.to_free.release();
+            Err(fault)
+        }
+    }
+}
+
 /// Makes an L2 table in which nothing is mapped, in a cluster that was free, and has the word at an index of the L1 table name it, which
 /// named none. Nothing may be cached before, and nothing is then.
 ///
@@ -75,25 +116,86 @@ pub fn make_table<S: Storage>(
     requires bounds { index < length l1.old.words }
     ensures { MakesTable S.state l1.old index (lent file.old caches.old space.old) result l1.new (lent file.new caches.new space.new) }
 {
-    if let Err(fault) = place_l1(l1, &file.header) {
-        return Err(fault);
-    }
-    let mut table = match L2Table::new_cleared(alloc, &file.header) {
-        Ok(table) => table,
-        Err(fault) => return Err(fault),
-    };
     let content = match clear_content(alloc, &file.header) {
         Ok(content) => content,
         Err(fault) => return Err(fault),
     };
-    let cluster = match store(alloc, file, caches, space, &content) {
-        Ok(cluster) => cluster,
+    match place_table(alloc, file, caches, space, l1, index, &content) {
+        Ok(cluster) => {
+            space.to_free.release();
+            Ok(cluster)
+        }
+        Err(fault) => Err(fault),
+    }
+}
+
+// The cluster of the L2 table that the word at an index of the L1 table names, if it names one that there can be.
+fn table_at(l1: &L1Table, index: usize, header: &Header) -> Option<HostCluster>
+    ensures { FindsTable header.now.fields.cluster_bits (slice_index l1.now.words index) result }
+{
+    let Some(offset) = l1.get(index).l2_offset() else {
+        return None;
+    };
+    if offset.0 > MAX_OFFSET {
+        return None;
+    }
+    offset.checked_cluster(header.cluster_bits())
+}
+
+// The bytes of a cluster that words can name.
+fn read_cluster<S: Storage>(
+    alloc: Global,
+    file: &mut ImageFile<S>,
+    cluster: HostCluster,
+) -> Result<Vec<u8>, Fault>
+    requires reach { IsInReach file.old.header.fields.cluster_bits cluster }
+    ensures ok { IfOk result (λ bytes. IsClusterOf (S.state file.old.image).bytes file.old.header.fields cluster bytes.items) }
+    ensures kept { Kept (S.state file.old.image) (S.state file.new.image) }
+    ensures faults { CountsFaults (S.state file.old.image).faults (S.state file.new.image).faults result }
+    ensures later { Later (S.state file.old.image) (S.state file.new.image) }
+    ensures header { file.new.header ≡ file.old.header }
+{
+    let mut bytes = match clear_content(alloc, &file.header) {
+        Ok(bytes) => bytes,
         Err(fault) => return Err(fault),
     };
-    space.to_free.release();
-    table.set_cluster(cluster);
-    match enter_table(alloc, file, l1, index, &table) {
-        Ok(()) => Ok(cluster),
+    let place = cluster.offset(file.header.cluster_bits());
+    match file.image.read(alloc, &mut bytes, place.0) {
+        Ok(()) => Ok(bytes),
+        Err(fault) => Err(fault),
+    }
+}
+
+/// Copies the L2 table that the word at an index of the L1 table names, word for word, to a cluster that was free, and has the word name
+/// the copy. The cluster of the old table waits to be freed then. Nothing may be cached before, and nothing is then.
+///
+/// It refuses as `make_table` does.
+pub fn copy_table<S: Storage>(
+    alloc: Global,
+    file: &mut ImageFile<S>,
+    caches: &mut MetadataCaches<S>,
+    space: &mut Space,
+    l1: &mut L1Table,
+    index: usize,
+) -> Result<HostCluster, Fault>
+    requires rest { AreEmpty caches.old }
+    requires room { HasEntries caches.old }
+    requires bounds { index < length l1.old.words }
+    ensures { CopiesTable S.state l1.old index (lent file.old caches.old space.old) result l1.new (lent file.new caches.new space.new) }
+{
+    let Some(old) = table_at(l1, index, &file.header) else {
+        return Err(Fault::DamagedTable);
+    };
+    let content = match read_cluster(alloc, file, old) {
+        Ok(content) => content,
+        Err(fault) => return Err(fault),
+    };
+    match place_table(alloc, file, caches, space, l1, index, &content) {
+        Ok(cluster) => {
+            let entry = ClustersToFreeEntry::metadata(old, ClusterCount(1));
+            space.to_free.give_back(PendingClusters::new(entry));
+            Ok(cluster)
+        }
         Err(fault) => Err(fault),
     }
 }

@@ -1,6 +1,7 @@
 -- What single changes of its clusters leave of an image.
-use Rattle.std.proofs.Common.{◌≡◌, ◌≢◌, ℕ, ◌*◌, ◌/◌, ◌^◌, ◌<◌, refl, arith, ap, sym, subst, ◌∙◌, inl, inr, Bool, true, false, List, [], length, Option, Some, None, Result, Ok, Err}
+use Rattle.std.proofs.Common.{◌≡◌, ◌≢◌, ℕ, ◌+◌, ◌*◌, ◌/◌, ◌^◌, ◌<◌, refl, arith, ap, sym, subst, ◌∙◌, inl, inr, Bool, true, false, List, [], length, Option, Some, None, Result, Ok, Err}
 use Rattle.std.proofs.lemmas.Bool.{cases_eq, cases_lt, le-ltb, ne_eqb}
+use Rattle.std.proofs.lemmas.Nat.{pow_pos}
 use Rattle.std.specs.Prelude.{⊤, IsTrue, IsSome, IfSome, is_some, IfOk, IfErr, OnOk, slice_index, ◌==◌, if◌then◌else◌}
 use Rattle.imago_storage.specs.State.{StorageState}
 use Rattle.imago_storage.specs.Calls.{Cause}
@@ -8,10 +9,10 @@ use Rattle.imago_storage.specs.declared.fault.Fault.{Fault}
 use Rattle.imago_storage.specs.declared.fault.Fault.TheVariants.{Counter, DamagedTable, Limit, Memory, Storage}
 use Rattle.imago_storage.specs.declared.storage.Storage.{Ghosts}
 use Rattle.imago_access.specs.Files.{WasNotCutOff}
-use Rattle.qcow2_types.specs.Bytes.{Bytes}
+use Rattle.qcow2_types.specs.Bytes.{Bytes, word}
 use Rattle.qcow2_types.specs.Entries.{l1_table_sound, l2_table}
 use Rattle.qcow2_types.specs.Header.{Fields, Header, cluster_size, words_of_cluster}
-use Rattle.qcow2_types.specs.Words.{table_offset}
+use Rattle.qcow2_types.specs.Words.{is_copied, table_offset}
 use Rattle.qcow2_metadata.specs.Tables.{TableValue}
 use Rattle.qcow2_alloc.specs.Allocating.{MovedTable}
 use Rattle.qcow2_alloc.specs.Allocators.{LoadsAllocator}
@@ -21,12 +22,13 @@ use Rattle.qcow2_alloc.specs.Quiet.{Metadata}
 use Rattle.qcow2_alloc.specs.declared.allocation.Allocator.{Allocator}
 use Rattle.qcow2_alloc.specs.declared.cache.MetadataCaches.{MetadataCaches}
 use Rattle.qcow2_alloc.proofs.Growth.LoadingTable.{allocator-refused}
+use Rattle.qcow2_alloc.proofs.Memory.Patches.{place-there}
 use Rattle.qcow2_steps.specs.Words.{IsReserved}
 use Rattle.qcow2_clusters.specs.Freeing.{FreesWaiting}
 use Rattle.qcow2_clusters.specs.Freeing as freeing
-use Rattle.qcow2_clusters.specs.MakingTables.{IsTableless, MakesTable}
+use Rattle.qcow2_clusters.specs.MakingTables.{CopiesTable, HasTable, IsTableless, IsTopWord, MakesTable, NamesNewTable, given_up}
 use Rattle.qcow2_clusters.specs.Progress.{Kind, Progresses, handing}
-use Rattle.qcow2_clusters.specs.Rest.{IsReady, lent}
+use Rattle.qcow2_clusters.specs.Rest.{Clusters, IsReady, lent, resting}
 use Rattle.qcow2_clusters.specs.Storing.{Rests, Stores, handed_by, held_by}
 use Rattle.qcow2_clusters.specs.Storing as clusters
 use Rattle.qcow2_clusters.specs.declared.space.Space.{Space}
@@ -40,7 +42,7 @@ use Rattle.qcow2_image.specs.Steps.{KeepsImage, failed_by}
 use Rattle.qcow2_image.specs.Unspent.{holding_in}
 use Rattle.qcow2_image.specs.declared.qcow2.Qcow2.{Qcow2}
 use Rattle.qcow2_image.specs.declared.tables.Tables.{Tables}
-use Rattle.qcow2_image.proofs.FileWords.{place-in-file, place-named, some-offset, top-long}
+use Rattle.qcow2_image.proofs.FileWords.{place-in-file, place-named, some-offset, top-long, top-word}
 use Rattle.qcow2_image.proofs.KeepingDisks.{Spares, WhyNoSpace, keeps-disk-same, keeps-image-disk, later-refused, progress-keeps, safe-sound, space-refused, whole-below}
 use Rattle.qcow2_image.proofs.Settling.{seen-same}
 use Rattle.qcow2_image.proofs.Steps.{keeps-marked}
@@ -48,10 +50,6 @@ use Rattle.qcow2_image.proofs.Steps.{keeps-marked}
 pub none-there : {A : Type 0} (o : Option A) → is_some o ≡ false → o ≡ None
 none-there None is = refl
 none-there (Some a) is = absurd (cc is)
-
-pub none-named : {A : Type 0} (o : Option A) → ((a : A) → o ≡ Some a → ⊥) → o ≡ None
-none-named None none = refl
-none-named (Some a) none = absurd (none a refl)
 
 pub none-some : {A : Type 0} (o : Option Space) → o ≡ None → IsSome o → A
 none-some None is some = absurd (cc some)
@@ -241,6 +239,7 @@ module _ {S : Type 0} (g : Ghosts S) (old : Qcow2 S g) (mid : Tables S g) (space
         (λ safe whole. subst (IsL1Of (file_of g mid) mid.file.header.fields) (sym l1) (l1-stored safe whole))
         (λ safe. stores.progress);
     marks = refl;
+    l1 = l1;
     entries = ap (λ (K : Header). K.fields.l1_entries) stores.rests.header.2;
     named = stores.named;
     tables = λ safe whole. tables-same (file_of g old.tables) (file_of g mid) old.tables.file.header.fields mid.file.header.fields old.tables.l1
@@ -252,64 +251,139 @@ module _ {S : Type 0} (g : Ghosts S) (old : Qcow2 S g) (mid : Tables S g) (space
         (ready g old mid space space' caches result there there' stores.rests) refl refl) stores.cause;
   }
 
--- A table was made.
+-- In a safe image the L1 table in memory is the file's, and what it names over a guest cluster, if anything, is a table.
+module _ {S : Type 0} (g : Ghosts S) (old : Qcow2 S g) (space : Space) (caches : MetadataCaches S) (guest i : ℕ)
+    (index : i ≡ guest / words_of_cluster old.tables.file.header.fields) (inside : i < length old.tables.l1.words) where
+  abbrev top_h : Fields
+  top_h = old.tables.file.header.fields
+
+  top-safe : IsSafe g old → IsTopWord g.state old.tables.l1 i (lent old.tables.file caches space)
+  top-safe safe = record {
+    l1 = safe.seen.l1;
+    inside = omega (arith, inside, top-long (file_of g old.tables) top_h old.tables.l1 safe.seen.l1);
+  }
+
+  pub tableless : place_of_table old.tables.l1.words top_h.cluster_bits guest ≡ None → IsSafe g old
+      → IsTableless g.state old.tables.l1 i (lent old.tables.file caches space)
+  tableless none safe = record {
+    top_word = top-safe safe;
+    none = ap (l2_table (file_of g old.tables) top_h) index ∙ table-none (file_of g old.tables) top_h old.tables.l1 safe.seen.l1 guest none;
+  }
+
+  pub has-table : (table : ℕ) → place_of_table old.tables.l1.words top_h.cluster_bits guest ≡ Some table → IsSafe g old
+      → HasTable g.state old.tables.l1 i (lent old.tables.file caches space)
+  has-table table named safe = record {
+    top_word = top-safe safe;
+    some = λ none.
+        let over = table-over (file_of g old.tables) top_h old.tables.l1 safe.seen.l1 guest table named in
+        place-there (cluster_size top_h) table (pow_pos top_h.cluster_bits) over.0
+        (sym over.2 ∙ ap (l2_table (file_of g old.tables) top_h) (sym index) ∙ none);
+  }
+
+-- A new table was named.
 module _ {S : Type 0} (g : Ghosts S) (old : Qcow2 S g) (mid : Tables S g) (space space' : Space) (caches : MetadataCaches S) (guest i : ℕ)
-    (result : Result ℕ Fault) (there : old.tables.space ≡ Some space) (there' : mid.space ≡ Some space') (free : old.unspent ≡ None)
+    (result : Result ℕ Fault) (asked : Type 0) (handed taken : ℕ → ℕ) (there : old.tables.space ≡ Some space)
+    (there' : mid.space ≡ Some space') (free : old.unspent ≡ None)
     (index : i ≡ guest / words_of_cluster old.tables.file.header.fields) (inside : i < length old.tables.l1.words)
-    (none : place_of_table old.tables.l1.words old.tables.file.header.fields.cluster_bits guest ≡ None)
-    (makes : MakesTable g.state old.tables.l1 i (lent old.tables.file caches space) result mid.l1 (lent mid.file mid.caches space')) where
+    (as-asked : IsSafe g old → asked)
+    (names : NamesNewTable g.state asked (handing handed taken) i (lent old.tables.file caches space) result mid.l1
+    (lent mid.file mid.caches space')) where
   abbrev made_now : Qcow2 S g
   made_now = record old { tables = mid; failed = failed_cut result old.failed }
 
-  tableless : IsSafe g old → IsTableless g.state old.tables.l1 i (lent old.tables.file caches space)
-  tableless safe = record {
-    l1 = safe.seen.l1;
-    inside = omega (arith, inside, top-long (file_of g old.tables) old.tables.file.header.fields old.tables.l1 safe.seen.l1);
-    none = ap (l2_table (file_of g old.tables) old.tables.file.header.fields) index
-        ∙ table-none (file_of g old.tables) old.tables.file.header.fields old.tables.l1 safe.seen.l1 guest none;
-  }
+  abbrev was : Fields
+  was = old.tables.file.header.fields
+
+  abbrev is : Fields
+  is = mid.file.header.fields
 
   is-ready : IsSafe g old → IsReady g.state (lent old.tables.file caches space)
-  is-ready = ready g old mid space space' caches result there there' makes.rests
+  is-ready = ready g old mid space space' caches result there there' names.rests
+
+  row-same : i ≡ guest / words_of_cluster is
+  row-same = subst (λ (K : Header). i ≡ guest / words_of_cluster K.fields) (sym names.rests.header.2) index
 
   there-now : IsSafe g old → (r : Result ℕ Fault)
-      → IfOk r (λ t. (t ≢ 0) × (l2_table (file_of g mid) old.tables.file.header.fields i ≡ t * cluster_size old.tables.file.header.fields))
-      → let h = mid.file.header.fields in IfOk r (λ t. (t ≢ 0) × (guest / words_of_cluster h < h.l1_entries)
-      × (l2_table (file_of g mid) h (guest / words_of_cluster h) ≡ t * cluster_size h))
-  there-now safe (Ok t) is = (
-    is.0,
-    subst (λ (K : Header). guest / words_of_cluster K.fields < K.fields.l1_entries) (sym makes.rests.header.2)
-        (subst (λ n. n < old.tables.file.header.fields.l1_entries) index (tableless safe).inside),
-    subst (λ (K : Header). l2_table (file_of g mid) K.fields (guest / words_of_cluster K.fields) ≡ t * cluster_size K.fields) (sym makes.rests.header.2)
-        (ap (l2_table (file_of g mid) old.tables.file.header.fields) (sym index) ∙ is.1),
+      → IfOk r (λ t. (t ≢ 0) × (l2_table (file_of g mid) was i ≡ t * cluster_size was))
+      → IfOk r (λ t. (t ≢ 0) × (guest / words_of_cluster is < is.l1_entries)
+      × (l2_table (file_of g mid) is (guest / words_of_cluster is) ≡ t * cluster_size is))
+  there-now safe (Ok t) at = (
+    at.0,
+    subst (λ n. n < is.l1_entries) row-same (subst (λ (K : Header). i < K.fields.l1_entries) (sym names.rests.header.2)
+        (omega (arith, inside, top-long (file_of g old.tables) was old.tables.l1 safe.seen.l1))),
+    ap (l2_table (file_of g mid) is) (sym row-same)
+        ∙ subst (λ (K : Header). l2_table (file_of g mid) K.fields i ≡ t * cluster_size K.fields) (sym names.rests.header.2) at.1,
   )
-  there-now safe (Err fault) is = tt
+  there-now safe (Err fault) at = tt
+
+  copied-now : (r : Result ℕ Fault) → IfOk r (λ t. is_copied (word (file_of g mid) was.l1_offset i) ≡ true)
+      → IfOk r (λ t. is_copied (word (file_of g mid) is.l1_offset (guest / words_of_cluster is)) ≡ true)
+  copied-now (Ok t) marked =
+      ap (λ n. is_copied (word (file_of g mid) is.l1_offset n)) (sym row-same)
+      ∙ subst (λ (K : Header). is_copied (word (file_of g mid) K.fields.l1_offset i) ≡ true) (sym names.rests.header.2) marked
+  copied-now (Err fault) marked = tt
 
   pub made : EnsuresTable g guest old result made_now
   made = record {
-    keeps = advanced g old mid space space' caches result there there' makes.rests (handed_by result) (handed_by result)
-        (none-spared g old (Spares g (WasNotCutOff result) (handed_by result) old made_now space space') free)
-        (λ safe whole. l1-moved (file_of g mid) old.tables.file.header mid.file.header mid.l1 makes.rests.header
-        (makes.l1 (is-ready safe) (tableless safe) (whole-below result whole)))
-        (λ safe. makes.progress (tableless safe));
+    keeps = advanced g old mid space space' caches result there there' names.rests handed taken
+        (none-spared g old (Spares g (WasNotCutOff result) taken old made_now space space') free)
+        (λ safe whole. l1-moved (file_of g mid) old.tables.file.header mid.file.header mid.l1 names.rests.header
+        (names.l1 (is-ready safe) (as-asked safe) (whole-below result whole)))
+        (λ safe. names.progress (as-asked safe));
     marks = refl;
     known = λ was. subst IsSome (sym there') refl;
-    there = λ safe some. there-now safe result (makes.there (is-ready safe) (tableless safe));
+    there = λ safe some. there-now safe result (names.there (is-ready safe) (as-asked safe));
+    own = λ safe some. copied-now result (names.copied (is-ready safe) (as-asked safe));
     cause = if-err result _ (WhyNotAllocated g old made_now) (λ e. allocated-why g old made_now
-        (IsReady g.state (lent old.tables.file caches space) × IsTableless g.state old.tables.l1 i (lent old.tables.file caches space))
-        (g.state old.tables.file.image).faults (g.state mid.file.image).faults e (λ safe. (is-ready safe, tableless safe)) refl refl) makes.cause;
+        (IsReady g.state (lent old.tables.file caches space) × asked)
+        (g.state old.tables.file.image).faults (g.state mid.file.image).faults e (λ safe. (is-ready safe, as-asked safe)) refl refl) names.cause;
   }
 
--- There was one.
-pub table-there : {S : Type 0} (g : Ghosts S) (d : Qcow2 S g) (guest table : ℕ)
-    → place_of_table d.tables.l1.words d.tables.file.header.fields.cluster_bits guest ≡ Some table → EnsuresTable g guest d (Ok table) d
-table-there g d guest table named = record {
-  keeps = keeps-disk-same g ⊤ d;
-  marks = refl;
-  known = λ some. some;
-  there = λ safe some. table-over (file_of g d.tables) d.tables.file.header.fields d.tables.l1 safe.seen.l1 guest table named;
-  cause = tt;
-}
+-- It is a copy where there was a table, and else one in which nothing is mapped.
+module _ {S : Type 0} (g : Ghosts S) (old : Qcow2 S g) (mid : Tables S g) (space space' : Space) (caches : MetadataCaches S) (guest i : ℕ)
+    (result : Result ℕ Fault) (there : old.tables.space ≡ Some space) (there' : mid.space ≡ Some space') (free : old.unspent ≡ None)
+    (index : i ≡ guest / words_of_cluster old.tables.file.header.fields) (inside : i < length old.tables.l1.words) where
+  abbrev before : Clusters S
+  before = lent old.tables.file caches space
+
+  abbrev after : Clusters S
+  after = lent mid.file mid.caches space'
+
+  abbrev taken_by : ℕ → ℕ
+  taken_by c = handed_by result c + given_up (resting g.state before) i result c
+
+  pub renewed : (named : Option ℕ) → place_of_table old.tables.l1.words old.tables.file.header.fields.cluster_bits guest ≡ named
+      → (is_some named ≡ true → CopiesTable g.state old.tables.l1 i before result mid.l1 after)
+      → (is_some named ≡ false → MakesTable g.state old.tables.l1 i before result mid.l1 after)
+      → EnsuresTable g guest old result (record old { tables = mid; failed = failed_cut result old.failed })
+  renewed None is copies makes =
+      made g old mid space space' caches guest i result (IsTableless g.state old.tables.l1 i before) (handed_by result) (handed_by result)
+      there there' free index inside (tableless g old space caches guest i index inside is) (makes refl).named
+  renewed (Some table) is copies makes =
+      made g old mid space space' caches guest i result (HasTable g.state old.tables.l1 i before) taken_by taken_by
+      there there' free index inside (has-table g old space caches guest i index inside table is) (copies refl).named
+
+-- There was one that nothing else names.
+module _ {S : Type 0} (g : Ghosts S) (d : Qcow2 S g) (guest table : ℕ)
+    (named : place_of_table d.tables.l1.words d.tables.file.header.fields.cluster_bits guest ≡ Some table)
+    (marked : is_copied (slice_index d.tables.l1.words (guest / words_of_cluster d.tables.file.header.fields)) ≡ true) where
+  abbrev own_h : Fields
+  own_h = d.tables.file.header.fields
+
+  over : IsSafe g d → (table ≢ 0) × (guest / words_of_cluster own_h < own_h.l1_entries)
+      × (l2_table (file_of g d.tables) own_h (guest / words_of_cluster own_h) ≡ table * cluster_size own_h)
+  over safe = table-over (file_of g d.tables) own_h d.tables.l1 safe.seen.l1 guest table named
+
+  pub table-there : EnsuresTable g guest d (Ok table) d
+  table-there = record {
+    keeps = keeps-disk-same g ⊤ d;
+    marks = refl;
+    known = λ some. some;
+    there = λ safe some. over safe;
+    own = λ safe some.
+        ap is_copied (sym (top-word (file_of g d.tables) own_h d.tables.l1 safe.seen.l1 (guest / words_of_cluster own_h) (over safe).1)) ∙ marked;
+    cause = tt;
+  }
 
 pub none-waits : (o : Option Space) → o ≡ None → waits_in o ≡ true → ⊥
 none-waits None none waits = absurd (cc waits)

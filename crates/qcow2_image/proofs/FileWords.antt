@@ -23,7 +23,7 @@ module _ (f : Bytes) (h : Fields) (top : TableValue) (of : IsL1Of f h top) where
   pub top-long : length top.words ≡ h.l1_entries
   top-long = ap length of.words ∙ words_long f h.l1_offset h.l1_entries
 
-  top-word : (i : ℕ) → i < h.l1_entries → slice_index top.words i ≡ word f h.l1_offset i
+  pub top-word : (i : ℕ) → i < h.l1_entries → slice_index top.words i ≡ word f h.l1_offset i
   top-word i inside = ap (λ (ws : List ℕ). slice_index ws i) of.words ∙ words_at f h.l1_offset h.l1_entries i inside
 
   -- The L1 table in memory says where the L2 tables are.

@@ -18,8 +18,10 @@ use Rattle.imago_access.specs.declared.seen.SeenBelow.{Ghosts as GhostsBelow}
 use Rattle.imago_access.proofs.Looking.{looked_under_weaker}
 use Rattle.qcow2_types.specs.Entries.{entry, l2_table}
 use Rattle.qcow2_types.specs.Header.{Fields, Header, cluster_size, words_of_cluster}
+use Rattle.qcow2_types.specs.Words.{is_copied}
 use Rattle.qcow2_metadata.specs.Places.{IsInReach}
-use Rattle.qcow2_image.specs.Allocating.{EnsuresTable, LoadsSpace, StoresContent, WhyNotAllocated, WhyNotReserved, failed_cut}
+use Rattle.qcow2_metadata.specs.Tables.{TableValue}
+use Rattle.qcow2_image.specs.Allocating.{EnsuresTable, HasOwnTable, LoadsSpace, StoresContent, WhyNotAllocated, WhyNotReserved, failed_cut}
 use Rattle.qcow2_image.specs.Filling.{IsInFirst, IsLeft, IsNeededFor, MakesContent, NeedsShown, RefusesCopy, WhyNotCopied}
 use Rattle.qcow2_image.specs.Holding.{IsUncopied, place_in}
 use Rattle.qcow2_image.specs.KeepsDisk.{KeepsDisk}
@@ -29,6 +31,7 @@ use Rattle.qcow2_image.specs.Seen.{file_of, layer_of}
 use Rattle.qcow2_image.specs.Steps.{KeepsImage}
 use Rattle.qcow2_image.specs.declared.qcow2.PreparedMappingState.{PreparedMappingState}
 use Rattle.qcow2_image.specs.declared.qcow2.Qcow2.{Qcow2}
+use Rattle.qcow2_image.proofs.FileWords.{top-word}
 use Rattle.qcow2_image.proofs.KeepingDisks.{keeps-disk-both, keeps-image-disk}
 use Rattle.qcow2_image.proofs.Steps.{keeps-as, keeps-both}
 
@@ -86,6 +89,7 @@ module _ {S : Type 0} (g : Ghosts S) where
     marked = quiet-marked {T = Unit} old new e l.same;
     named = tt;
     reserved = λ safe. tt;
+    own = λ safe. tt;
     stored = λ safe. tt;
     cause = why-loaded old new e l.cause l.known_cause;
   }
@@ -98,6 +102,7 @@ module _ {S : Type 0} (g : Ghosts S) where
     marked = cut-marked old new e mid.failed t.marks;
     named = tt;
     reserved = λ safe. tt;
+    own = λ safe. tt;
     stored = λ safe. tt;
     cause = why-allocated old mid new e l.keeps l.known t.cause;
   }
@@ -111,9 +116,28 @@ module _ {S : Type 0} (g : Ghosts S) where
         marked = cut-marked old new e mid.failed s.marks;
         named = tt;
         reserved = λ safe. tt;
+        own = λ safe. tt;
         stored = λ safe. tt;
         cause = why-allocated old mid new e there (t.known l.known) s.cause;
       }
+
+  -- The L1 table in memory says which tables have no other name.
+  own-still : (guest : ℕ) (mid new : Qcow2 S g) → IsSafe g mid → IsSafe g new → new.tables.l1 ≡ mid.tables.l1
+      → new.tables.file.header.fields.cluster_bits ≡ mid.tables.file.header.fields.cluster_bits
+      → new.tables.file.header.fields.l1_entries ≡ mid.tables.file.header.fields.l1_entries
+      → guest / words_of_cluster mid.tables.file.header.fields < mid.tables.file.header.fields.l1_entries
+      → HasOwnTable g guest mid.tables → HasOwnTable g guest new.tables
+  own-still guest mid new safe safe' l1 bits entries inside own =
+      let h : Fields = mid.tables.file.header.fields in
+      let h' : Fields = new.tables.file.header.fields in
+      let row : guest / words_of_cluster h' ≡ guest / words_of_cluster h = ap (λ (b : ℕ). guest / (2 ^ b / 8)) bits in
+      let inside' : guest / words_of_cluster h' < h'.l1_entries = subst (λ (n : ℕ). n < h'.l1_entries) (sym row)
+      (subst (λ (n : ℕ). guest / words_of_cluster h < n) (sym entries) inside) in
+      ap is_copied (sym (top-word (file_of g new.tables) h' new.tables.l1 safe'.seen.l1 (guest / words_of_cluster h') inside')
+      ∙ ap (λ (top : TableValue). slice_index top.words (guest / words_of_cluster h')) l1
+      ∙ ap (slice_index mid.tables.l1.words) row
+      ∙ top-word (file_of g mid.tables) h mid.tables.l1 safe.seen.l1 (guest / words_of_cluster h) inside)
+      ∙ own
 
   -- Else it is reserved.
   pub reserve-done : (guest table host : ℕ) (bytes : List ℕ) (old first mid new : Qcow2 S g) → LoadsSpace g old (Ok tt) first
@@ -144,6 +168,8 @@ module _ {S : Type 0} (g : Ghosts S) where
               };
               room = kept.3;
             };
+        own = λ safe. own-still guest mid new (there.safely safe tt) (all.safely safe tt) s.l1 s.keeps.bits s.entries
+            (t.there (l.keeps.safely safe tt) l.known).1 (t.own (l.keeps.safely safe tt) l.known);
         stored = λ safe i less.
             ap (λ (b : ℕ). file_of g new.tables (host * 2 ^ b + i)) (sym there.bits) ∙ s.content (there.safely safe tt) i less;
         cause = tt;

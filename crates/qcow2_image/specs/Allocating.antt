@@ -8,9 +8,10 @@ use Rattle.imago_storage.specs.declared.storage.Storage.{Ghosts}
 use Rattle.imago_storage.specs.Disk.{barred, byte}
 use Rattle.imago_access.specs.Layer.{Cell, own, unmapped}
 use Rattle.imago_access.specs.Files.{WasNotCutOff}
+use Rattle.qcow2_types.specs.Bytes.{word}
 use Rattle.qcow2_types.specs.Entries.{entry, l2_table}
 use Rattle.qcow2_types.specs.Header.{cluster_size, words_of_cluster}
-use Rattle.qcow2_types.specs.Words.{Mapping, damaged, packed, zeroes}
+use Rattle.qcow2_types.specs.Words.{Mapping, damaged, is_copied, packed, zeroes}
 use Rattle.qcow2_types.specs.Words as words
 use Rattle.qcow2_metadata.specs.Places.{IsInReach}
 use Rattle.qcow2_steps.specs.Words.{IsReserved}
@@ -22,6 +23,7 @@ use Rattle.qcow2_image.specs.Steps.{KeepsImage}
 use Rattle.qcow2_image.specs.declared.allocating.Shown.{Shown}
 use Rattle.qcow2_image.specs.declared.allocating.Shown.TheVariants as shown
 use Rattle.qcow2_image.specs.declared.qcow2.Qcow2.{Qcow2}
+use Rattle.qcow2_image.specs.declared.tables.Tables.{Tables}
 use Rattle.qcow2_clusters.specs.declared.space.Space.{Space}
 
 -- whether an image has failed behind a change: want of memory marks it too, as it may have left a part
@@ -88,7 +90,12 @@ pub record LoadsSpace {S : Type 0} (g : Ghosts S) (old : Qcow2 S g) (result : Re
   pub known_cause : IsSafe g old → IfErr result (Cause (g.state old.tables.file.image).faults (g.state new.tables.file.image).faults)
   pub faults : OnOk result (new.failed ≡ old.failed)
 
--- An L2 table is over a guest cluster then.
+-- The L1 word over a guest cluster has the copied mark: nothing else names its L2 table.
+abbrev pub HasOwnTable : {S : Type 0} (g : Ghosts S) → ℕ → Tables S g → Type 0
+HasOwnTable g guest t = let h = t.file.header.fields in
+    is_copied (word (file_of g t) h.l1_offset (guest / words_of_cluster h)) ≡ true
+
+-- An L2 table of its own is over a guest cluster then.
 pub record EnsuresTable {S : Type 0} (g : Ghosts S) (guest : ℕ) (old : Qcow2 S g) (result : Result ℕ Fault) (new : Qcow2 S g) : Type 0 where
   pub keeps : KeepsDisk g (WasNotCutOff result) old new
   pub marks : new.failed ≡ failed_cut result old.failed
@@ -96,13 +103,16 @@ pub record EnsuresTable {S : Type 0} (g : Ghosts S) (guest : ℕ) (old : Qcow2 S
   pub there : IsSafe g old → IsSome old.tables.space → let h = new.tables.file.header.fields in
       IfOk result (λ t. (t ≢ 0) × (guest / words_of_cluster h < h.l1_entries)
       × (l2_table (file_of g new.tables) h (guest / words_of_cluster h) ≡ t * cluster_size h))
+  pub own : IsSafe g old → IsSome old.tables.space → IfOk result (λ t. HasOwnTable g guest new.tables)
   pub cause : IfErr result (WhyNotAllocated g old new)
 
--- Bytes are stored in a cluster that was free: it is reserved then, and can be named; and the L2 tables stay where they are.
+-- Bytes are stored in a cluster that was free: it is reserved then, and can be named; and the L1 table stays, and the L2 tables where they
+-- are.
 pub record StoresContent {S : Type 0} (g : Ghosts S) (bytes : List ℕ) (old : Qcow2 S g) (result : Result ℕ Fault) (new : Qcow2 S g)
     : Type 0 where
   pub keeps : KeepsDisk g (WasNotCutOff result) old new
   pub marks : new.failed ≡ failed_cut result old.failed
+  pub l1 : new.tables.l1 ≡ old.tables.l1
   pub entries : new.tables.file.header.fields.l1_entries ≡ old.tables.file.header.fields.l1_entries
   pub named : IfOk result (λ x. (x ≢ 0) × IsInReach old.tables.file.header.fields.cluster_bits x)
   pub tables : IsSafe g old → WasNotCutOff result → (i : ℕ)

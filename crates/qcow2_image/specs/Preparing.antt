@@ -14,7 +14,7 @@ use Rattle.qcow2_types.specs.Header.{Fields, cluster_size}
 use Rattle.qcow2_metadata.specs.Places.{IsInReach}
 use Rattle.qcow2_clusters.specs.Naming.{IsNameable}
 use Rattle.qcow2_clusters.specs.declared.space.Space.{Space}
-use Rattle.qcow2_image.specs.Allocating.{WhyNotReserved}
+use Rattle.qcow2_image.specs.Allocating.{HasOwnTable, WhyNotReserved}
 use Rattle.qcow2_image.specs.Filling.{IsInFirst, IsLeft, RefusesCopy}
 use Rattle.qcow2_image.specs.Holding.{Holding, IsUncopied, place_in}
 use Rattle.qcow2_image.specs.KeepsDisk.{KeepsDisk}
@@ -44,13 +44,14 @@ pub record IsReservedFor {S : Type 0} (g : Ghosts S) (guest table host : ℕ) (t
   pub nameable : IsNameable (rest_of g t space) table guest host
   pub room : 0 < space.to_free.held
 
--- A host cluster is reserved for a guest cluster, with this content, under an L2 table; the disk stays as it was.
+-- A host cluster is reserved for a guest cluster, with this content, under an L2 table that nothing else names; the disk stays as it was.
 pub record Reserves {S : Type 0} (g : Ghosts S) (guest : ℕ) (content : List ℕ) (old : Qcow2 S g) (result : Result (ℕ × ℕ) Fault)
     (new : Qcow2 S g) : Type 0 where
   pub keeps : KeepsDisk g (WasNotCutOff result) old new
   pub marked : IfErr result (LeavesMarked g old new)
   pub named : IfOk result (λ r. (r.1 ≢ 0) × IsInReach old.tables.file.header.fields.cluster_bits r.1)
   pub reserved : IsSafe g old → IfOk result (λ r. IsReservedFor g guest r.0 r.1 new.tables)
+  pub own : IsSafe g old → IfOk result (λ r. HasOwnTable g guest new.tables)
   pub stored : IsSafe g old → IfOk result (λ r. (i : ℕ) → i < length content
       → file_of g new.tables (r.1 * cluster_size old.tables.file.header.fields + i) ≡ slice_index content i)
   pub cause : IfErr result (WhyNotReserved g old new)

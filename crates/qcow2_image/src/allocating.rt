@@ -3,13 +3,16 @@ ghost use Rattle.std.specs.Prelude.{◌≡◌, ◌<◌, ◌+◌, ◌*◌, ◌^�
 ghost use Rattle.qcow2_types.specs.Header.{cluster_size};
 ghost use Rattle.qcow2_image.specs.Allocating.{EnsuresTable, FlushesFreed, FreesPending, LoadsSpace, StoresContent, TellsShown, failed_cut, shown_of, waits_in};
 ghost use Rattle.qcow2_metadata.specs.MappingView.{mapping_seen};
+ghost use Rattle.qcow2_clusters.specs.MakingTables.{CopiesTable, MakesTable};
+ghost use Rattle.qcow2_clusters.specs.Rest.{AreEmpty, HasEntries, lent};
 
 use crate::lookup::{l2_cluster, look_up};
 use crate::qcow2::Qcow2;
 use crate::reloading::drop_cached;
 use imago_storage::{Fault, Storage};
-use qcow2_clusters::{Space, free_waiting, make_table, store};
-use qcow2_metadata::{L2Mapping, Table};
+use qcow2_alloc::{ImageFile, MetadataCaches};
+use qcow2_clusters::{Space, copy_table, free_waiting, make_table, store};
+use qcow2_metadata::{L1Table, L2Mapping, Table};
 use qcow2_types::{GuestCluster, HostCluster};
 use std::alloc::Global;
 
@@ -30,6 +33,31 @@ fn shown_through(mapping: L2Mapping, backing: bool) -> Option<Shown>
         L2Mapping::Backing { .. } | L2Mapping::Zero { .. } => Some(Shown::Zeroes),
         L2Mapping::Compressed { .. } => Some(Shown::Barred),
         L2Mapping::DataFile { .. } => None,
+    }
+}
+
+// Has the word at an index of the L1 table name a new L2 table: a copy of the one that it names, or one in which nothing is mapped.
+fn new_table<S: Storage>(
+    alloc: Global,
+    file: &mut ImageFile<S>,
+    caches: &mut MetadataCaches<S>,
+    space: &mut Space,
+    l1: &mut L1Table,
+    index: usize,
+    is_copy: bool,
+) -> Result<HostCluster, Fault>
+    requires rest { AreEmpty caches.old }
+    requires room { HasEntries caches.old }
+    requires bounds { index < length l1.old.words }
+    ensures copies { IsTrue is_copy → CopiesTable S.state l1.old index (lent file.old caches.old space.old) result l1.new
+        (lent file.new caches.new space.new) }
+    ensures makes { is_copy ≡ false → MakesTable S.state l1.old index (lent file.old caches.old space.old) result l1.new
+        (lent file.new caches.new space.new) }
+{
+    if is_copy {
+        copy_table(alloc, file, caches, space, l1, index)
+    } else {
+        make_table(alloc, file, caches, space, l1, index)
     }
 }
 
@@ -80,7 +108,8 @@ impl<S: Storage> Qcow2<S> {
         }
     }
 
-    // The cluster of the L2 table over a guest cluster, which is made where there is none.
+    // The cluster of the L2 table over a guest cluster, whose words may be changed then: one is made where there is none, and one that may
+    // be shared, as its L1 word lacks the copied mark, is replaced by a copy.
     pub(crate) fn ensure_table(
         &mut self,
         alloc: Global,
@@ -90,10 +119,14 @@ impl<S: Storage> Qcow2<S> {
         ensures { EnsuresTable S.Storage guest self.old result self.new }
     {
         let cluster_bits = self.tables.file.header.cluster_bits();
-        if let Some(table) = l2_cluster(&self.tables.l1, guest, cluster_bits) {
-            return Ok(table);
-        }
         let index = guest.l1_index(cluster_bits);
+        let named = l2_cluster(&self.tables.l1, guest, cluster_bits);
+        let is_copy = named.is_some();
+        if let Some(table) = named {
+            if self.tables.l1.get(index).is_copied() {
+                return Ok(table);
+            }
+        }
         if index >= self.tables.l1.entries() {
             return Err(Fault::Limit(index as u64));
         }
@@ -101,13 +134,14 @@ impl<S: Storage> Qcow2<S> {
             return Err(Fault::DamagedTable);
         };
         let _dropped = drop_cached(&mut self.tables.caches);
-        let made = make_table(
+        let made = new_table(
             alloc,
             &mut self.tables.file,
             &mut self.tables.caches,
             space,
             &mut self.tables.l1,
             index,
+            is_copy,
         );
         self.settle_change(made)
     }

@@ -1,6 +1,6 @@
--- In one file, a word of the L1 table comes to name a table whose words mean what those of the old one do, but for marks.
+-- In one file, a word of the L1 table comes to name a table whose words mean what those of the old one do, with their marks or without.
 use Rattle.std.proofs.Common.{◌≡◌, ◌≢◌, ℕ, ◌+◌, ◌*◌, ◌/◌, ◌%◌, ◌^◌, ◌<◌, ◌≤◌, refl, arith, ap, sym, subst, ◌∙◌, Some, None, inl, inr}
-use Rattle.std.specs.Prelude.{◌==◌, if◌then◌else◌, IsFalse, IsTrue}
+use Rattle.std.specs.Prelude.{◌==◌, if◌then◌else◌, Bool, IsFalse, IsTrue, true, false}
 use Rattle.std.specs.Int.{w64, to_be_bytes}
 use Rattle.std.proofs.lemmas.Bool.{cases_eq, cases_lt}
 use Rattle.std.proofs.lemmas.Bool.Decides.{nat_tests}
@@ -19,14 +19,14 @@ use Rattle.qcow2_types.proofs.Consistent.{consistent-shaped, copied-named-once, 
 use Rattle.qcow2_types.proofs.Limit.{sum-zero}
 use Rattle.qcow2_types.proofs.Named.{structure-le-refs}
 use Rattle.qcow2_types.proofs.Sound.{sound-words}
-use Rattle.qcow2_types.proofs.Sums.{sum-same, term-le-sum}
+use Rattle.qcow2_types.proofs.Sums.{sum-mono, sum-same, term-le-sum}
 use Rattle.qcow2_types.proofs.TableReplaces.{table-replaced-spliced, table-swapped-spliced}
 use Rattle.qcow2_types.proofs.Values.{entry-slot}
 use Rattle.qcow2_alloc.proofs.Memory.Patches.{place-there}
-use Rattle.qcow2_steps.specs.NewTables.{slot_or_none}
+use Rattle.qcow2_steps.specs.NewTables.{copied_as, slot_or_none}
 
 -- The mark of a cluster changes nothing but what is named as copied.
-pub unmarked-weighs : (h : Fields) (w : Weight) (n : Mapping) → of_mapping h w (unmarked_mapping n) ≡ of_mapping h w n
+unmarked-weighs : (h : Fields) (w : Weight) (n : Mapping) → of_mapping h w (unmarked_mapping n) ≡ of_mapping h w n
 unmarked-weighs h w (data_at d copied) = refl
 unmarked-weighs h w (zeroes (Some d) copied) = refl
 unmarked-weighs h w (zeroes None copied) = refl
@@ -34,7 +34,7 @@ unmarked-weighs h w (packed offset n) = refl
 unmarked-weighs h w unmapped = refl
 unmarked-weighs h w damaged = refl
 
-pub unmarked-free : (h : Fields) (w : Weight) (n : Mapping) → of_copied h w (unmarked_mapping n) ≡ 0
+unmarked-free : (h : Fields) (w : Weight) (n : Mapping) → of_copied h w (unmarked_mapping n) ≡ 0
 unmarked-free h w (data_at d copied) = refl
 unmarked-free h w (zeroes (Some d) copied) = refl
 unmarked-free h w (zeroes None copied) = refl
@@ -49,12 +49,29 @@ unmarked-sane (packed offset n) = refl
 unmarked-sane unmapped = refl
 unmarked-sane damaged = refl
 
-pub unmarked-twice : (n : Mapping) → unmarked_mapping (unmarked_mapping n) ≡ unmarked_mapping n
+unmarked-twice : (n : Mapping) → unmarked_mapping (unmarked_mapping n) ≡ unmarked_mapping n
 unmarked-twice (data_at d copied) = refl
 unmarked-twice (zeroes d copied) = refl
 unmarked-twice (packed offset n) = refl
 unmarked-twice unmapped = refl
 unmarked-twice damaged = refl
+
+-- So a word that is copied weighs what it did, and names no more as copied.
+pub copied-weighs : (marks : Bool) (h : Fields) (w : Weight) (n : Mapping) → of_mapping h w (copied_as marks n) ≡ of_mapping h w n
+copied-weighs true h w n = refl
+copied-weighs false h w n = unmarked-weighs h w n
+
+pub copied-marks : (marks : Bool) (h : Fields) (w : Weight) (n : Mapping) → of_copied h w (copied_as marks n) ≤ of_copied h w n
+copied-marks true h w n = omega arith
+copied-marks false h w n = let none = unmarked-free h w n in omega (arith, none)
+
+copied-sane : (marks : Bool) (n : Mapping) → is_damaged (copied_as marks n) ≡ is_damaged n
+copied-sane true n = refl
+copied-sane false n = unmarked-sane n
+
+copied-unmarked : (marks : Bool) (n : Mapping) → unmarked_mapping (copied_as marks n) ≡ unmarked_mapping n
+copied-unmarked true n = refl
+copied-unmarked false n = unmarked-twice n
 
 -- The word of a table that there is, and where there is none.
 pub none-there : (f : Bytes) (h : Fields) (i j : ℕ) → l2_table f h i ≡ 0 → slot_or_none f h i j ≡ unmapped
@@ -66,9 +83,13 @@ slot-there f h i j there = choose (l2_table f h i) unmapped (slot f h i j) there
     choose : (t : ℕ) (a b : Mapping) → t ≢ 0 → (if t == 0 then a else b) ≡ b
     choose t a b there = grind (arith, nat_tests)
 
-module _ (f : Bytes) (H : Header) (was : IsConsistent f H) (i c w : ℕ) (inside : i < H.fields.l1_entries) (fits : w < 2 ^ 64) (sane : IsTrue (l1_word_sound H.fields.cluster_bits w))
+-- what is summed of a table that there is
+chosen : (p n : ℕ) → p ≢ 0 → (if p == 0 then 0 else n) ≡ n
+chosen p n apart = grind (arith, nat_tests)
+
+module _ (f : Bytes) (H : Header) (was : IsConsistent f H) (marks : Bool) (i c w : ℕ) (inside : i < H.fields.l1_entries) (fits : w < 2 ^ 64) (sane : IsTrue (l1_word_sound H.fields.cluster_bits w))
     (names : table_offset w ≡ c * cluster_size H.fields) (some : c ≢ 0) (unnamed : refs f H.fields c ≡ 0) (counted : 1 ≤ count f H.fields c)
-    (copies : (j : ℕ) → j < words_of_cluster H.fields → l2_mapping f H.fields (c * cluster_size H.fields) j ≡ unmarked_mapping (slot_or_none f H.fields i j)) where
+    (copies : (j : ℕ) → j < words_of_cluster H.fields → l2_mapping f H.fields (c * cluster_size H.fields) j ≡ copied_as marks (slot_or_none f H.fields i j)) where
   abbrev h : Fields
   h = H.fields
 
@@ -85,7 +106,7 @@ module _ (f : Bytes) (H : Header) (was : IsConsistent f H) (i c w : ℕ) (inside
   replaced = table-replaced-spliced f H was i inside w fits sane c t names there refl unnamed
 
   -- Its words weigh what those of the old one do,
-  as-before : (of : Mapping → ℕ) → ((n : Mapping) → of (unmarked_mapping n) ≡ of n) → of unmapped ≡ 0 → of_table f h of t ≡ of_table_or_none f h of (l2_table f h i)
+  as-before : (of : Mapping → ℕ) → ((n : Mapping) → of (copied_as marks n) ≡ of n) → of unmapped ≡ 0 → of_table f h of t ≡ of_table_or_none f h of (l2_table f h i)
   unfolding of_table
   as-before of same none = elim (cases_eq (l2_table f h i) 0) [
     | inl empty ↦
@@ -95,24 +116,35 @@ module _ (f : Bytes) (H : Header) (was : IsConsistent f H) (i c w : ℕ) (inside
         sum-same (words_of_cluster h) (λ j. of (l2_mapping f h t j)) (λ j. of (slot f h i j)) (λ j less. ap of (copies j less) ∙ same (slot_or_none f h i j) ∙ ap of (slot-there f h i j full))
         ∙ sym (chosen (l2_table f h i) (sum_below (words_of_cluster h) (λ j. of (slot f h i j))) full)
   ]
-    where
-      chosen : (p n : ℕ) → p ≢ 0 → (if p == 0 then 0 else n) ≡ n
-      chosen p n apart = grind (arith, nat_tests)
 
-  -- and none is marked.
-  unmarked-table : (d : ℕ) → of_table f h (of_copied h (meets h d)) t ≡ 0
+  -- and no more of them are marked.
+  marks-before : (of : Mapping → ℕ) → ((n : Mapping) → of (copied_as marks n) ≤ of n) → of unmapped ≡ 0 → of_table f h of t ≤ of_table_or_none f h of (l2_table f h i)
   unfolding of_table
-  unmarked-table d = sum-zero _ _ (λ j less. ap (of_copied h (meets h d)) (copies j less) ∙ unmarked-free h (meets h d) (slot_or_none f h i j))
+  marks-before of fewer none = elim (cases_eq (l2_table f h i) 0) [
+    | inl empty ↦
+        let zero : sum_below (words_of_cluster h) (λ j. of (l2_mapping f h t j)) ≡ 0 = sum-zero _ _ (λ j less.
+        let le : of (l2_mapping f h t j) ≤ of (slot_or_none f h i j) = subst (λ n. of n ≤ of (slot_or_none f h i j)) (sym (copies j less)) (fewer (slot_or_none f h i j)) in
+        let nothing : of (slot_or_none f h i j) ≡ 0 = ap of (none-there f h i j empty) ∙ none in
+        omega (arith, le, nothing)) in
+        omega (arith, zero)
+    | inr full ↦
+        let le : sum_below (words_of_cluster h) (λ j. of (l2_mapping f h t j)) ≤ sum_below (words_of_cluster h) (λ j. of (slot f h i j)) = sum-mono (words_of_cluster h) _ _ (λ j less.
+        subst (λ n. of n ≤ of (slot f h i j)) (sym (copies j less)) (subst (λ n. of (copied_as marks n) ≤ of (slot f h i j)) (sym (slot-there f h i j full)) (fewer (slot f h i j)))) in
+        subst (λ n. sum_below (words_of_cluster h) (λ j. of (l2_mapping f h t j)) ≤ n) (sym (chosen (l2_table f h i) (sum_below (words_of_cluster h) (λ j. of (slot f h i j))) full)) le
+  ]
 
   -- So each cluster is named as often, but for the two tables' own.
   pub references : (d : ℕ) → refs x h d + of_cluster h (meets h d) (l2_table f h i) ≡ refs f h d + meets h d t (cluster_size h)
   references d =
       let all = replaced.references d in
-      let words = as-before (of_mapping h (meets h d)) (unmarked-weighs h (meets h d)) refl in
+      let words = as-before (of_mapping h (meets h d)) (copied-weighs marks h (meets h d)) refl in
       omega (arith, all, words)
 
-  marks : (d : ℕ) → contents x h (of_copied h (meets h d)) ≤ contents f h (of_copied h (meets h d))
-  marks d = let all = replaced.contents (of_copied h (meets h d)) in let none = unmarked-table d in omega (arith, all, none)
+  fewer-copied : (d : ℕ) → contents x h (of_copied h (meets h d)) ≤ contents f h (of_copied h (meets h d))
+  fewer-copied d =
+      let all = replaced.contents (of_copied h (meets h d)) in
+      let fewer = marks-before (of_copied h (meets h d)) (copied-marks marks h (meets h d)) refl in
+      omega (arith, all, fewer)
 
   -- The old table doesn't stand in the new one's cluster.
   old-apart : of_cluster h (meets h c) (l2_table f h i) ≡ 0
@@ -133,7 +165,7 @@ module _ (f : Bytes) (H : Header) (was : IsConsistent f H) (i c w : ℕ) (inside
       (omega (arith, all, none), omega (arith, base, none))
 
   plain : (j : ℕ) → j < words_of_cluster h → IsFalse (is_damaged (l2_mapping f h t j))
-  plain j less = ap is_damaged (copies j less) ∙ unmarked-sane (slot_or_none f h i j) ∙ elim (cases_eq (l2_table f h i) 0) [
+  plain j less = ap is_damaged (copies j less) ∙ copied-sane marks (slot_or_none f h i j) ∙ elim (cases_eq (l2_table f h i) 0) [
     | inl empty ↦ ap is_damaged (none-there f h i j empty)
     | inr full ↦ ap is_damaged (slot-there f h i j full) ∙ (sound-words f h was.readable.tables).slots i j (record { in_l1 = inside; is_there = full; in_table = less })
   ]
@@ -149,7 +181,7 @@ module _ (f : Bytes) (H : Header) (was : IsConsistent f H) (i c w : ℕ) (inside
     | inl same ↦ subst (λ k. refs x h k ≤ 1) (sym same) (let one = once in omega (arith, one))
     | inr apart ↦
         let fewer = elsewhere d apart in
-        let fewer-marks = marks d in
+        let fewer-marks = fewer-copied d in
         elim (cases_lt 0 (structure f h (meets h d))) [
           | inl base ↦ let one = structure-named-once f H was d base in omega (arith, one, fewer.0)
           | inr none ↦ let one = copied-named-once f H was d (omega (arith, none, more, fewer.1, fewer-marks)) in omega (arith, one, fewer.0)
@@ -159,14 +191,14 @@ module _ (f : Bytes) (H : Header) (was : IsConsistent f H) (i c w : ℕ) (inside
   pub swapped : TableSwapped f x H i t
   swapped = table-swapped-spliced f H was i inside w fits sane c t names there refl unnamed plain covered apart-still
 
-  -- A guest cluster of the table has its mapping with no mark,
-  pub entry-copied : (guest : ℕ) → guest / words_of_cluster h ≡ i → entry x h guest ≡ unmarked_mapping (entry f h guest)
+  -- A guest cluster of the table has its mapping as it was copied,
+  pub entry-copied : (guest : ℕ) → guest / words_of_cluster h ≡ i → entry x h guest ≡ copied_as marks (entry f h guest)
   entry-copied guest row =
       let less : guest % words_of_cluster h < words_of_cluster h = mod_below guest (words_of_cluster h) (some-words h (consistent-shaped f H was)) in
       swapped.entries guest row
       ∙ copies (guest % words_of_cluster h) less
-      ∙ ap (λ k. unmarked_mapping (slot_or_none f h k (guest % words_of_cluster h))) (sym row)
-      ∙ ap unmarked_mapping (sym (entry-slot f h guest was.readable.tables))
+      ∙ ap (λ k. copied_as marks (slot_or_none f h k (guest % words_of_cluster h))) (sym row)
+      ∙ ap (copied_as marks) (sym (entry-slot f h guest was.readable.tables))
 
   -- any other its own,
   pub entry-elsewhere : (guest : ℕ) → guest / words_of_cluster h ≢ i → entry x h guest ≡ entry f h guest
@@ -176,9 +208,9 @@ module _ (f : Bytes) (H : Header) (was : IsConsistent f H) (i c w : ℕ) (inside
   pub entry-unmarked : (guest : ℕ) → unmarked_mapping (entry x h guest) ≡ unmarked_mapping (entry f h guest)
   entry-unmarked guest = elim (cases_eq (guest / words_of_cluster h) i) [
     | inr apart ↦ ap unmarked_mapping (entry-elsewhere guest apart)
-    | inl row ↦ ap unmarked_mapping (entry-copied guest row) ∙ unmarked-twice (entry f h guest)
+    | inl row ↦ ap unmarked_mapping (entry-copied guest row) ∙ copied-unmarked marks (entry f h guest)
   ]
 
-  -- A word of the new table means what the old one's did, but for the mark.
-  pub slot-new : (j : ℕ) → j < words_of_cluster h → slot x h i j ≡ unmarked_mapping (slot_or_none f h i j)
+  -- A word of the new table means what the old one's did, as it was copied.
+  pub slot-new : (j : ℕ) → j < words_of_cluster h → slot x h i j ≡ copied_as marks (slot_or_none f h i j)
   slot-new j less = ap (λ p. l2_mapping x h p j) replaced.here ∙ ap (mapping_of (layout_of h)) (replaced.words j less) ∙ copies j less

@@ -1,5 +1,5 @@
 -- A word of the L1 table comes to name a table that is ready for it: the image stays sound, and shows what it did.
-use Rattle.std.proofs.Common.{◌≡◌, ◌≢◌, ℕ, ◌+◌, ◌*◌, ◌/◌, ◌%◌, ◌<◌, ◌≤◌, refl, arith, ap, sym, subst, ◌∙◌, true, inl, inr}
+use Rattle.std.proofs.Common.{◌≡◌, ◌≢◌, ℕ, ◌+◌, ◌*◌, ◌/◌, ◌%◌, ◌<◌, ◌≤◌, refl, arith, ap, sym, subst, ◌∙◌, true, false, inl, inr}
 use Rattle.std.specs.Prelude.{◌⊎◌, ◌==◌, Bool, if◌then◌else◌, max}
 use Rattle.std.specs.Int.{w64, to_be_bytes}
 use Rattle.std.proofs.lemmas.Bool.{cases_eq}
@@ -37,9 +37,9 @@ use Rattle.qcow2_alloc.proofs.Quiet.QuietEntries.{metadata-among}
 use Rattle.qcow2_alloc.proofs.Quiet.QuietFlushes.{still-table}
 use Rattle.qcow2_alloc.proofs.Quiet.QuietShows.{in-cluster, memory-same, named-apart}
 use Rattle.qcow2_steps.specs.Advancing.{Advances}
-use Rattle.qcow2_steps.specs.NewTables.{IsOfTable, IsReadyL2Table, NamesTable, old_table, slot_or_none, with_l1_word}
+use Rattle.qcow2_steps.specs.NewTables.{IsOfTable, IsReadyL2Table, LosesMark, NamesTable, copied_as, old_table, slot_or_none, with_l1_word}
 use Rattle.qcow2_steps.specs.Values.{file_value, memory_value, own_value_by}
-use Rattle.qcow2_steps.proofs.CopiedTables.{entry-copied, entry-elsewhere, entry-unmarked, none-there, references, replaced, slot-new, slot-there, swapped, unmarked-free, unmarked-weighs}
+use Rattle.qcow2_steps.proofs.CopiedTables.{copied-marks, copied-weighs, entry-copied, entry-elsewhere, entry-unmarked, none-there, references, slot-new, slot-there, swapped}
 use Rattle.qcow2_steps.proofs.Headers.{header-same}
 use Rattle.qcow2_steps.proofs.QuietValues.{data-used}
 use Rattle.qcow2_steps.proofs.Steps.{meets-one}
@@ -64,7 +64,7 @@ unmarked-value f h p damaged = refl
 same-value : (f : Bytes) (h : Fields) (p : ℕ) (a b : Mapping) → unmarked_mapping a ≡ unmarked_mapping b → own_value_by f h p a ≡ own_value_by f h p b
 same-value f h p a b same = sym (unmarked-value f h p a) ∙ ap (own_value_by f h p) same ∙ unmarked-value f h p b
 
-module _ (m : Metadata) (i c w : ℕ) (sound : IsSound m) (ready : IsReadyL2Table m i c) (by : NamesTable m.header.fields c w) where
+module _ (m : Metadata) (marks : Bool) (i c w : ℕ) (sound : IsSound m) (ready : IsReadyL2Table m marks i c) (by : NamesTable m.header.fields c w) where
   abbrev f : Bytes
   f = m.file
 
@@ -122,32 +122,32 @@ module _ (m : Metadata) (i c w : ℕ) (sound : IsSound m) (ready : IsReadyL2Tabl
   ]
 
   -- and so do those of the new one.
-  copies-there : (j : ℕ) → j < words_of_cluster h → l2_mapping g h t j ≡ unmarked_mapping (slot_or_none g h i j)
+  copies-there : (j : ℕ) → j < words_of_cluster h → l2_mapping g h t j ≡ copied_as marks (slot_or_none g h i j)
   copies-there j less =
       ap (mapping_of (layout_of h)) (word-same f g t (cluster_size h) j (memory-same m.file m.header c ready.reserved.used.apart sound.safe.consistent m.cached m.order sound.safe) (words-fit h j less))
-      ∙ ready.words j less ∙ ap unmarked_mapping (sym (old-either j less))
+      ∙ ready.words j less ∙ ap (copied_as marks) (sym (old-either j less))
 
   in-file : TableSwapped f x m.header i t
-  in-file = swapped f m.header sound.safe.consistent i c w ready.inside by.fits by.sane by.names ready.some unnamed-file ready.counts ready.words
+  in-file = swapped f m.header sound.safe.consistent marks i c w ready.inside by.fits by.sane by.names ready.some unnamed-file ready.counts ready.words
 
   over-there : TableSwapped g y m.header i t
-  over-there = swapped g m.header (within m sound) i c w ready.inside by.fits by.sane by.names ready.some unnamed-there counted-there copies-there
+  over-there = swapped g m.header (within m sound) marks i c w ready.inside by.fits by.sane by.names ready.some unnamed-there counted-there copies-there
 
   file-references : (d : ℕ) → refs x h d + old_table m i d ≡ refs f h d + meets h d t (cluster_size h)
-  file-references = references f m.header sound.safe.consistent i c w ready.inside by.fits by.sane by.names ready.some unnamed-file ready.counts ready.words
+  file-references = references f m.header sound.safe.consistent marks i c w ready.inside by.fits by.sane by.names ready.some unnamed-file ready.counts ready.words
 
   memory-references : (d : ℕ) → refs y h d + old_table m i d ≡ refs g h d + meets h d t (cluster_size h)
   memory-references d =
-      let all = references g m.header (within m sound) i c w ready.inside by.fits by.sane by.names ready.some unnamed-there counted-there copies-there d in
+      let all = references g m.header (within m sound) marks i c w ready.inside by.fits by.sane by.names ready.some unnamed-there counted-there copies-there d in
       let same : of_cluster h (meets h d) (l2_table g h i) ≡ of_cluster h (meets h d) (l2_table f h i) = ap (of_cluster h (meets h d)) (places.l1 i) in
       omega (arith, all, same)
 
-  file-slot : (j : ℕ) → j < words_of_cluster h → slot x h i j ≡ unmarked_mapping (slot_or_none f h i j)
-  file-slot = slot-new f m.header sound.safe.consistent i c w ready.inside by.fits by.sane by.names ready.some unnamed-file ready.counts ready.words
+  file-slot : (j : ℕ) → j < words_of_cluster h → slot x h i j ≡ copied_as marks (slot_or_none f h i j)
+  file-slot = slot-new f m.header sound.safe.consistent marks i c w ready.inside by.fits by.sane by.names ready.some unnamed-file ready.counts ready.words
 
-  memory-slot : (j : ℕ) → j < words_of_cluster h → slot y h i j ≡ unmarked_mapping (slot_or_none f h i j)
+  memory-slot : (j : ℕ) → j < words_of_cluster h → slot y h i j ≡ copied_as marks (slot_or_none f h i j)
   memory-slot j less =
-      slot-new g m.header (within m sound) i c w ready.inside by.fits by.sane by.names ready.some unnamed-there counted-there copies-there j less ∙ ap unmarked_mapping (old-either j less)
+      slot-new g m.header (within m sound) marks i c w ready.inside by.fits by.sane by.names ready.some unnamed-there counted-there copies-there j less ∙ ap (copied_as marks) (old-either j less)
 
   -- Words of other tables mean what they did.
   other-file : (k j : ℕ) → Live (l2_table f h) h k j → k ≢ i → slot x h k j ≡ slot f h k j
@@ -177,8 +177,8 @@ module _ (m : Metadata) (i c w : ℕ) (sound : IsSound m) (ready : IsReadyL2Tabl
     where
       new-weighs : (d j : ℕ) → j < words_of_cluster h → of_either h (meets h d) (slot x h i j) (slot y h i j) ≡ of_mapping h (meets h d) (slot_or_none f h i j)
       new-weighs d j less =
-          let one : of_mapping h (meets h d) (slot x h i j) ≡ of_mapping h (meets h d) (slot_or_none f h i j) = ap (of_mapping h (meets h d)) (file-slot j less) ∙ unmarked-weighs h (meets h d) (slot_or_none f h i j) in
-          let two : of_mapping h (meets h d) (slot y h i j) ≡ of_mapping h (meets h d) (slot_or_none f h i j) = ap (of_mapping h (meets h d)) (memory-slot j less) ∙ unmarked-weighs h (meets h d) (slot_or_none f h i j) in
+          let one : of_mapping h (meets h d) (slot x h i j) ≡ of_mapping h (meets h d) (slot_or_none f h i j) = ap (of_mapping h (meets h d)) (file-slot j less) ∙ copied-weighs marks h (meets h d) (slot_or_none f h i j) in
+          let two : of_mapping h (meets h d) (slot y h i j) ≡ of_mapping h (meets h d) (slot_or_none f h i j) = ap (of_mapping h (meets h d)) (memory-slot j less) ∙ copied-weighs marks h (meets h d) (slot_or_none f h i j) in
           ap (λ n. max n (of_mapping h (meets h d) (slot y h i j))) one ∙ ap (max (of_mapping h (meets h d) (slot_or_none f h i j))) two ∙ twice (of_mapping h (meets h d) (slot_or_none f h i j))
 
       there-is : (t n : ℕ) → t ≢ 0 → or_none t n ≡ n
@@ -212,9 +212,9 @@ module _ (m : Metadata) (i c w : ℕ) (sound : IsSound m) (ready : IsReadyL2Tabl
       named-place p there = chosen p (meets h d p (cluster_size h)) there
 
   -- No more is marked.
-  marks : (d : ℕ) → copied x y h d ≤ copied f g h d
+  fewer-copied : (d : ℕ) → copied x y h d ≤ copied f g h d
   unfolding copied over_slots
-  marks d = sum-mono h.l1_entries _ _ (λ k inside. elim (cases_eq k i) [
+  fewer-copied d = sum-mono h.l1_entries _ _ (λ k inside. elim (cases_eq k i) [
     | inr apart ↦ elim (cases_eq (l2_table f h k) 0) [
       | inl empty ↦ rw (in-file.replaced.tables k apart, empty) (omega arith)
       | inr full ↦
@@ -226,23 +226,45 @@ module _ (m : Metadata) (i c w : ℕ) (sound : IsSound m) (ready : IsReadyL2Tabl
           ap (λ n. max (of_copied h (meets h d) n) (of_copied h (meets h d) (slot y h k j))) (other-file k j live apart) ∙ ap (λ n. max (of_copied h (meets h d) (slot f h k j)) (of_copied h (meets h d) n)) (other-memory k j live apart))) in
           omega (arith, same)
     ]
-    | inl same ↦
-        let zero : or_none (l2_table x h k) (sum_below (words_of_cluster h) (λ j. max (of_copied h (meets h d) (slot x h k j)) (of_copied h (meets h d) (slot y h k j)))) ≡ 0 =
-        subst (λ k. or_none (l2_table x h k) (sum_below (words_of_cluster h) (λ j. max (of_copied h (meets h d) (slot x h k j)) (of_copied h (meets h d) (slot y h k j)))) ≡ 0) (sym same) (own-marks d) in
-        omega (arith, zero)
+    | inl same ↦ subst (λ k. or_none (l2_table x h k) (sum_below (words_of_cluster h) (λ j. max (of_copied h (meets h d) (slot x h k j)) (of_copied h (meets h d) (slot y h k j))))
+        ≤ or_none (l2_table f h k) (sum_below (words_of_cluster h) (λ j. max (of_copied h (meets h d) (slot f h k j)) (of_copied h (meets h d) (slot g h k j))))) (sym same) (own-marks d)
   ])
     where
-      or-zero : (t n : ℕ) → n ≡ 0 → or_none t n ≡ 0
-      or-zero t n none = grind (arith, nat_tests)
+      or-less : (t n : ℕ) → or_none t n ≤ n
+      or-less t n = grind (arith, nat_tests)
 
-      own-marks : (d : ℕ) → or_none (l2_table x h i) (sum_below (words_of_cluster h) (λ j. max (of_copied h (meets h d) (slot x h i j)) (of_copied h (meets h d) (slot y h i j)))) ≡ 0
+      there-is : (t n : ℕ) → t ≢ 0 → n ≤ or_none t n
+      there-is t n apart = grind (arith, nat_tests)
+
+      new-marks : (d j : ℕ) → j < words_of_cluster h → max (of_copied h (meets h d) (slot x h i j)) (of_copied h (meets h d) (slot y h i j)) ≤ of_copied h (meets h d) (slot_or_none f h i j)
+      new-marks d j less =
+          let one : of_copied h (meets h d) (slot x h i j) ≡ of_copied h (meets h d) (copied_as marks (slot_or_none f h i j)) = ap (of_copied h (meets h d)) (file-slot j less) in
+          let two : of_copied h (meets h d) (slot y h i j) ≡ of_copied h (meets h d) (copied_as marks (slot_or_none f h i j)) = ap (of_copied h (meets h d)) (memory-slot j less) in
+          let fewer = copied-marks marks h (meets h d) (slot_or_none f h i j) in
+          omega (arith, one, two, fewer)
+
+      own-marks : (d : ℕ) → or_none (l2_table x h i) (sum_below (words_of_cluster h) (λ j. max (of_copied h (meets h d) (slot x h i j)) (of_copied h (meets h d) (slot y h i j))))
+          ≤ or_none (l2_table f h i) (sum_below (words_of_cluster h) (λ j. max (of_copied h (meets h d) (slot f h i j)) (of_copied h (meets h d) (slot g h i j))))
       own-marks d =
-          let zero : sum_below (words_of_cluster h) (λ j. max (of_copied h (meets h d) (slot x h i j)) (of_copied h (meets h d) (slot y h i j))) ≡ 0 =
-          sum-zero _ _ (λ j less.
-          let one : of_copied h (meets h d) (slot x h i j) ≡ 0 = ap (of_copied h (meets h d)) (file-slot j less) ∙ unmarked-free h (meets h d) (slot_or_none f h i j) in
-          let two : of_copied h (meets h d) (slot y h i j) ≡ 0 = ap (of_copied h (meets h d)) (memory-slot j less) ∙ unmarked-free h (meets h d) (slot_or_none f h i j) in
-          ap (λ n. max n (of_copied h (meets h d) (slot y h i j))) one ∙ ap (max 0) two) in
-          or-zero (l2_table x h i) _ zero
+          let all = or-less (l2_table x h i) (sum_below (words_of_cluster h) (λ j. max (of_copied h (meets h d) (slot x h i j)) (of_copied h (meets h d) (slot y h i j)))) in
+          elim (cases_eq (l2_table f h i) 0) [
+            | inl empty ↦
+                let zero : sum_below (words_of_cluster h) (λ j. max (of_copied h (meets h d) (slot x h i j)) (of_copied h (meets h d) (slot y h i j))) ≡ 0 =
+                sum-zero _ _ (λ j less.
+                let le = new-marks d j less in
+                let none : of_copied h (meets h d) (slot_or_none f h i j) ≡ 0 = ap (of_copied h (meets h d)) (none-there f h i j empty) in
+                omega (arith, le, none)) in
+                omega (arith, all, zero)
+            | inr full ↦
+                let le : sum_below (words_of_cluster h) (λ j. max (of_copied h (meets h d) (slot x h i j)) (of_copied h (meets h d) (slot y h i j)))
+                ≤ sum_below (words_of_cluster h) (λ j. max (of_copied h (meets h d) (slot f h i j)) (of_copied h (meets h d) (slot g h i j))) =
+                sum-mono (words_of_cluster h) _ _ (λ j less.
+                let le = new-marks d j less in
+                let old : of_copied h (meets h d) (slot_or_none f h i j) ≡ of_copied h (meets h d) (slot f h i j) = ap (of_copied h (meets h d)) (slot-there f h i j full) in
+                omega (arith, le, old)) in
+                let same = there-is (l2_table f h i) (sum_below (words_of_cluster h) (λ j. max (of_copied h (meets h d) (slot f h i j)) (of_copied h (meets h d) (slot g h i j)))) full in
+                omega (arith, all, le, same)
+          ]
 
   base : (d : ℕ) → structure x h (meets h d) + old_table m i d ≡ structure f h (meets h d) + meets h d t (cluster_size h)
   base d = in-file.replaced.structure (meets h d)
@@ -321,7 +343,7 @@ module _ (m : Metadata) (i c w : ℕ) (sound : IsSound m) (ready : IsReadyL2Tabl
     blocks = all-weaker _ _ (λ e is. block-still e.0 e.1.value is) m.cached.blocks sound.safe.blocks;
     apart = λ d some.
         let memory : copied x (in_memory later) h d ≡ copied x y h d = ap (λ (z : Bytes). copied x z h d) memory-is in
-        let less = marks d in
+        let less = fewer-copied d in
         let all = names d in
         let stands = base d in
         elim (which d) [
@@ -370,7 +392,7 @@ module _ (m : Metadata) (i c w : ℕ) (sound : IsSound m) (ready : IsReadyL2Tabl
 
   pub file-shows-same : (p : ℕ) → file_value later p ≡ file_value m p
   file-shows-same p =
-      let same = entry-unmarked f m.header sound.safe.consistent i c w ready.inside by.fits by.sane by.names ready.some unnamed-file ready.counts ready.words (p / cluster_size h) in
+      let same = entry-unmarked f m.header sound.safe.consistent marks i c w ready.inside by.fits by.sane by.names ready.some unnamed-file ready.counts ready.words (p / cluster_size h) in
       same-value x h p (entry x h (p / cluster_size h)) (entry f h (p / cluster_size h)) same
       ∙ value-same f x h p (entry f h (p / cluster_size h)) (λ d copied is. byte-kept p d (file-apart (p / cluster_size h) d copied is))
     where
@@ -383,39 +405,44 @@ module _ (m : Metadata) (i c w : ℕ) (sound : IsSound m) (ready : IsReadyL2Tabl
   -- and in memory.
   pub memory-shows-same : (p : ℕ) → memory_value later p ≡ memory_value m p
   memory-shows-same p =
-      let same = entry-unmarked g m.header (within m sound) i c w ready.inside by.fits by.sane by.names ready.some unnamed-there counted-there copies-there (p / cluster_size h) in
+      let same = entry-unmarked g m.header (within m sound) marks i c w ready.inside by.fits by.sane by.names ready.some unnamed-there counted-there copies-there (p / cluster_size h) in
       ap (λ (z : Bytes). own_value_by x h p (entry z h (p / cluster_size h))) memory-is
       ∙ same-value x h p (entry y h (p / cluster_size h)) (entry g h (p / cluster_size h)) same
       ∙ value-same f x h p (entry g h (p / cluster_size h)) (λ d copied is. byte-kept p d (data-used m sound (p / cluster_size h) d copied is).apart)
 
-  -- Its words mean what they did with no mark, in the file and in memory, and those of other tables what they did.
-  pub file-copied : (guest : ℕ) → IsOfTable h i guest → entry x h guest ≡ unmarked_mapping (entry f h guest)
-  file-copied = entry-copied f m.header sound.safe.consistent i c w ready.inside by.fits by.sane by.names ready.some unnamed-file ready.counts ready.words
+  -- Its words mean what they did, as they were copied, in the file and in memory, and those of other tables what they did.
+  pub file-copied : (guest : ℕ) → IsOfTable h i guest → entry x h guest ≡ copied_as marks (entry f h guest)
+  file-copied = entry-copied f m.header sound.safe.consistent marks i c w ready.inside by.fits by.sane by.names ready.some unnamed-file ready.counts ready.words
 
-  pub memory-copied : (guest : ℕ) → IsOfTable h i guest → entry (in_memory later) h guest ≡ unmarked_mapping (entry g h guest)
+  pub memory-copied : (guest : ℕ) → IsOfTable h i guest → entry (in_memory later) h guest ≡ copied_as marks (entry g h guest)
   memory-copied guest own =
       ap (λ (z : Bytes). entry z h guest) memory-is
-      ∙ entry-copied g m.header (within m sound) i c w ready.inside by.fits by.sane by.names ready.some unnamed-there counted-there copies-there guest own
+      ∙ entry-copied g m.header (within m sound) marks i c w ready.inside by.fits by.sane by.names ready.some unnamed-there counted-there copies-there guest own
 
   pub file-elsewhere : (guest : ℕ) → guest / words_of_cluster h ≢ i → entry x h guest ≡ entry f h guest
-  file-elsewhere = entry-elsewhere f m.header sound.safe.consistent i c w ready.inside by.fits by.sane by.names ready.some unnamed-file ready.counts ready.words
+  file-elsewhere = entry-elsewhere f m.header sound.safe.consistent marks i c w ready.inside by.fits by.sane by.names ready.some unnamed-file ready.counts ready.words
 
   pub memory-elsewhere : (guest : ℕ) → guest / words_of_cluster h ≢ i → entry (in_memory later) h guest ≡ entry g h guest
   memory-elsewhere guest apart =
       ap (λ (z : Bytes). entry z h guest) memory-is
-      ∙ entry-elsewhere g m.header (within m sound) i c w ready.inside by.fits by.sane by.names ready.some unnamed-there counted-there copies-there guest apart
+      ∙ entry-elsewhere g m.header (within m sound) marks i c w ready.inside by.fits by.sane by.names ready.some unnamed-there counted-there copies-there guest apart
 
   one-new : (d : ℕ) → meets h d t (cluster_size h) ≡ one_at c d
   one-new d = meets-one h c d
 
-  pub table-advances : Advances (λ p v. ⊥) (λ q. ⊥) (IsOfTable h i) (old_table m i) (one_at c) m later
+  set-or-same : (keeps : Bool) (guest : ℕ) → IsOfTable h i guest → entry (in_memory later) h guest ≡ copied_as keeps (entry g h guest)
+      → (entry (in_memory later) h guest ≡ entry g h guest) ⊎ LosesMark keeps h i guest
+  set-or-same true guest own is = inl is
+  set-or-same false guest own is = inr own
+
+  pub table-advances : Advances (λ p v. ⊥) (λ q. ⊥) (LosesMark marks h i) (old_table m i) (one_at c) m later
   table-advances = record {
     sound = table-sound;
     header = header-same m.header;
     file = record { consistent = in-file.consistent; header = header-same m.header; shows = λ p. inl (file-shows-same p) };
     memory = λ p. inl (memory-shows-same p);
     words = λ guest. elim (cases_eq (guest / words_of_cluster h) i) [
-      | inl own ↦ inr own
+      | inl own ↦ set-or-same marks guest own (memory-copied guest own)
       | inr apart ↦ inl (memory-elsewhere guest apart)
     ];
     used = λ d used none. record {

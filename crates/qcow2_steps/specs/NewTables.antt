@@ -1,5 +1,5 @@
 -- A word of the L1 table comes to name a new L2 table, in place of none or of one that it copies.
-use Rattle.std.specs.Prelude.{◌≡◌, ◌≢◌, ℕ, ◌+◌, ◌*◌, ◌/◌, ◌<◌, ◌≤◌, ◌^◌, ◌==◌, if◌then◌else◌, IsTrue, true}
+use Rattle.std.specs.Prelude.{◌≡◌, ◌≢◌, ℕ, ◌+◌, ◌*◌, ◌/◌, ◌<◌, ◌≤◌, ◌^◌, ◌==◌, if◌then◌else◌, Bool, IsTrue, true, false}
 use Rattle.std.specs.Int.{w64, to_be_bytes}
 use Rattle.std.specs.List.{AllByRecursion}
 use Rattle.qcow2_types.specs.Bytes.{Bytes, splice}
@@ -18,20 +18,25 @@ use Rattle.qcow2_steps.specs.Words.{IsReserved}
 abbrev pub slot_or_none : Bytes → Fields → ℕ → ℕ → Mapping
 slot_or_none f h i j = if l2_table f h i == 0 then unmapped else slot f h i j
 
+-- the mapping of a word that is copied, with its mark or without
+abbrev pub copied_as : (marks : Bool) → Mapping → Mapping
+copied_as true mapping = mapping
+copied_as false mapping = unmarked_mapping mapping
+
 -- the image with word i of the L1 table in its file, which is written at once
 abbrev pub with_l1_word : Metadata → ℕ → ℕ → Metadata
 with_l1_word m i w = record m { file = splice m.file (m.header.fields.l1_offset + 8 * i) (to_be_bytes w64 w) }
 
 -- Cluster c holds what may become table i: it is reserved, and counted in the file, too; its words mean there what those of the table do
--- that word i names by now, but for the marks of their clusters; of this nothing waits to be written, and what is cached at c, if anything
--- is, is what the file has there.
-pub record IsReadyL2Table (m : Metadata) (i c : ℕ) : Type 0 where
+-- that word i names by now, with their marks or without; of this nothing waits to be written, and what is cached at c, if anything is, is
+-- what the file has there.
+pub record IsReadyL2Table (m : Metadata) (marks : Bool) (i c : ℕ) : Type 0 where
   pub inside : i < m.header.fields.l1_entries
   pub some : c ≢ 0
   pub reserved : IsReserved m c
   pub counts : 1 ≤ count m.file m.header.fields c
   pub words : (j : ℕ) → j < words_of_cluster m.header.fields
-      → l2_mapping m.file m.header.fields (c * cluster_size m.header.fields) j ≡ unmarked_mapping (slot_or_none m.file m.header.fields i j)
+      → l2_mapping m.file m.header.fields (c * cluster_size m.header.fields) j ≡ copied_as marks (slot_or_none m.file m.header.fields i j)
   pub settled : AllByRecursion
       (λ e. e.1.value.modified ≡ true → e.0 * cluster_size m.header.fields ≢ l2_table m.file m.header.fields i) m.cached.tables
   pub cached : AllByRecursion
@@ -47,6 +52,11 @@ pub record NamesTable (h : Fields) (c w : ℕ) : Type 0 where
 -- the guest clusters that have their words in table i
 abbrev pub IsOfTable : Fields → ℕ → ℕ → Type 0
 IsOfTable h i guest = guest / words_of_cluster h ≡ i
+
+-- those whose words lose their marks where they are copied without
+abbrev pub LosesMark : (marks : Bool) → Fields → ℕ → ℕ → Type 0
+LosesMark true h i guest = ⊥
+LosesMark false h i guest = IsOfTable h i guest
 
 -- 1 where cluster d holds the table that word i of the L1 table names, else 0
 abbrev pub old_table : Metadata → ℕ → ℕ → ℕ

@@ -1,88 +1,39 @@
-use Rattle.std.proofs.Common.{◌≡◌, ◌∙◌, ◌*◌, ◌^◌, ℕ, refl, ap, subst, List, Ok, Some, true, inl, inr}
+use Rattle.std.proofs.Common.{◌∙◌, ◌-◌, ℕ, arith, sym, subst, List, Ok, Err}
 use Rattle.std.specs.Prelude.{replicate}
-use Rattle.qcow2_types.specs.Header.{Fields, cluster_size, layout_of}
-use Rattle.qcow2_types.specs.Words.{Layout}
-use Rattle.qcow2_metadata.specs.Tables.{TableValue, table_place}
+use Rattle.imago_storage.specs.declared.fault.Fault.{Fault}
+use Rattle.qcow2_types.specs.Header.{cluster_size}
 use Rattle.qcow2_alloc.specs.FreeList.{FreeList}
-use Rattle.qcow2_clusters.specs.declared.space.Space.{Space}
+use Rattle.qcow2_clusters.specs.MakingTables.{MakesTable, PlacesTable}
 use Rattle.qcow2_clusters.specs.Rest.{lent}
-use Rattle.qcow2_clusters.specs.Storing.{Stores}
-use Rattle.qcow2_clusters.proofs.MakingTables.{made, not-begun, not-entered, not-stored}
+use Rattle.qcow2_clusters.proofs.CopyingTables.{made, not-filled, not-made}
 use Rattle.qcow2_clusters.proofs.making_tables.make_table.Goals as goal
 
 pub returns-in-Err : goal.returns-in-Err
 returns-in-Err g c =
     let old = lent c.args.file.now c.args.caches.now c.args.space.now in
-    not-begun g.S.Storage.state c.args.l1.now c.args.index old c.in-Err.fault c.place_l1.new.l1 c.requires.rest
-    c.place_l1.ensures.same (inr (cc c.in-Err.ensures.err, c.in-Err.ensures.cause))
+    subst (λ (fault : Fault). MakesTable g.S.Storage.state c.args.l1.now c.args.index old (Err fault) c.args.l1.now old)
+    (sym c.in-Err.ensures.err) (not-filled g.S.Storage.state c.args.l1.now c.args.index old c.requires.rest)
 
-pub returns-in-Err-new_cleared : goal.returns-in-Err-new_cleared
-returns-in-Err-new_cleared g c =
-    let old = lent c.args.file.now c.args.caches.now c.args.space.now in
-    not-begun g.S.Storage.state c.args.l1.now c.args.index old c.in-Err-new_cleared.fault c.place_l1.new.l1 c.requires.rest
-    c.place_l1.ensures.same (inl c.in-Err-new_cleared.ensures.err)
-
-pub returns-in-Err-clear_content : goal.returns-in-Err-clear_content
-returns-in-Err-clear_content g c =
-    let old = lent c.args.file.now c.args.caches.now c.args.space.now in
-    not-begun g.S.Storage.state c.args.l1.now c.args.index old c.in-Err-clear_content.fault c.place_l1.new.l1 c.requires.rest
-    c.place_l1.ensures.same (inl c.in-Err-clear_content.ensures.err)
-
-pub returns-in-Err-store : goal.returns-in-Err-store
-returns-in-Err-store g c =
-    let new = c.store.new in
-    let old = lent c.args.file.now c.args.caches.now c.args.space.now in
-    not-stored g.S.Storage.state c.args.l1.now c.args.index old c.deref.result.now c.in-Err-store.fault c.place_l1.new.l1
-    (lent new.file new.caches new.space) c.place_l1.ensures.same c.in-Err-store.ensures
-
--- The table that is named begins with the cluster.
-begins : (h : Fields) (table table' : TableValue) (cluster : ℕ) → table.layout ≡ layout_of h
-    → table' ≡ record { layout = table.layout; words = table.words; cluster = Some cluster; modified = true }
-    → table_place table' ≡ cluster * cluster_size h
-begins h table table' cluster layout is = ap table_place is ∙ ap (λ (l : Layout). cluster * 2 ^ l.cluster_bits) layout
-
-pub returns-in-Ok-enter_table : goal.returns-in-Ok-enter_table
-returns-in-Ok-enter_table g c =
+pub returns-in-Ok-place_table : goal.returns-in-Ok-place_table
+returns-in-Ok-place_table g c =
     let state = g.S.Storage.state in
-    let h = c.args.file.now.header.fields in
     let old = lent c.args.file.now c.args.caches.now c.args.space.now in
-    let mid = lent c.store.new.file c.store.new.caches c.store.new.space in
-    let space : Space = record { allocator = c.store.new.space.allocator; to_free = c.release.new.self } in
-    let new = lent c.enter_table.new.file c.store.new.caches space in
-    let t = c.in-Ok-store.cluster in
-    let stored : Stores state (replicate (cluster_size h) 0) old (Ok t) mid =
-    subst (λ (l : List ℕ). Stores state l old (Ok t) mid) (c.deref.ensures.value ∙ c.in-Ok-clear_content.ensures.ok)
-    c.in-Ok-store.ensures in
-    made state c.args.l1.now c.args.index old t mid stored c.place_l1.new.l1 c.enter_table.new.l1 c.set_cluster.new.self
-    c.enter_table.result new c.place_l1.ensures.same c.in_default.ensures.place
-    (begins h c.in-Ok.table c.set_cluster.new.self t (ap (λ (table : TableValue). table.layout) c.in-Ok.ensures.ok) c.set_cluster.ensures)
-    record {
-      header = c.enter_table.ensures.header;
-      caches = refl;
-      allocator = refl;
-      entries = ap (λ (l : FreeList). l.entries) c.release.ensures;
-      held = ap (λ (l : FreeList). l.held) c.release.ensures;
-    } c.enter_table.ensures c.in-Ok-enter_table.is
+    let new = c.place_table.new in
+    let places : PlacesTable state (replicate (cluster_size c.args.file.now.header.fields) 0) c.args.l1.now c.args.index old
+    (Ok c.in-Ok-place_table.cluster) new.l1 (lent new.file new.caches new.space) =
+    subst (λ (l : List ℕ). PlacesTable state l c.args.l1.now c.args.index old (Ok c.in-Ok-place_table.cluster) new.l1
+    (lent new.file new.caches new.space)) (c.deref.ensures.value ∙ c.in-Ok.ensures.ok) c.in-Ok-place_table.ensures in
+    let more = places.held in
+    subst (λ (l : FreeList). MakesTable state c.args.l1.now c.args.index old (Ok c.in-Ok-place_table.cluster) new.l1
+    (lent new.file new.caches (record { allocator = new.space.allocator; to_free = l }))) (sym c.release.ensures)
+    (made state c.args.l1.now c.args.index old c.in-Ok-place_table.cluster new.l1 (lent new.file new.caches new.space)
+    (new.space.to_free.held - 1) (omega (arith, more)) places)
 
 pub returns : goal.returns
 returns g c =
     let state = g.S.Storage.state in
-    let h = c.args.file.now.header.fields in
     let old = lent c.args.file.now c.args.caches.now c.args.space.now in
-    let mid = lent c.store.new.file c.store.new.caches c.store.new.space in
-    let space : Space = record { allocator = c.store.new.space.allocator; to_free = c.release.new.self } in
-    let new = lent c.enter_table.new.file c.store.new.caches space in
-    let t = c.in-Ok-store.cluster in
-    let stored : Stores state (replicate (cluster_size h) 0) old (Ok t) mid =
-    subst (λ (l : List ℕ). Stores state l old (Ok t) mid) (c.deref.ensures.value ∙ c.in-Ok-clear_content.ensures.ok)
-    c.in-Ok-store.ensures in
-    not-entered state c.args.l1.now c.args.index old t mid stored c.place_l1.new.l1 c.enter_table.new.l1 c.set_cluster.new.self
-    c.enter_table.result new c.place_l1.ensures.same c.in_default.ensures.place
-    (begins h c.in-Ok.table c.set_cluster.new.self t (ap (λ (table : TableValue). table.layout) c.in-Ok.ensures.ok) c.set_cluster.ensures)
-    record {
-      header = c.enter_table.ensures.header;
-      caches = refl;
-      allocator = refl;
-      entries = ap (λ (l : FreeList). l.entries) c.release.ensures;
-      held = ap (λ (l : FreeList). l.held) c.release.ensures;
-    } c.enter_table.ensures c.in-Err-enter_table.fault c.in-Err-enter_table.is
+    let new = c.place_table.new in
+    not-made state c.args.l1.now c.args.index old c.in-Err-place_table.fault new.l1 (lent new.file new.caches new.space)
+    (subst (λ (l : List ℕ). PlacesTable state l c.args.l1.now c.args.index old (Err c.in-Err-place_table.fault) new.l1
+    (lent new.file new.caches new.space)) (c.deref.ensures.value ∙ c.in-Ok.ensures.ok) c.in-Err-place_table.ensures)
