@@ -1,6 +1,6 @@
--- What is held of a guest cluster that has no data in the file, whose host cluster has what it shows.
+-- What is held of a guest cluster that has no cluster of its own, whose host cluster has what it shows.
 use Rattle.std.proofs.Common.{◌≡◌, ◌≢◌, ◌⊎◌, inl, inr, sym, subst, ap, refl, arith, ◌∙◌, ℕ, ◌+◌, ◌-◌, ◌*◌, ◌/◌, ◌%◌, ◌<◌, ◌≤◌, ltb, leb, eqb, Bool, true, false, Option, Some, None}
-use Rattle.std.specs.Prelude.{◌&&◌, if◌then◌else◌, min}
+use Rattle.std.specs.Prelude.{◌&&◌, IsTrue, if◌then◌else◌, min}
 use Rattle.std.proofs.lemmas.Bool.{and_from, and_parts, cases_Bool, cases_lt, cases_order, eq-eqb, eqb-true, le-leb, both_ways, lt-ltb, ltb-true}
 use Rattle.std.proofs.lemmas.Nat.{div-add-mod', mod_below, pow_pos}
 use Rattle.std.proofs.Math.Nat.{mul-le-mul_right}
@@ -29,28 +29,20 @@ use Rattle.qcow2_image.specs.declared.allocating.Shown.{Shown}
 use Rattle.qcow2_image.specs.declared.allocating.Shown.TheVariants as variant
 use Rattle.qcow2_image.specs.declared.qcow2.Qcow2.{Qcow2}
 
--- A guest cluster that has no data isn't written where it is,
-pub shown-uncopied : (backing : Bool) (shown : Shown) (m : Mapping) → shown_of backing m ≡ Some shown → IsUncopied m
-shown-uncopied backing shown words.unmapped is = tt
-shown-uncopied backing shown (zeroes cluster copied) is = tt
-shown-uncopied backing shown (packed offset length) is = tt
-shown-uncopied backing shown (data_at cluster copied) is = absurd (cc is)
-shown-uncopied backing shown damaged is = absurd (cc is)
-
 some-same : (a b : Shown) → Some a ≡ Some b → a ≡ b
 some-same a b is = cc is
 
-blank-shown : (backing : Bool) → blank_of backing ≡ shown_cell (shown_blank backing)
-blank-shown true = refl
-blank-shown false = refl
+blank-shown : (backing : Bool) (f : Bytes) (h : Fields) (p : ℕ) → blank_of backing ≡ shown_cell f h p (shown_blank backing)
+blank-shown true f h p = refl
+blank-shown false f h p = refl
 
--- and each place of it says what the cluster shows.
+-- Each place of a guest cluster says what the cluster shows.
 pub shown-says : (backing : Bool) (shown : Shown) (f : Bytes) (h : Fields) (p : ℕ) (m : Mapping) → shown_of backing m ≡ Some shown
-    → cell_by (blank_of backing) f h p m ≡ shown_cell shown
-shown-says backing shown f h p words.unmapped is = blank-shown backing ∙ ap shown_cell (some-same (shown_blank backing) shown is)
-shown-says backing shown f h p (zeroes cluster copied) is = ap shown_cell (some-same variant.Zeroes shown is)
-shown-says backing shown f h p (packed offset length) is = ap shown_cell (some-same variant.Barred shown is)
-shown-says backing shown f h p (data_at cluster copied) is = absurd (cc is)
+    → cell_by (blank_of backing) f h p m ≡ shown_cell f h p shown
+shown-says backing shown f h p words.unmapped is = blank-shown backing f h p ∙ ap (shown_cell f h p) (some-same (shown_blank backing) shown is)
+shown-says backing shown f h p (zeroes cluster copied) is = ap (shown_cell f h p) (some-same variant.Zeroes shown is)
+shown-says backing shown f h p (packed offset length) is = ap (shown_cell f h p) (some-same variant.Barred shown is)
+shown-says backing shown f h p (data_at cluster copied) is = ap (shown_cell f h p) (some-same (variant.Data cluster) shown is)
 shown-says backing shown f h p damaged is = absurd (cc is)
 
 uncopied-nowhere : (h : Fields) (p : ℕ) (m : Mapping) → IsUncopied m → home_by h p m ≡ None
@@ -60,6 +52,20 @@ uncopied-nowhere h p (zeroes cluster copied) is = refl
 uncopied-nowhere h p (packed offset length) is = refl
 uncopied-nowhere h p words.unmapped is = refl
 uncopied-nowhere h p damaged is = refl
+
+nowhere-uncopied : (h : Fields) (p : ℕ) (m : Mapping) → home_by h p m ≡ None → IsUncopied m
+nowhere-uncopied h p (data_at cluster true) is = absurd (cc is)
+nowhere-uncopied h p (data_at cluster false) is = tt
+nowhere-uncopied h p (zeroes cluster copied) is = tt
+nowhere-uncopied h p (packed offset length) is = tt
+nowhere-uncopied h p words.unmapped is = tt
+nowhere-uncopied h p damaged is = tt
+
+-- A place of the disk that can't be written is in no cluster of its own, in an image that was opened for writing.
+pub homeless-uncopied : (f : Bytes) (h : Fields) (writable : Bool) (p : ℕ) → IsTrue writable → p < h.size → homes writable f h p ≡ None
+    → IsUncopied (entry f h (p / cluster_size h))
+homeless-uncopied f h writable p may low is =
+    nowhere-uncopied h p (entry f h (p / cluster_size h)) (rw (may, lt-ltb p h.size low) at is)
 
 -- Its places can be written nowhere by its word.
 pub uncopied-homeless : (writable : Bool) (f : Bytes) (h : Fields) (p : ℕ) → IsUncopied (entry f h (p / cluster_size h)) → homes writable f h p ≡ None

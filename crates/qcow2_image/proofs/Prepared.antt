@@ -44,9 +44,9 @@ use Rattle.qcow2_image.specs.Rooms.{HasCluster, HoldsIn, IsSafe, ReadsNone}
 use Rattle.qcow2_image.specs.Seen.{IsSeen, file_of, homes_of, layer_in, layer_of, memory_of}
 use Rattle.qcow2_image.specs.Unspent.{covers, holding, holding_in}
 use Rattle.qcow2_image.specs.Writing.{Since}
-use Rattle.qcow2_image.proofs.FreshRuns.{fresh-held, fresh-near, fresh-part, fresh-prepared, fresh-uncut}
+use Rattle.qcow2_image.proofs.FreshRuns.{fresh-held, fresh-near, fresh-part, fresh-prepared, fresh-uncut, homeless-uncopied}
 use Rattle.qcow2_image.proofs.Needing.{needs-shown, since-as}
-use Rattle.qcow2_image.proofs.Preparing.{part-nowhere}
+use Rattle.qcow2_image.proofs.Preparing.{part-nowhere, words-none}
 use Rattle.qcow2_image.proofs.Steps.{marks-kept}
 
 module _ (R : RattleType) (st : Ghosts R.Denot) (sd : mir.Syntax.Dict) (dd : mir.Syntax.Dict) (old middle : Qcow2 R.Denot st) where
@@ -214,8 +214,14 @@ module _ (R : RattleType) (st : Ghosts R.Denot) (sd : mir.Syntax.Dict) (dd : mir
       reserved : IsSafe st old → IsReservedFor st (asked.offset / cluster_size h') f.clusters.0 f.clusters.1 middle.tables
       reserved safe = subst (λ (n : ℕ). IsReservedFor st n f.clusters.0 f.clusters.1 middle.tables) guest (f.reserved safe)
 
+      -- its guest cluster has no cluster of its own, as its first place can't be written
+      uncopied-was : IsSafe st old → IsUncopied (entry (file_of st old.tables) h (asked.offset / cluster_size h))
+      uncopied-was safe = subst (λ (m : Bytes). IsUncopied (entry m h (asked.offset / cluster_size h))) (memory_is st old.tables)
+          (homeless-uncopied (memory_of st old.tables) h old.mode.writable asked.offset writable (omega (arith, some, inside))
+          (words-none (holding_in st old.unspent) (homes_of st old) asked.offset (nowhere safe.seen)))
+
       uncopied : IsSafe st old → IsUncopied (entry (file_of st middle.tables) h' (asked.offset / cluster_size h'))
-      uncopied safe = subst IsUncopied (ap (entry (file_of st old.tables) h) guest ∙ sym (k.words safe tt (asked.offset / cluster_size h'))) (f.uncopied safe)
+      uncopied safe = subst IsUncopied (ap (entry (file_of st old.tables) h) guest ∙ sym (k.words safe tt (asked.offset / cluster_size h'))) (uncopied-was safe)
 
       -- each place has what it shows, by the size of clusters and of the disk
       abbrev Filled : ℕ → ℕ → Layer → Type 0

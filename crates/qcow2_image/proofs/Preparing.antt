@@ -101,7 +101,7 @@ uncut-run h mapped offset asked n low inside is u unit = elim is.ends [
 ]
 
 -- Where a place has no home, it has none by its word; and it had none before, where each that there was is there.
-words-none : (hold : Option Holding) (home : ℕ → Option (ℕ × ℕ)) (p : ℕ) → homes_with hold home p ≡ None → home p ≡ None
+pub words-none : (hold : Option Holding) (home : ℕ → Option (ℕ × ℕ)) (p : ℕ) → homes_with hold home p ≡ None → home p ≡ None
 words-none None home p is = is
 words-none (Some hold) home p is = from (home p) refl is where
   from : (a : Option (ℕ × ℕ)) → home p ≡ a → home_or a (held_home hold p) ≡ None → home p ≡ None

@@ -16,14 +16,14 @@ use Rattle.imago_access.specs.Layer.{Layer, through}
 use Rattle.imago_access.specs.declared.mapping.PreparedDataMapping.{PreparedDataMapping}
 use Rattle.imago_access.specs.declared.seen.SeenBelow.{Ghosts as GhostsBelow}
 use Rattle.imago_access.proofs.Looking.{looked_under_weaker}
-use Rattle.qcow2_types.specs.Entries.{entry, l2_table}
+use Rattle.qcow2_types.specs.Entries.{l2_table}
 use Rattle.qcow2_types.specs.Header.{Fields, Header, cluster_size, words_of_cluster}
 use Rattle.qcow2_types.specs.Words.{is_copied}
 use Rattle.qcow2_metadata.specs.Places.{IsInReach}
 use Rattle.qcow2_metadata.specs.Tables.{TableValue}
 use Rattle.qcow2_image.specs.Allocating.{EnsuresTable, HasOwnTable, LoadsSpace, StoresContent, WhyNotAllocated, WhyNotReserved, failed_cut}
 use Rattle.qcow2_image.specs.Filling.{IsInFirst, IsLeft, IsNeededFor, MakesContent, NeedsShown, RefusesCopy, WhyNotCopied}
-use Rattle.qcow2_image.specs.Holding.{IsUncopied, place_in}
+use Rattle.qcow2_image.specs.Holding.{place_in}
 use Rattle.qcow2_image.specs.KeepsDisk.{KeepsDisk}
 use Rattle.qcow2_image.specs.Preparing.{HoldsFresh, IsReservedFor, KeepsMapping, LeavesMarked, PreparesFresh, Reserves, first_part}
 use Rattle.qcow2_image.specs.Rooms.{IsSafe}
@@ -228,7 +228,6 @@ module _ {S : Type 0} (g : Ghosts S) where
           clusters = clusters;
           holds = holds;
           named = (r.named.0, subst (λ (b : ℕ). IsInReach b clusters.1) bits r.named.1);
-          uncopied = m.ok.uncopied;
           reserved = λ safe. subst (λ (n : ℕ). IsReservedFor g n clusters.0 clusters.1 middle.tables) is
               (r.reserved (looked.safely safe tt));
           filled = λ safe under p first left. subst (λ (b : ℕ). IsCopied (at (u.under old.1)) (layer_of g old.0) p b) (sym (stored safe p))
@@ -257,8 +256,6 @@ module _ {S : Type 0} (g : Ghosts S) where
       clusters = f.clusters;
       holds = subst (λ (h : Fields). KeepsMapping g (first_part h asked) f.clusters middle mapping new) fields f.holds;
       named = (f.named.0, subst (λ (h : Fields). IsInReach h.cluster_bits f.clusters.1) fields f.named.1);
-      uncopied = λ safe. subst (λ (h : Fields). IsUncopied (entry (file_of g old.tables) was (asked.offset / cluster_size h))) fields
-          (subst IsUncopied (looked-on.words safe tt (asked.offset / cluster_size is)) (f.uncopied (looked-on.safely safe tt)));
       reserved = λ safe. subst (λ (h : Fields). IsReservedFor g (asked.offset / cluster_size h) f.clusters.0 f.clusters.1 middle.tables) fields
           (f.reserved (looked-on.safely safe tt));
       filled = λ safe under. subst (λ (l : Layer). (p : ℕ) → IsInFirst was asked p → IsLeft (first_part was asked) p

@@ -147,6 +147,16 @@ keeps-then-marked {S} {T} {U} g a b c v e k is = subst (KeepsImage {T = U} g a (
 })
 
 -- One that does nothing.
+pub tables-same : {S T : Type 0} (g : Ghosts S) (d : Qcow2 S g) (r : Result T Fault) → KeepsTables g d.tables r d.tables
+tables-same g d r = record {
+  kept = record { shape = refl; bytes = refl; refusals = refl; stop = refl; past = refl };
+  later = record { faults = le_refl (g.state d.tables.file.image).faults; refusals = le_refl (g.state d.tables.file.image).refusals };
+  faults = λ whole. (refl, refl);
+  header = refl;
+  space = refl;
+  seen = λ seen. seen;
+}
+
 pub keeps-same : {S : Type 0} (g : Ghosts S) (a : Qcow2 S g) → KeepsImage {T = Unit} g a (Ok tt) a
 keeps-same g a = record {
   tables = record {

@@ -1,4 +1,4 @@
--- How clusters are allocated for guest clusters that have none.
+-- How clusters are allocated for guest clusters that have none of their own.
 use Rattle.std.specs.Prelude.{◌≡◌, ◌≢◌, ⊤, ℕ, ◌+◌, ◌*◌, ◌/◌, ◌<◌, ◌==◌, Bool, true, false, not, List, slice_index, length, Option, Some, None, IsSome, Result, Ok, Err, IfOk, IfErr, OnOk, OnErr}
 use Rattle.imago_storage.specs.State.{Rose}
 use Rattle.imago_storage.specs.Calls.{Cause}
@@ -8,13 +8,14 @@ use Rattle.imago_storage.specs.declared.storage.Storage.{Ghosts}
 use Rattle.imago_storage.specs.Disk.{barred, byte}
 use Rattle.imago_access.specs.Layer.{Cell, own, unmapped}
 use Rattle.imago_access.specs.Files.{WasNotCutOff}
-use Rattle.qcow2_types.specs.Bytes.{word}
+use Rattle.qcow2_types.specs.Bytes.{Bytes, word}
 use Rattle.qcow2_types.specs.Entries.{entry, l2_table}
-use Rattle.qcow2_types.specs.Header.{cluster_size, words_of_cluster}
-use Rattle.qcow2_types.specs.Words.{Mapping, damaged, is_copied, packed, zeroes}
+use Rattle.qcow2_types.specs.Header.{Fields, cluster_size, words_of_cluster}
+use Rattle.qcow2_types.specs.Words.{Mapping, damaged, data_at, is_copied, packed, zeroes}
 use Rattle.qcow2_types.specs.Words as words
 use Rattle.qcow2_metadata.specs.Places.{IsInReach}
 use Rattle.qcow2_steps.specs.Words.{IsReserved}
+use Rattle.qcow2_image.specs.Holding.{place_in}
 use Rattle.qcow2_image.specs.KeepsDisk.{KeepsDisk}
 use Rattle.qcow2_image.specs.Looking.{WhyNotLooked}
 use Rattle.qcow2_image.specs.Rooms.{IsSafe, IsUntouched, rest_of}
@@ -37,25 +38,33 @@ abbrev pub shown_blank : Bool → Shown
 shown_blank true = shown.Below
 shown_blank false = shown.Zeroes
 
--- what a guest cluster shows that is mapped so, unless it has data: a cluster that is kept for zeroes shows nothing
+-- What a guest cluster shows that is mapped so: a cluster that is kept for zeroes shows nothing, and a damaged word tells nothing.
 abbrev pub shown_of : Bool → Mapping → Option Shown
 shown_of backing words.unmapped = Some (shown_blank backing)
 shown_of backing (zeroes cluster copied) = Some shown.Zeroes
 shown_of backing (packed offset length) = Some shown.Barred
-shown_of backing mapping = None
+shown_of backing (data_at cluster copied) = Some (shown.Data cluster)
+shown_of backing damaged = None
 
--- and what each of its places says
-abbrev pub shown_cell : Shown → Cell
-shown_cell shown.Zeroes = own (byte 0)
-shown_cell shown.Below = unmapped
-shown_cell shown.Barred = own barred
+-- and what a place of it says, over these bytes of the file
+abbrev pub shown_cell : Bytes → Fields → ℕ → Shown → Cell
+shown_cell file h p shown.Zeroes = own (byte 0)
+shown_cell file h p shown.Below = unmapped
+shown_cell file h p shown.Barred = own barred
+shown_cell file h p (shown.Data cluster) = own (byte (file (place_in h cluster p)))
+
+-- words can name the cluster whose data it shows
+abbrev pub IsShownInReach : ℕ → Shown → Type 0
+IsShownInReach cluster_bits (shown.Data cluster) = IsInReach cluster_bits cluster
+IsShownInReach cluster_bits shown = ⊤
 
 -- What it shows is told by a lookup alone.
-pub record TellsShown {S : Type 0} (g : Ghosts S) (guest : ℕ) (old : Qcow2 S g) (result : Result (Option Shown) Fault)
+pub record TellsShown {S : Type 0} (g : Ghosts S) (guest : ℕ) (old : Qcow2 S g) (result : Result Shown Fault)
     (new : Qcow2 S g) : Type 0 where
   pub keeps : KeepsImage g old result new
+  pub reach : IfOk result (IsShownInReach old.tables.file.header.fields.cluster_bits)
   pub shown : IsSeen g old.tables → IfOk result (λ is.
-      is ≡ shown_of old.mode.backing (entry (file_of g old.tables) old.tables.file.header.fields guest))
+      Some is ≡ shown_of old.mode.backing (entry (file_of g old.tables) old.tables.file.header.fields guest))
   pub cause : IfErr result (WhyNotLooked ⊤ (g.state old.tables.file.image).faults (g.state new.tables.file.image).faults)
   pub known_cause : IsSeen g old.tables → IfErr result (WhyNotLooked
       (entry (file_of g old.tables) old.tables.file.header.fields guest ≡ damaged)

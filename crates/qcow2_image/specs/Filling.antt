@@ -1,6 +1,7 @@
--- How the content of a host cluster is made for a guest cluster that has no data in the file.
-use Rattle.std.specs.Prelude.{◌≡◌, ◌⊎◌, ⊤, ℕ, ◌+◌, ◌-◌, ◌*◌, ◌/◌, ◌%◌, ◌^◌, ◌<◌, ◌≤◌, List, length, min, slice_index, Result, IfOk, IfErr, OnOk, IsErrOf, IsTrue, Vec}
+-- How the content of a host cluster is made for a guest cluster that has none of its own.
+use Rattle.std.specs.Prelude.{◌≡◌, ◌⊎◌, ⊤, ℕ, ◌+◌, ◌-◌, ◌*◌, ◌/◌, ◌%◌, ◌^◌, ◌<◌, ◌≤◌, List, length, min, slice_index, Result, IfOk, IfErr, OnOk, IsTrue, Vec}
 use Rattle.std.specs.declared.alloc.Global.{Global}
+use Rattle.imago_storage.specs.Calls.{Cause}
 use Rattle.imago_storage.specs.Disk.{Value, barred, byte, damaged_place}
 use Rattle.imago_storage.specs.Steps.{IsOut}
 use Rattle.imago_storage.specs.declared.fault.Fault.{Fault}
@@ -14,10 +15,8 @@ use Rattle.imago_access.specs.Layer.{through}
 use Rattle.imago_access.specs.Refusals.{ReadCause, SomeUnusable}
 use Rattle.imago_access.specs.Room.{IsWholeUnit}
 use Rattle.imago_access.specs.declared.seen.SeenBelow.{Ghosts as GhostsBelow}
-use Rattle.qcow2_types.specs.Entries.{entry}
 use Rattle.qcow2_types.specs.Header.{Fields, cluster_size}
 use Rattle.qcow2_image.specs.Allocating.{WhyNotReserved, shown_cell}
-use Rattle.qcow2_image.specs.Holding.{IsUncopied}
 use Rattle.qcow2_image.specs.Rooms.{IsSafe}
 use Rattle.qcow2_image.specs.Seen.{file_of, layer_of}
 use Rattle.qcow2_image.specs.Steps.{KeepsImage}
@@ -45,27 +44,32 @@ pub record CopiesPart (start end : ℕ) (asked : Asked) (part : ℕ × ℕ) : Ty
   pub none : IsTrue asked.overwrite → asked.offset ≤ start → end ≤ asked.offset + asked.length → part.0 ≡ part.1
 
 -- what the places of a guest cluster show, over the layers below
-abbrev pub shown_over : {B : Type 0} → GhostsBelow B → Shown → B → ℕ → Value
-shown_over u shown below p = through (shown_cell shown) (at (u.under below) p)
+abbrev pub shown_over : {S B : Type 0} (g : Ghosts S) → GhostsBelow B → Shown → Qcow2 S g × B → ℕ → Value
+shown_over g u shown image p =
+    through (shown_cell (file_of g image.0.tables) image.0.tables.file.header.fields p shown) (at (u.under image.1) p)
 
--- Bytes that begin at a place, zeroes at first, come to be what the places of a part show, as those of a guest cluster do.
-pub record CopiesShown {B : Type 0} (u : GhostsBelow B) (shown : Shown) (start : ℕ) (part : ℕ × ℕ) (old : List ℕ × B)
-    (result : Result Unit Fault) (new : List ℕ × B) : Type 0 where
-  pub looked : LookedUnder u (WasNotCutOff result) old.1 new.1
-  pub long : length new.0 ≡ length old.0
+-- A refusal as that of a read of the layers below, where the places from one to another show these values.
+pub record RefusesPart {B : Type 0} (u : GhostsBelow B) (value : ℕ → Value) (part : ℕ × ℕ) (old now : B) (fault : Fault) : Type 0 where
+  pub failed : ImageCause (u.files_under old) (u.files_under now) fault
+  pub cause : u.sees_under old
+      → ReadCause (u.under old) value (unit_of_chain (u.under old)) part.0 (part.1 - part.0) (u.files_under old) (u.files_under now) fault
+  pub near : u.sees_under old → part.1 ≤ 2 ^ 63 → fault ≡ RangeOverflow → ⊥
+
+-- What the places of a part show, as those of a guest cluster do, is copied to bytes of theirs; or that is refused, by the image's own file
+-- or by the layers below. Any storage's fault marks the image as failed.
+pub record CopiesShown {S B : Type 0} (g : Ghosts S) (u : GhostsBelow B) (shown : Shown) (part : ℕ × ℕ) (old : Qcow2 S g × B)
+    (result : Result Unit Fault) (new : Qcow2 S g × B) (bytes : ℕ → ℕ) : Type 0 where
+  pub below : LookedUnder u (WasNotCutOff result) old.1 new.1
+  pub keeps : KeepsImage g old.0 result new.0
   pub shows : OnOk result (u.sees_under old.1
-      → (p : ℕ) → part.0 ≤ p → p < part.1 → shown_over u shown old.1 p ≡ byte (slice_index new.0 (p - start)))
-  pub failed : IfErr result (ImageCause (u.files_under old.1) (u.files_under new.1))
-  pub cause : u.sees_under old.1 → IfErr result (ReadCause (u.under old.1) (shown_over u shown old.1) (unit_of_chain (u.under old.1))
-      part.0 (part.1 - part.0) (u.files_under old.1) (u.files_under new.1))
-  pub near : u.sees_under old.1 → part.1 ≤ 2 ^ 63 → IsErrOf result RangeOverflow → ⊥
+      → (p : ℕ) → part.0 ≤ p → p < part.1 → shown_over g u shown old p ≡ byte (bytes p))
+  pub err : IfErr result (λ e. Cause (g.state old.0.tables.file.image).faults (g.state new.0.tables.file.image).faults e
+      ⊎ RefusesPart u (shown_over g u shown old) part old.1 new.1 e)
 
 -- The content of a host cluster for a part of a guest cluster: each place has the byte that it shows, unless it is going to be written.
 pub record Fills {S B : Type 0} (g : Ghosts S) (u : GhostsBelow B) (asked : Asked) (old : Qcow2 S g × B) (content : List ℕ)
     : Type 0 where
   pub long : length content ≡ cluster_size old.0.tables.file.header.fields
-  pub uncopied : IsSafe g old.0 → let h = old.0.tables.file.header.fields in
-      IsUncopied (entry (file_of g old.0.tables) h (asked.offset / cluster_size h))
   pub shows : IsSafe g old.0 → u.sees_under old.1 → let h = old.0.tables.file.header.fields in
       (p : ℕ) → IsInFirst h asked p → IsLeft asked p
       → IsCopied (at (u.under old.1)) (layer_of g old.0) p (slice_index content (p % cluster_size h))
@@ -96,7 +100,7 @@ pub record RefusesCopy {S B : Type 0} (g : Ghosts S) (u : GhostsBelow B) (asked 
   pub failed : ImageCause (u.files_under old.1) (u.files_under now) fault
   pub cause : IsSafe g old.0 → u.sees_under old.1 → WhyNotCopied g u asked old now fault
 
--- The content is made, of what the layers below show, or that is refused: the image is left as a lookup leaves it. Any storage's fault
+-- The content is made, of what the guest cluster shows, or that is refused: the image is left as a lookup leaves it. Any storage's fault
 -- marks it as failed, also one of the layers below.
 pub record MakesContent {S B : Type 0} (g : Ghosts S) (u : GhostsBelow B) (asked : Asked) (old : Qcow2 S g × B)
     (result : Result (Vec ℕ Global) Fault) (new : Qcow2 S g × B) : Type 0 where

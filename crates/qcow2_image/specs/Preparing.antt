@@ -1,4 +1,4 @@
--- How a mapping is prepared for a guest cluster that has no host cluster.
+-- How a mapping is prepared for a guest cluster that has no host cluster of its own.
 use Rattle.std.specs.Prelude.{◌≡◌, ◌≢◌, ◌⊎◌, ⊤, ℕ, ◌+◌, ◌-◌, ◌*◌, ◌/◌, ◌%◌, ◌<◌, min, Bool, false, List, length, slice_index, Some, IsTrue, Result, Err, IfOk, IfErr}
 use Rattle.imago_storage.specs.declared.fault.Fault.{Fault}
 use Rattle.imago_storage.specs.declared.fault.Fault.TheVariants.{Memory, Storage}
@@ -9,14 +9,13 @@ use Rattle.imago_access.specs.Files.{WasNotCutOff}
 use Rattle.imago_access.specs.Going.{LookedUnder}
 use Rattle.imago_access.specs.declared.seen.SeenBelow.{Ghosts as GhostsBelow}
 use Rattle.imago_access.specs.declared.mapping.PreparedDataMapping.{PreparedDataMapping}
-use Rattle.qcow2_types.specs.Entries.{entry}
 use Rattle.qcow2_types.specs.Header.{Fields, cluster_size}
 use Rattle.qcow2_metadata.specs.Places.{IsInReach}
 use Rattle.qcow2_clusters.specs.Naming.{IsNameable}
 use Rattle.qcow2_clusters.specs.declared.space.Space.{Space}
 use Rattle.qcow2_image.specs.Allocating.{HasOwnTable, WhyNotReserved}
 use Rattle.qcow2_image.specs.Filling.{IsInFirst, IsLeft, RefusesCopy}
-use Rattle.qcow2_image.specs.Holding.{Holding, IsUncopied, place_in}
+use Rattle.qcow2_image.specs.Holding.{Holding, place_in}
 use Rattle.qcow2_image.specs.KeepsDisk.{KeepsDisk}
 use Rattle.qcow2_image.specs.Rooms.{IsSafe, rest_of}
 use Rattle.qcow2_image.specs.Seen.{file_of, layer_of}
@@ -89,15 +88,13 @@ pub record KeepsMapping {S : Type 0} (g : Ghosts S) (asked : Asked) (r : ℕ × 
 abbrev pub first_part : Fields → Asked → Asked
 first_part h asked = record asked { length = first_run h asked.offset asked.length }
 
--- The run of a range in its first guest cluster, for which nothing is allocated, is prepared in an image that has become another: what its
+-- The run of a range in its first guest cluster, which has no cluster of its own, is prepared in an image that has become another: what its
 -- places show is in the host cluster that is held for it.
 pub record HoldsFresh {S B : Type 0} (g : Ghosts S) (u : GhostsBelow B) (asked : Asked) (old : Qcow2 S g × B) (middle : Qcow2 S g)
     (mapping : PreparedDataMapping PreparedMappingState) (new : Qcow2 S g) : Type 0 where
   pub clusters : ℕ × ℕ
   pub holds : KeepsMapping g (first_part old.0.tables.file.header.fields asked) clusters middle mapping new
   pub named : (clusters.1 ≢ 0) × IsInReach old.0.tables.file.header.fields.cluster_bits clusters.1
-  pub uncopied : IsSafe g old.0 → let h = old.0.tables.file.header.fields in
-      IsUncopied (entry (file_of g old.0.tables) h (asked.offset / cluster_size h))
   pub reserved : IsSafe g old.0
       → IsReservedFor g (asked.offset / cluster_size old.0.tables.file.header.fields) clusters.0 clusters.1 middle.tables
   pub filled : IsSafe g old.0 → u.sees_under old.1 → let h = old.0.tables.file.header.fields in

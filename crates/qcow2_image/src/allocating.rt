@@ -1,8 +1,8 @@
-// Clusters are allocated for guest clusters that have none.
-ghost use Rattle.std.specs.Prelude.{◌≡◌, ◌<◌, ◌+◌, ◌*◌, ◌^◌, false, None, length, IsTrue};
+// Clusters are allocated for guest clusters that have none of their own.
+ghost use Rattle.std.specs.Prelude.{◌≡◌, ◌<◌, ◌+◌, ◌*◌, ◌^◌, ℕ, false, None, Some, length, IsTrue};
 ghost use Rattle.qcow2_types.specs.Header.{cluster_size};
-ghost use Rattle.qcow2_image.specs.Allocating.{EnsuresTable, FlushesFreed, FreesPending, LoadsSpace, StoresContent, TellsShown, failed_cut, shown_of, waits_in};
-ghost use Rattle.qcow2_metadata.specs.MappingView.{mapping_seen};
+ghost use Rattle.qcow2_image.specs.Allocating.{EnsuresTable, FlushesFreed, FreesPending, IsShownInReach, LoadsSpace, StoresContent, TellsShown, failed_cut, shown_of, waits_in};
+ghost use Rattle.qcow2_metadata.specs.MappingView.{IsNamed, mapping_seen};
 ghost use Rattle.qcow2_clusters.specs.MakingTables.{CopiesTable, MakesTable};
 ghost use Rattle.qcow2_clusters.specs.Rest.{AreEmpty, HasEntries, lent};
 
@@ -16,23 +16,25 @@ use qcow2_metadata::{L1Table, L2Mapping, Table};
 use qcow2_types::{GuestCluster, HostCluster};
 use std::alloc::Global;
 
-// What a guest cluster shows that has no data in the file: zeroes, the layers below, or what can't be read.
+// What a guest cluster shows: zeroes, the layers below, data in a cluster of the file, or what can't be read.
 #[derive(Clone, Copy)]
 pub(crate) enum Shown {
     Zeroes,
     Below,
+    Data(HostCluster),
     Barred,
 }
 
-// What a guest cluster shows that is mapped so, unless it has data.
-fn shown_through(mapping: L2Mapping, backing: bool) -> Option<Shown>
-    ensures { result ≡ shown_of backing (mapping_seen mapping) }
+// What a guest cluster shows that is mapped so.
+fn shown_through(mapping: L2Mapping, backing: bool) -> Shown
+    ensures shown { Some result ≡ shown_of backing (mapping_seen mapping) }
+    ensures reach { (cluster_bits : ℕ) → IsNamed cluster_bits mapping → IsShownInReach cluster_bits result }
 {
     match mapping {
-        L2Mapping::Backing { .. } if backing => Some(Shown::Below),
-        L2Mapping::Backing { .. } | L2Mapping::Zero { .. } => Some(Shown::Zeroes),
-        L2Mapping::Compressed { .. } => Some(Shown::Barred),
-        L2Mapping::DataFile { .. } => None,
+        L2Mapping::Backing { .. } if backing => Shown::Below,
+        L2Mapping::Backing { .. } | L2Mapping::Zero { .. } => Shown::Zeroes,
+        L2Mapping::Compressed { .. } => Shown::Barred,
+        L2Mapping::DataFile { host_cluster, .. } => Shown::Data(host_cluster),
     }
 }
 
@@ -73,8 +75,8 @@ impl<S: Storage> Qcow2<S> {
         answer
     }
 
-    // What a guest cluster shows, unless it has data.
-    pub(crate) fn shown_at(&mut self, guest: GuestCluster) -> Result<Option<Shown>, Fault>
+    // What a guest cluster shows.
+    pub(crate) fn shown_at(&mut self, guest: GuestCluster) -> Result<Shown, Fault>
         requires fits { let bits = self.old.tables.file.header.fields.cluster_bits in (guest + 1) * 2 ^ bits < 2 ^ 64 + 2 ^ bits }
         requires runs { self.old.failed ≡ false }
         ensures { TellsShown S.Storage guest self.old result self.new }

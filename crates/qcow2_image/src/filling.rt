@@ -1,15 +1,16 @@
-// The content of host clusters for guest clusters that have no data in the file: what they show, copied from the layers below where these
-// show.
-ghost use Rattle.std.specs.Prelude.{◌≡◌, ◌<◌, ◌≤◌, ◌+◌, ◌-◌, ◌%◌, false, length, replicate, IfOk, IfErr};
+// The content of host clusters for guest clusters that have none of their own: what they show, copied from the layers below where these
+// show, and from the file where other guest clusters may share their data.
+ghost use Rattle.std.specs.Prelude.{◌≡◌, ◌<◌, ◌≤◌, ◌+◌, ◌-◌, ◌%◌, ℕ, false, length, replicate, slice_index, IfOk, IfErr};
 ghost use Rattle.imago_access.specs.Changes.{asking};
 ghost use Rattle.imago_access.specs.declared.seen.SeenBelow.{Ghosts as BelowGhosts};
 ghost use Rattle.qcow2_types.specs.Header.{cluster_size};
+ghost use Rattle.qcow2_image.specs.Allocating.{IsShownInReach};
 ghost use Rattle.qcow2_image.specs.Filling.{CopiesPart, CopiesShown, MakesContent, first_places};
 
 use crate::allocating::Shown;
 use crate::qcow2::Qcow2;
 use imago_access::{ReadBelow, SeenBelow};
-use imago_storage::{Fault, Storage};
+use imago_storage::{Fault, Storage, StorageExt};
 use qcow2_types::GuestOffset;
 use std::alloc::Global;
 
@@ -37,36 +38,6 @@ fn copied_part(start: u64, end: u64, offset: u64, length: u64, overwrite: bool) 
     }
 }
 
-// Has bytes that begin at a place, zeroes so far, be what the places of a part show, as those of a guest cluster do.
-fn copy_shown<B: ReadBelow>(
-    alloc: Global,
-    below: &mut B,
-    shown: Shown,
-    content: &mut [u8],
-    start: u64,
-    part: (u64, u64),
-) -> Result<(), Fault>
-    requires low { start ≤ part.0 }
-    requires order { part.0 ≤ part.1 }
-    requires fits { part.1 - start ≤ length content.old }
-    requires zero { content.old ≡ replicate (length content.old) 0 }
-    ensures { CopiesShown B.SeenBelow shown start part (content.old, below.old) result (content.new, below.new) }
-{
-    let (first, end) = part;
-    if first == end {
-        return Ok(());
-    }
-    match shown {
-        Shown::Zeroes => Ok(()),
-        Shown::Barred => Err(Fault::Barred),
-        Shown::Below => {
-            let from = (first - start) as usize;
-            let to = (end - start) as usize;
-            below.read(alloc, &mut content[from..to], first)
-        }
-    }
-}
-
 impl<S: Storage> Qcow2<S> {
     // The places of the disk in the guest cluster of one of them: where they begin, and where they end.
     fn first_places(&self, offset: u64) -> (u64, u64)
@@ -83,8 +54,69 @@ impl<S: Storage> Qcow2<S> {
         (start, start + count)
     }
 
-    // The content of a host cluster for a part of a guest cluster that has no data in the file: what that shows. It is refused with the
-    // offset where it has some.
+    // Reads what the places of a guest cluster show, from one of them on, into zeroes. A storage's fault marks the image as failed, also
+    // one of the layers below.
+    fn read_shown<B: ReadBelow>(
+        &mut self,
+        alloc: Global,
+        below: &mut B,
+        shown: Shown,
+        buf: &mut [u8],
+        first: u64,
+    ) -> Result<(), Fault>
+        requires reach { IsShownInReach self.old.tables.file.header.fields.cluster_bits shown }
+        requires row { let c = cluster_size self.old.tables.file.header.fields in first % c + length buf.old ≤ c }
+        requires some { 0 < length buf.old }
+        requires zero { (i : ℕ) → i < length buf.old → slice_index buf.old i ≡ 0 }
+        ensures { CopiesShown S.Storage B.SeenBelow shown (first, first + length buf.old) (self.old, below.old) result (self.new, below.new)
+            (λ p. slice_index buf.new (p - first)) }
+    {
+        match shown {
+            Shown::Zeroes => Ok(()),
+            Shown::Barred => Err(Fault::Barred),
+            Shown::Below => {
+                let answer = below.read(alloc, buf, first);
+                self.settle(answer)
+            }
+            Shown::Data(cluster) => {
+                let cluster_bits = self.tables.file.header.cluster_bits();
+                let place = cluster.relative_offset(GuestOffset(first), cluster_bits).0;
+                let answer = self.tables.file.image.read(alloc, buf, place);
+                self.settle(answer)
+            }
+        }
+    }
+
+    // Has the content of a guest cluster that begins at a place, zeroes so far, be what the places of a part show.
+    fn copy_shown<B: ReadBelow>(
+        &mut self,
+        alloc: Global,
+        below: &mut B,
+        shown: Shown,
+        content: &mut [u8],
+        start: u64,
+        part: (u64, u64),
+    ) -> Result<(), Fault>
+        requires reach { IsShownInReach self.old.tables.file.header.fields.cluster_bits shown }
+        requires begins { start % cluster_size self.old.tables.file.header.fields ≡ 0 }
+        requires whole { length content.old ≡ cluster_size self.old.tables.file.header.fields }
+        requires low { start ≤ part.0 }
+        requires order { part.0 ≤ part.1 }
+        requires fits { part.1 - start ≤ length content.old }
+        requires zero { content.old ≡ replicate (length content.old) 0 }
+        ensures { CopiesShown S.Storage B.SeenBelow shown part (self.old, below.old) result (self.new, below.new)
+            (λ p. slice_index content.new (p - start)) }
+    {
+        let (first, end) = part;
+        if first == end {
+            return Ok(());
+        }
+        let from = (first - start) as usize;
+        let to = (end - start) as usize;
+        self.read_shown(alloc, below, shown, &mut content[from..to], first)
+    }
+
+    // The content of a host cluster for a part of a guest cluster that has none of its own: what that shows.
     pub(crate) fn content_for<B: ReadBelow>(
         &mut self,
         alloc: Global,
@@ -102,8 +134,7 @@ impl<S: Storage> Qcow2<S> {
         let cluster_bits = self.tables.file.header.cluster_bits();
         let guest = GuestOffset(offset).cluster(cluster_bits);
         let shown = match self.shown_at(guest) {
-            Ok(Some(shown)) => shown,
-            Ok(None) => return Err(Fault::Limit(offset)),
+            Ok(shown) => shown,
             Err(fault) => return Err(fault),
         };
         let size = self.tables.file.header.cluster_size();
@@ -113,12 +144,9 @@ impl<S: Storage> Qcow2<S> {
         };
         let (start, end) = self.first_places(offset);
         let part = copied_part(start, end, offset, length, overwrite);
-        match copy_shown(alloc, below, shown, &mut content, start, part) {
+        match self.copy_shown(alloc, below, shown, &mut content, start, part) {
             Ok(()) => Ok(content),
-            Err(fault) => {
-                self.mark(fault);
-                Err(fault)
-            }
+            Err(fault) => Err(fault),
         }
     }
 }

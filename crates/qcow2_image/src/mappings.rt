@@ -1,4 +1,4 @@
-// Mappings are prepared for guest clusters that have no host cluster.
+// Mappings are prepared for guest clusters that have no host cluster of their own.
 ghost use Rattle.std.specs.Prelude.{◌≡◌, ◌<◌, ◌≤◌, ◌+◌, ◌-◌, ◌%◌, false, None, length};
 ghost use Rattle.imago_access.specs.Changes.{asking};
 ghost use Rattle.qcow2_types.specs.Header.{cluster_size};
@@ -47,8 +47,8 @@ impl<S: Storage> Qcow2<S> {
         }
     }
 
-    // Prepares a mapping of what lies in the first guest cluster of a range, for which nothing is allocated: its host cluster is reserved,
-    // and has what is shown there. It is refused with the offset where something is allocated.
+    // Prepares a mapping of what lies in the first guest cluster of a range, which has no cluster of its own: a host cluster is reserved
+    // for it, and has what is shown there.
     pub(crate) fn prepare_fresh<B: ReadBelow>(
         &mut self,
         alloc: Global,

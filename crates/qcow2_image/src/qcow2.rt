@@ -60,11 +60,12 @@ impl PreparedMappingState {
 /// and want of memory in a change.
 ///
 /// One that was opened for writing is written where a place has data in a host cluster of its own, which its L2 entry marks as copied:
-/// bytes go there at once, and no table changes. Where a guest cluster has no data, a cluster is allocated: it is reserved, filled with
-/// what the guest cluster shows, which is copied from the layers below where they do (copy on write), then written, and named by the L2
-/// entry as the mapping is committed. What the entry named before, for zeroes or compressed, and what was reserved and is given up, waits
-/// for the next allocation or flush, which frees it. A data cluster that isn't marked as copied isn't written so far, and a compressed one
-/// only as a whole. Zeroing and discards are declined (a chain writes zeroes then, where it may), and the size stays.
+/// bytes go there at once, and no table changes. Where a guest cluster has none of its own, a cluster is allocated: it is reserved, filled
+/// with what the guest cluster shows, which is copied from the layers below where they do, or from data that isn't marked as copied, as
+/// others may share it (copy on write), then written, and named by the L2 entry as the mapping is committed. What the entry named before,
+/// for data, for zeroes or compressed, and what was reserved and is given up, waits for the next allocation or flush, which counts it down.
+/// A compressed cluster is written only as a whole. Zeroing and discards are declined (a chain writes zeroes then, where it may), and the
+/// size stays.
 #[derive(Drop)]
 pub struct Qcow2<S: Storage> {
     pub(crate) tables: Tables<S>,
