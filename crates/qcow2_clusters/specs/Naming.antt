@@ -84,7 +84,8 @@ pub record Names {S : Type 0} (state : S → StorageState) (table guest x : ℕ)
   pub held : c'.space.to_free.held ≡ c.space.to_free.held
   pub l1 : IsNameable (resting state c) table guest x → KeepsL1 state c result c'
   pub waits : IsReady state c → IsNameable (resting state c) table guest x → OnOk result (let h = c.file.header.fields in
-      c'.space.to_free.entries ≡ c.space.to_free.entries ++ listed_of (freed (allocation_of h.cluster_bits (entry (resting state c).file h guest))))
+      c'.space.to_free.entries
+      ≡ c.space.to_free.entries ++ listed_of (freed (allocation_of h.cluster_bits (entry (resting state c).file h guest))))
   pub named : IsReady state c → IsNameable (resting state c) table guest x
       → OnOk result (entry (resting state c').file c.file.header.fields guest ≡ data_at x true)
   pub bytes : IsReady state c → IsNameable (resting state c) table guest x

@@ -52,7 +52,7 @@ fn name_in_table<S: Storage>(
     }
 }
 
-// Puts what a word named on the list of clusters to free. Where there is no memory for it, it leaks.
+// Puts what a word named on the list of clusters to free. It is refused where there is no memory for it.
 fn put_off(
     to_free: &mut ClustersToFreeList,
     named: Result<Option<ClustersToFreeEntry>, Fault>,

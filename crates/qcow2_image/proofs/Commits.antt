@@ -427,7 +427,9 @@ spends-by g claim old mid u taken named tables names new is result answer bytes 
 module _ {S : Type 0} (g : Ghosts S) (table guest host : ℕ) (old new : Tables S g) (result : Result Unit Fault) (space : Space)
     (caches : MetadataCaches S) (between after : Space) (there : old.space ≡ Some space)
     (names : Names g.state table guest host (lent old.file caches space) result (lent new.file new.caches between)) (l1 : new.l1 ≡ old.l1)
-    (there' : new.space ≡ Some after) (allocator : after.allocator ≡ between.allocator) (entries : after.to_free.entries ≡ between.to_free.entries) where
+    (there' : new.space ≡ Some after) (allocator : after.allocator ≡ between.allocator)
+    (entries : after.to_free.entries ≡ between.to_free.entries)
+    (let_go : OnOk result (after.to_free.held ≡ between.to_free.held - 1)) where
   why-any : (sure : Type 0) (a b : ℕ) (fault : Fault) → WhyNotNamed sure a b fault → WhyNotNamed ⊥ a b fault
   why-any sure a b Memory why = tt
   why-any sure a b Storage why = why
@@ -454,6 +456,7 @@ module _ {S : Type 0} (g : Ghosts S) (table guest host : ℕ) (old new : Tables 
       there = there';
       allocator = allocator;
       entries = entries;
+      let_go = let_go;
     };
     cause = if-err result _ _ (why-any _ (g.state old.file.image).faults (g.state new.file.image).faults) names.cause;
   } where

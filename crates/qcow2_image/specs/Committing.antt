@@ -1,5 +1,5 @@
 -- How a prepared mapping is committed or given up.
-use Rattle.std.specs.Prelude.{◌≡◌, ◌≢◌, ◌⊎◌, ◌∷◌, [], ◌++◌, ◌<◌, ◌-◌, ℕ, Bool, false, true, Option, Some, None, Result, Ok, Err, IfErr, EachIndex, slice_index}
+use Rattle.std.specs.Prelude.{◌≡◌, ◌≢◌, ◌⊎◌, ◌∷◌, [], ◌++◌, ◌<◌, ◌-◌, ℕ, Bool, false, true, Option, Some, None, Result, Ok, Err, OnOk, IfErr, EachIndex, slice_index}
 use Rattle.imago_storage.specs.Calls.{IsFaultless, Later}
 use Rattle.imago_storage.specs.declared.fault.Fault.{Fault}
 use Rattle.imago_storage.specs.declared.storage.Storage.{Ghosts}
@@ -26,7 +26,8 @@ TakesUnspent g claim old (Some u) new = (u.claim ≡ claim) × (old.unspent ≡ 
 abbrev pub IsNamable : (cluster_bits cluster : ℕ) → Type 0
 IsNamable cluster_bits cluster = (0 < cluster) × IsInReach cluster_bits cluster
 
--- What naming a cluster did to the free space, by what it is then: but for room that isn't held any more that is it.
+-- What naming a cluster did to the free space, by what it is then: but for the room for an entry, which isn't held any more where the
+-- cluster is named, that is it.
 pub record NamesWith {S : Type 0} (g : Ghosts S) (table guest host : ℕ) (old : Tables S g) (space : Space) (result : Result Unit Fault)
     (new : Tables S g) : Type 0 where
   pub caches : MetadataCaches S
@@ -36,6 +37,7 @@ pub record NamesWith {S : Type 0} (g : Ghosts S) (table guest host : ℕ) (old :
   pub there : new.space ≡ Some after
   pub allocator : after.allocator ≡ between.allocator
   pub entries : after.to_free.entries ≡ between.to_free.entries
+  pub let_go : OnOk result (after.to_free.held ≡ between.to_free.held - 1)
 
 -- A guest cluster comes to name a host cluster, as far as that may be done: where free space is known, and words can name it.
 pub record NamesHost {S : Type 0} (g : Ghosts S) (table guest host : ℕ) (old : Tables S g) (result : Result Unit Fault) (new : Tables S g)

@@ -9,8 +9,9 @@ use Rattle.qcow2_metadata.specs.Places.{IsInReach}
 use Rattle.qcow2_alloc.specs.Quiet.{Metadata}
 use Rattle.qcow2_clusters.specs.Naming.{IsNameable}
 
--- The mapping with this claim: its run in bytes, and where that is in the file; its guest cluster and the cluster of the L2 table over that,
--- the host cluster, whether all of the run is going to be written, the file as it was when all was copied, and what was written since.
+-- The mapping with this claim: its run in bytes, and where that is in the file; its guest cluster and the cluster of the L2 table over
+-- that, the host cluster, whether all of the run is going to be written, the file as it was when all was copied, and what was written
+-- since.
 pub record Holding : Type 0 where
   pub claim : ℕ
   pub offset : ℕ

@@ -70,11 +70,12 @@ held_run g asked r d claim written = let h = d.tables.file.header.fields in reco
   written = written;
 }
 
--- What was reserved is kept as the mapping that is prepared, to which nothing was written yet.
+-- What was reserved is kept as the mapping that is prepared, with another claim than the last one, and nothing was written to it yet.
 pub record KeepsMapping {S : Type 0} (g : Ghosts S) (asked : Asked) (r : ℕ × ℕ) (old : Qcow2 S g)
     (mapping : PreparedDataMapping PreparedMappingState) (new : Qcow2 S g) : Type 0 where
   pub unspent : Unspent S g
   pub now : new ≡ record old { claims = unspent.claim; unspent = Some unspent }
+  pub anew : unspent.claim ≢ old.claims
   pub holds : holding g unspent ≡ held_run g asked r old unspent.claim (covers unspent.written)
   pub unwritten : (p : ℕ) → covers unspent.written p ≡ false
   pub answer : mapping ≡ record {

@@ -121,7 +121,8 @@ pub record Sees {S : Type 0} (g : Ghosts S) (d : Qcow2 S g) : Type 0 where
   pub sure : IsUntouched g d ⊎ WasSafe g d
 
 -- its file is sound, and not shorter than the disk
-pub covered : {S : Type 0} (g : Ghosts S) (d : Qcow2 S g) → IsSafe g d → IsCovered (layer_of g d) is_sound (g.state d.tables.file.image).bytes
+pub covered : {S : Type 0} (g : Ghosts S) (d : Qcow2 S g) → IsSafe g d
+    → IsCovered (layer_of g d) is_sound (g.state d.tables.file.image).bytes
 covered g d safe = record {
   is_sound = (d.tables.file.header, safe.consistent);
   size = subst (λ r. d.tables.file.header.fields.size ≤ (meaning_of (blank_of d.mode.backing) (file_of g d.tables) r).size)

@@ -52,7 +52,8 @@ fn load_anew<S: Storage>(
     ensures loads { IfOk result (λ r. header_of false (file (S.state image.old)) ≡ Ok r.0) }
     ensures inside { IfOk result (λ r. has_external_data r.0.fields ≡ false) }
     ensures l1 { IfOk result (λ r. IsL1Of (file (S.state image.old)) r.0.fields r.1) }
-    ensures err { IfErr result (WhyNotReloaded (file (S.state image.old)) opened.now (S.state image.old).faults (S.state image.new).faults) }
+    ensures err { let f = file (S.state image.old) in
+        IfErr result (WhyNotReloaded f opened.now (S.state image.old).faults (S.state image.new).faults) }
     ensures known { header_of false (file (S.state image.old)) ≡ Ok opened.now → header_for false (file (S.state image.old)) ≡ Ok opened.now
         → IfErr result (Cause (S.state image.old).faults (S.state image.new).faults) }
     ensures same { OnOk result (S.state image.new ≡ S.state image.old) }

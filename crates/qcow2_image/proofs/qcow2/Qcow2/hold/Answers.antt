@@ -1,9 +1,15 @@
-use Rattle.std.proofs.Common.{◌≡◌, ℕ, ◌+◌, ◌*◌, ◌/◌, ◌%◌, ◌^◌, ap, refl, ◌∙◌, Some}
+use Rattle.std.proofs.Common.{◌≡◌, ℕ, ◌+◌, ◌*◌, ◌/◌, ◌%◌, ◌^◌, ap, refl, arith, ◌∙◌, Some}
+use Rattle.std.proofs.Math.Nat.{div-add-mod}
+use Rattle.std.proofs.lemmas.Nat.{mod_below}
 use Rattle.qcow2_types.specs.Bytes.{bytes_of}
 use Rattle.qcow2_types.specs.Header.{cluster_size}
 use Rattle.qcow2_image.specs.Holding.{place_in}
 use Rattle.qcow2_image.specs.Unspent.{covers}
 use Rattle.qcow2_image.proofs.qcow2.Qcow2.hold.Goals as goal
+
+-- The next number in 64 bits is another.
+another : (n : ℕ) → (n + 1) % 18446744073709551616 ≡ n → ⊥
+another n same = Prim.omega (arith, same, mod_below (n + 1) 18446744073709551616, div-add-mod (n + 1) 18446744073709551616)
 
 pub returns : goal.returns
 returns g c =
@@ -26,6 +32,7 @@ returns g c =
         near = _;
       };
       now = refl;
+      anew = λ same. another c.args.self.now.claims same;
       holds = λ i. record {
         claim = (c.args.self.now.claims + 1) % 18446744073709551616;
         offset = c.args.offset;
