@@ -4,7 +4,7 @@ use crate::images::probe;
 use crate::layers::{Disk, add, counts, image_of};
 use crate::openings;
 use crate::prefixes::{Looked, prefixes};
-use crate::scripts::Scripted;
+use crate::scripts::{Scripted, run_fault_told};
 use access_calls::{called, cancel, commit, done, prepare, prepared, run_of};
 use cases::{Layer, Notes, Trouble, bytes, joined, number, ok, size, told};
 use imago_access::PreparedDataMapping;
@@ -272,9 +272,11 @@ impl<'a> Layer for Chains<'a> {
             ["layer", rest @ ..] => self.add(alloc, rest),
             ["chain", rest @ ..] => self.open_chain(alloc, rest),
             ["in_memory", rest @ ..] => self.open_in_memory(alloc, rest),
-            ["script" | "script_bytes" | "script_count" | "saved", ..] => self.scripted(
-                alloc, words,
-            ),
+            [
+                "script" | "script_bytes" | "script_count" | "script_in" | "saved",
+                ..
+            ] => { self.scripted(alloc, words) }
+            ["run_fault", name] => run_fault_told(alloc, name),
             ["close"] => {
                 put(&mut self.disk, None);
                 Ok(ok(alloc)?)

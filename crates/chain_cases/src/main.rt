@@ -36,6 +36,8 @@
 //! - `script LINE [; LINE] ..`: the lines that answer these, with `/` behind each, and `too many` where there were more than a script may
 //!   have. `script_bytes BYTES`: the same of a script of these bytes; `script_count BYTES` tells how many lines and bytes these
 //!   answers have. Where a line is answered with `error 20` the script is, too.
+//! - `script_in ROOM LINE [; LINE] ..`: how the script ends where its answers go to a writer with room for so many bytes. `run_fault NAME`:
+//!   the text of why one ended early: `read`, `write`, `lines` or `memory`.
 //! - `saved`: how many bytes the last script saved, or `none`; `saved OFFSET N`: these of them.
 #![tactic(auto)]
 

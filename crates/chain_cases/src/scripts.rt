@@ -4,12 +4,11 @@ ghost use Rattle.imago_access.specs.Layer.{IsFree};
 
 use crate::files::NamedFiles;
 use crate::openings::open;
-use cases::{Trouble, bytes, joined, number, runs};
+use cases::{Trouble, bytes, joined, number, ok, runs, size};
 use imago_access::{FormatAccess, FormatDriverInstance};
 use imago_storage::{Fault, MemStorage};
 use qimg_chain::chain::{ImageDriver, NamesFiles};
-use qimg_chain::run::run;
-use qimg_core::first::RunFault;
+use qimg_chain::run::{RunFault, run};
 use std::alloc::Global;
 
 /// A chain over copies of the case's files, of which scripts are run, and what the last of them saved.
@@ -38,6 +37,21 @@ fn written<D: FormatDriverInstance<Storage = MemStorage> + NamesFiles>(
     let mut text = Vec::new(alloc);
     let ended = run(alloc, script, &mut text, chain);
     Ok((text, ended))
+}
+
+// What a script saves or why it ended early, where its writer has room for so many bytes.
+fn ended_in<D: FormatDriverInstance<Storage = MemStorage> + NamesFiles>(
+    alloc: Global,
+    chain: &mut FormatAccess<D>,
+    room: usize,
+    script: &[u8],
+) -> Result<Result<Option<Vec<u8>>, RunFault>, Trouble> {
+    if !is_free(chain) {
+        return Err(Trouble::NoCall);
+    }
+    let mut space = vec![in alloc; 0u8; room]?;
+    let mut writer = space.as_mut_slice();
+    Ok(run(alloc, script, &mut writer, chain))
 }
 
 // A script of these words, with a blank between each and the next: the word `;` ends a line.
@@ -83,13 +97,29 @@ fn counted_lines(alloc: Global, written: &[u8]) -> Result<String, Trouble> {
     Ok(format!(in alloc; "{lines} lines {bytes} bytes")?)
 }
 
-// Why a script ended early. The writer of these scripts fails for want of memory alone.
+// Why a script ended early whose writer fails for want of memory alone.
 fn early_end(fault: RunFault) -> Result<&'static str, Trouble> {
     match fault {
         RunFault::Lines => Ok("too many"),
         RunFault::Read => Ok("the reader failed"),
         RunFault::Write | RunFault::Memory => Err(Trouble::Refused(Fault::Memory)),
     }
+}
+
+/// The text of why a script ended early.
+///
+/// # Errors
+///
+/// `Trouble::NoCall` where nothing has this name; `Trouble::Refused` for want of memory.
+pub fn run_fault_told(alloc: Global, name: &str) -> Result<String, Trouble> {
+    let fault = match name {
+        "read" => RunFault::Read,
+        "write" => RunFault::Write,
+        "lines" => RunFault::Lines,
+        "memory" => RunFault::Memory,
+        _ => return Err(Trouble::NoCall),
+    };
+    Ok(fault.to_string(alloc)?)
 }
 
 impl Scripted {
@@ -145,6 +175,18 @@ impl Scripted {
         Ok(told)
     }
 
+    // How a script ends whose writer has room for so many bytes.
+    fn ended_in(&mut self, alloc: Global, room: usize, script: &[u8]) -> Result<String, Trouble> {
+        match ended_in(alloc, &mut self.chain, room, script)? {
+            Ok(saved) => {
+                self.saved = saved;
+                Ok(ok(alloc)?)
+            }
+            Err(RunFault::Write) => Ok("the writer failed".to_string(alloc)?),
+            Err(fault) => Ok(early_end(fault)?.to_string(alloc)?),
+        }
+    }
+
     // How long the bytes are that the last script saved, if it did.
     fn saved_length(&self, alloc: Global) -> Result<String, Trouble> {
         match &self.saved {
@@ -183,6 +225,10 @@ impl Scripted {
             ["script_count", words @ ..] => {
                 let script = bytes(alloc, words)?;
                 self.count(alloc, &script)
+            }
+            ["script_in", room, words @ ..] => {
+                let script = script_of(alloc, words)?;
+                self.ended_in(alloc, size(room)?, script.as_bytes())
             }
             ["saved"] => self.saved_length(alloc),
             ["saved", offset, n] => self.saved_range(alloc, number(offset)?, number(n)?),

@@ -71,17 +71,15 @@ impl<'a> Images<'a> {
     ///     align N                                the four alignments of storages
     ///     fuse N                                 the call of a storage that fails
     ///     fixed                                  storages' lengths can't be set
-    ///     forget                                 what storages were asked is told and counted from here on
     ///
     /// # Errors
     ///
-    /// `Trouble::NoCall` where the words are none of these, or a disk is open; `Trouble::Refused` for want of memory.
+    /// `Trouble::NoCall` where the words are none of these; `Trouble::Refused` for want of memory.
     pub fn change(&mut self, alloc: Global, name: &str, words: &[&str]) -> Result<String, Trouble> {
         match (name, words) {
             ("align", [alignment]) => self.setting.alignment = size(alignment)?,
             ("fuse", [nth]) => self.setting.fuse = number(nth)?,
             ("fixed", []) => self.setting.is_fixed = true,
-            ("forget", []) => self.noted.forget(),
             _ => {
                 let mut file = self.take_file(alloc)?;
                 put_in(&mut file, alloc, name, words)?;

@@ -1,8 +1,7 @@
 // The values of a case, and the words of its lines.
-use crate::kept::{Counts, Image, Noted, Setting};
+use crate::kept::{Image, Noted, Setting};
 use cases::{Layer, Notes, Trouble};
 use imago_storage::{Fault, MemStorage};
-use qimg_core::first::Disk;
 use std::alloc::Global;
 use std::cell::Cell;
 
@@ -13,40 +12,32 @@ const USUAL: Setting = Setting {
     is_fixed: false,
 };
 
-/// A file, the storage that was last made over it, or the disk that is open over it.
+/// A file, or the storage that was last made over it.
 #[derive(Drop)]
 pub struct Images<'a> {
     pub noted: Noted<'a>,
     pub setting: Setting,
     pub file: Option<MemStorage>,
     pub kept: Option<Image<'a>>,
-    pub disk: Option<Disk<Image<'a>>>,
-    /// Whether a call of the disk was refused by its storage.
-    pub is_faulted: bool,
 }
 
 impl<'a> Images<'a> {
-    /// No file. Storages note what they are asked in these cells.
-    pub fn new(notes: &'a Cell<Notes>, counts: &'a Cell<Counts>) -> Self {
+    /// No file. Storages note what they are asked in these cells, and how often.
+    pub fn new(notes: &'a Cell<Notes>, calls: &'a Cell<u64>) -> Self {
         Images {
-            noted: Noted { notes, counts },
+            noted: Noted { notes, calls },
             setting: USUAL,
             file: None,
             kept: None,
-            disk: None,
-            is_faulted: false,
         }
     }
 
-    /// Takes the file out, empty where there is none, of which no disk is open.
+    /// Takes the file out, empty where there is none.
     ///
     /// # Errors
     ///
-    /// `Trouble::NoCall` where a disk is open; `Trouble::Refused` for want of memory.
+    /// `Trouble::Refused` for want of memory.
     pub fn take_file(&mut self, alloc: Global) -> Result<MemStorage, Trouble> {
-        if self.disk.is_some() {
-            return Err(Trouble::NoCall);
-        }
         if let Some(mut kept) = self.kept.take() {
             return Ok(MemStorage::from_bytes(kept.bytes()?)?);
         }
@@ -72,8 +63,6 @@ impl<'a> Layer for Images<'a> {
         self.setting = USUAL;
         self.file = None;
         self.kept = None;
-        self.disk = None;
-        self.is_faulted = false;
     }
 
     fn answer(&mut self, alloc: Global, words: &[&str]) -> Result<String, Trouble> {
@@ -91,21 +80,10 @@ impl<'a> Layer for Images<'a> {
             | "cut"
             | "align"
             | "fuse"
-            | "fixed"
-            | "forget" => self.change(alloc, name, behind),
-            "check"
-            | "plain"
-            | "stops"
-            | "bytes"
-            | "length"
-            | "changes"
-            | "change"
-            | "calls"
-            | "flushes"
-            | "syncs"
-            | "asked"
-            | "finding" => self.look(alloc, name, behind),
-            _ => self.call(alloc, words),
+            | "fixed" => self.change(alloc, name, behind),
+            "check" | "plain" | "bytes" | "length" | "changes" | "change" | "calls" | "finding" =>
+                self.look(alloc, name, behind),
+            _ => self.make(alloc, words),
         }
     }
 }

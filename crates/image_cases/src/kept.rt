@@ -19,44 +19,18 @@ pub struct Setting {
     pub is_fixed: bool,
 }
 
-/// How often a storage was called, refused calls counted, too.
-#[derive(Clone, Copy)]
-pub struct Counts {
-    /// Calls of any kind.
-    pub calls: u64,
-    pub flushes: u64,
-    pub syncs: u64,
-}
-
-impl Counts {
-    /// No calls.
-    pub const NONE: Counts = Counts {
-        calls: 0,
-        flushes: 0,
-        syncs: 0,
-    };
-}
-
-/// Where storages note what they are asked.
+/// Where storages note what they are asked, and how often they were called, refused calls counted, too.
 #[derive(Clone, Copy)]
 pub struct Noted<'a> {
     pub notes: &'a Cell<Notes>,
-    pub counts: &'a Cell<Counts>,
-}
-
-impl<'a> Noted<'a> {
-    /// Forgets what storages were asked.
-    pub fn forget(&self) {
-        self.notes.set(Notes::none());
-        self.counts.set(Counts::NONE);
-    }
+    pub calls: &'a Cell<u64>,
 }
 
 /// A storage with a log, which counts its calls, and whose length may be fixed.
 #[derive(Drop)]
 pub struct Kept<'a, S> {
     below: LogStorage<S>,
-    counts: &'a Cell<Counts>,
+    calls: &'a Cell<u64>,
     is_fixed: bool,
 }
 
@@ -90,10 +64,10 @@ impl<'a> Kept<'a, FuseStorage<Shaped<'a>>> {
             n => n.saturating_add(copied),
         };
         let below = LogStorage::new(alloc, FuseStorage::new(shaped, nth))?;
-        noted.forget();
+        noted.calls.set(0);
         Ok(Kept {
             below,
-            counts: noted.counts,
+            calls: noted.calls,
             is_fixed: setting.is_fixed,
         })
     }
@@ -105,33 +79,19 @@ impl<'a, S: Storage> Kept<'a, S> {
         self.below.requests()
     }
 
-    /// The file after the first `k` changes, or after all where they are fewer.
-    ///
-    /// # Errors
-    ///
-    /// `Fault::Memory`.
-    pub fn stop_at(&mut self, k: usize) -> Result<Vec<u8>, Fault> {
-        let last = self.below.requests().len();
-        self.below.stop_at(k.min(last))
-    }
-
     /// The bytes.
     ///
     /// # Errors
     ///
     /// `Fault::Memory`.
     pub fn bytes(&mut self) -> Result<Vec<u8>, Fault> {
-        self.stop_at(usize::MAX)
+        let last = self.below.requests().len();
+        self.below.stop_at(last)
     }
 
-    // Counts a call, and whether it is a flush or a sync.
-    fn note(&self, flushes: u64, syncs: u64) {
-        let counts = self.counts.get();
-        self.counts.set(Counts {
-            calls: counts.calls.saturating_add(1),
-            flushes: counts.flushes.saturating_add(flushes),
-            syncs: counts.syncs.saturating_add(syncs),
-        });
+    // Counts a call.
+    fn note(&self) {
+        self.calls.set(self.calls.get().saturating_add(1));
     }
 }
 
@@ -165,32 +125,32 @@ impl<'a, S: Storage> Storage for Kept<'a, S> {
     }
 
     fn pure_read(&mut self, buf: &mut [u8], offset: u64) -> Result<(), Fault> {
-        self.note(0, 0);
+        self.note();
         self.below.pure_read(buf, offset)
     }
 
     fn pure_write(&mut self, data: &[u8], offset: u64) -> Result<(), Fault> {
-        self.note(0, 0);
+        self.note();
         self.below.pure_write(data, offset)
     }
 
     fn pure_write_zeroes(&mut self, offset: u64, length: u64) -> Result<(), Fault> {
-        self.note(0, 0);
+        self.note();
         self.below.pure_write_zeroes(offset, length)
     }
 
     fn pure_write_allocated_zeroes(&mut self, offset: u64, length: u64) -> Result<(), Fault> {
-        self.note(0, 0);
+        self.note();
         self.below.pure_write_allocated_zeroes(offset, length)
     }
 
     fn pure_discard(&mut self, offset: u64, length: u64) -> Result<(), Fault> {
-        self.note(0, 0);
+        self.note();
         self.below.pure_discard(offset, length)
     }
 
     fn resize(&mut self, size: u64, mode: PreallocateMode) -> Result<(), Fault> {
-        self.note(0, 0);
+        self.note();
         if self.is_fixed {
             return Err(Fault::Unsupported);
         }
@@ -198,12 +158,12 @@ impl<'a, S: Storage> Storage for Kept<'a, S> {
     }
 
     fn flush(&mut self) -> Result<(), Fault> {
-        self.note(1, 0);
+        self.note();
         self.below.flush()
     }
 
     fn sync(&mut self) -> Result<(), Fault> {
-        self.note(0, 1);
+        self.note();
         self.below.sync()
     }
 

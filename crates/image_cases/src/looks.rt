@@ -2,9 +2,9 @@
 use crate::findings;
 use crate::images::{Images, refused};
 use crate::kept::Image;
-use cases::{Trouble, number, runs, size, told};
+use cases::{Trouble, number, runs, size};
 use imago_access::Format;
-use imago_storage::{MemStorage, Request, Storage, StorageExt};
+use imago_storage::{Request, Storage, StorageExt};
 use qimg_core::check::check;
 use qimg_core::plain::{ChainFile, plain_read};
 use std::alloc::{AllocError, Global};
@@ -29,22 +29,6 @@ fn nth_change(alloc: Global, requests: &[Request], nth: usize) -> Result<String,
     let index = nth.checked_sub(1).ok_or(Trouble::NoCall)?;
     let request = requests.get(index).ok_or(Trouble::NoCall)?;
     Ok(change_told(alloc, request)?)
-}
-
-// How many stops pass the checker, or what it finds in the first that doesn't.
-fn stops_told(alloc: Global, kept: &mut Image<'_>) -> Result<String, Trouble> {
-    let last = kept.requests().len();
-    for stop in 0..=last {
-        let mut file = MemStorage::from_bytes(kept.stop_at(stop)?)?;
-        let answer = check(alloc, &mut file);
-        if answer.is_err() {
-            let found = findings::told(alloc, answer)?;
-            return Ok(format!(in alloc; "stop {stop}: {found}")?);
-        }
-    }
-    let last = last as u64;
-    let count = last.saturating_add(1);
-    Ok(format!(in alloc; "{count} pass")?)
 }
 
 // The format of a file of a chain.
@@ -108,12 +92,11 @@ impl<'a> Images<'a> {
     }
 
     // What the storage that was last made tells of itself.
-    fn kept_told(&mut self, alloc: Global, name: &str, words: &[&str]) -> Result<String, Trouble> {
-        let Some(kept) = &mut self.kept else {
+    fn kept_told(&self, alloc: Global, name: &str, words: &[&str]) -> Result<String, Trouble> {
+        let Some(kept) = &self.kept else {
             return Err(Trouble::NoCall);
         };
         match (name, words) {
-            ("stops", []) => stops_told(alloc, kept),
             ("changes", []) => Ok(kept.requests().len().to_string(alloc)?),
             ("change", [nth]) => nth_change(alloc, kept.requests(), size(nth)?),
             _ => Err(Trouble::NoCall),
@@ -128,14 +111,12 @@ impl<'a> Images<'a> {
     ///     length                           the file's length
     ///     changes                          how many changes of the storage there were that was last made
     ///     change N                         one of them, from 1 on
-    ///     stops                            how many files that a stop between them leaves the checker passes
-    ///     calls, flushes, syncs            how often it was called at all, and for these
-    ///     asked                            what it was asked since this was last told
+    ///     calls                            how often it was called
     ///     finding NAME                     the text of an answer of the checker
     ///
     /// # Errors
     ///
-    /// `Trouble::NoCall` where the words are none of these, or a disk is open; `Trouble::Refused` as the call, or for want of memory.
+    /// `Trouble::NoCall` where the words are none of these; `Trouble::Refused` as the call, or for want of memory.
     pub fn look(&mut self, alloc: Global, name: &str, words: &[&str]) -> Result<String, Trouble> {
         match (name, words) {
             ("check", []) => self.checked(alloc),
@@ -157,10 +138,7 @@ impl<'a> Images<'a> {
                 self.file = Some(file);
                 Ok(length.to_string(alloc)?)
             }
-            ("calls", []) => Ok(self.noted.counts.get().calls.to_string(alloc)?),
-            ("flushes", []) => Ok(self.noted.counts.get().flushes.to_string(alloc)?),
-            ("syncs", []) => Ok(self.noted.counts.get().syncs.to_string(alloc)?),
-            ("asked", []) => Ok(told(alloc, self.noted.notes)?),
+            ("calls", []) => Ok(self.noted.calls.get().to_string(alloc)?),
             ("finding", [name]) => findings::text_of(alloc, name),
             _ => self.kept_told(alloc, name, words),
         }

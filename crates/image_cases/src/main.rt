@@ -1,4 +1,4 @@
-//! Cases of the checker, the plain reader and the first disk, over images that scripts describe.
+//! Cases of the checker, the plain reader and the making of images, over images that scripts describe.
 //!
 //! A case begins with an empty file. A VALUE is a number, `copied`, `compressed`, `zero` or `greatest` (the marks and the greatest offset
 //! of words of tables), `A<<B`, or a sum of these, as `copied+0xa00`.
@@ -8,11 +8,11 @@
 //! - `header NAME=VALUE ..`: a header of version 3 with clusters of 512 bytes and counters of 16 bits, for a disk of 65,536 bytes, its
 //!   refcount table in cluster 1 and its L1 table in cluster 3, but for these fields. `small NAME=VALUE ..`: the same with a block in
 //!   cluster 2, which counts clusters 0 to 6 once, an L2 table in cluster 4, and data in clusters 5 and 6. `field NAME=VALUE ..`.
-//! - `worked`: the file is a new image of 65,536 bytes into which 01 02 03 was written at 510.
+//! - `create BYTES`: the file is a new image of a disk of so many bytes, as `create` makes it over the one that it was. `worked`: one of
+//!   65,536 bytes that shows 01 02 03 at 510, with an L2 table in cluster 4, and data in clusters 5 and 6.
 //! - `word PLACE VALUE ..`; `row PLACE COUNT FIRST STEP`: so many words, each more than the one before; `put PLACE BYTES`; `count WIDTH
 //!   BLOCK INDEX COUNT [TIMES]`: a counter of the block at a place, or so many; `cut LENGTH`.
-//! - How storages are made of it: `align N`, `fuse N` (its Nth call fails), `fixed` (no resizes). `forget`: what they were asked is told
-//!   and counted from here on.
+//! - How storages are made of it: `align N`, `fuse N` (its Nth call fails), `fixed` (no resizes).
 //!
 //! # Looks
 //!
@@ -20,21 +20,11 @@
 //! - `plain OFFSET LENGTH [FORMAT ..]`: bytes by a plain read, of one qcow2 file or a chain of `qcow2`, `raw` and `vmdk` ones; `none` is a
 //!   chain of no file.
 //! - `bytes OFFSET LENGTH`, `length` of the file.
-//! - Of the storage that was last made: `calls`, `flushes`, `syncs`, how many; `asked`, which; `changes`, `change N`, as `write OFFSET
-//!   LENGTH`; `stops`: how many files that a stop leaves the checker passes.
-//!
-//! # The first disk
-//!
-//! - `create BYTES`, `open`, `close`; `read OFFSET LENGTH`, `write OFFSET BYTES`, `flush`, `size`, `failed`, each `closed` where none is
-//!   open.
-//! - `write_again OFFSET BYTES`: once more where memory was wanting before the storage was asked. `faulted CALL`: the call where the
-//!   storage refused an earlier one, and else `no fault`.
-//! - `serve CALL ; CALL ..`: a list of calls over the file; the answers stand apart by `;`.
-//! - `run`, `run_in ROOM`: what the program writes, to a writer of so many bytes; `run_fault NAME`.
+//! - Of the storage that was last made: `calls`, how many; `changes`, how many of them changed it; `change N`, as `write OFFSET LENGTH`.
 #![tactic(auto)]
 
-mod calls;
 mod changes;
+mod creation;
 mod files;
 mod findings;
 mod images;
@@ -44,13 +34,12 @@ mod values;
 
 use cases::{Notes, run};
 use images::Images;
-use kept::Counts;
 use std::cell::Cell;
 use std::process::ExitCode;
 
 fn main(rt: HostRuntime) -> ExitCode {
     let notes = Cell::new(Notes::none());
-    let counts = Cell::new(Counts::NONE);
-    let mut images = Images::new(&notes, &counts);
+    let calls = Cell::new(0);
+    let mut images = Images::new(&notes, &calls);
     run(&rt, &mut images)
 }

@@ -3,7 +3,6 @@ ghost use Rattle.std.specs.Prelude.{◌≡◌, Result, Ok, Err};
 
 use imago_storage::Fault;
 use qimg_chain::run::ScriptFault;
-use qimg_core::first::RunFault;
 use std::alloc::{AllocError, AllocFailed};
 use std::{fmt, io};
 
@@ -42,12 +41,6 @@ impl From<AllocError> for Failure {
 
 impl<T: Drop> From<AllocFailed<T>> for Failure {
     fn from(_: AllocFailed<T>) -> Self {
-        Failure::InputOutput
-    }
-}
-
-impl From<RunFault> for Failure {
-    fn from(_: RunFault) -> Self {
         Failure::InputOutput
     }
 }

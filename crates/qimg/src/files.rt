@@ -1,8 +1,21 @@
-// The files of a chain, which are read whole, and the one that takes the top's place.
+// The files of a chain, which are read whole or made in memory, and the one that takes the top's place.
+ghost use Rattle.std.specs.Prelude.{◌≡◌, ℕ, ◌∷◌, [], IfOk};
+ghost use Rattle.imago_access.specs.declared.format.Format.TheVariants.{Qcow2};
+ghost use Rattle.imago_storage.specs.Disk.{byte};
+ghost use Rattle.imago_storage.specs.MemStorage.{mem_state};
+ghost use Rattle.imago_storage.specs.declared.memory.MemStorage.{MemStorage};
+ghost use Rattle.qcow2_types.specs.Consistency.{IsConsistent};
+ghost use Rattle.qimg_core.specs.Created.{new_header};
+ghost use Rattle.qimg_core.specs.Files.{file, value_at};
+ghost use Rattle.qimg_core.specs.declared.plain.ChainFile.{ChainFile};
+
 use crate::failure::Failure;
+use imago_access::Format;
 use imago_storage::MemStorage;
 use qimg_chain::arguments::LayerArgument;
+use qimg_core::creation::create;
 use qimg_core::plain::ChainFile;
+use std::alloc::Global;
 use std::fs::{self, File, Files, OpenFile};
 use std::io::Write;
 
@@ -41,6 +54,27 @@ pub fn read_files<R: Files + AllocGlobal>(
     for layer in layers {
         files.push(read_layer(rt, layer)?)?;
     }
+    Ok(files)
+}
+
+/// The size of a new disk, in bytes.
+const NEW_SIZE: u64 = 65536;
+
+/// A new image in memory, as the one file of a chain: consistent, of 65,536 bytes, and of zeroes.
+pub fn new_files(alloc: Global) -> Result<Vec<ChainFile<MemStorage>>, Failure>
+    ensures new { IfOk result (λ files. (top : ChainFile MemStorage) × (files.items ≡ top ∷ []) × (top.format ≡ Qcow2)
+        × IsConsistent (file (mem_state top.image)) (new_header 65536) × ((p : ℕ) → value_at (file (mem_state top.image)) p ≡ byte 0)) }
+{
+    // The image lies in memory: nothing but memory can be wanting.
+    let Ok(image) = create(alloc, MemStorage::new(alloc), NEW_SIZE) else {
+        return Err(Failure::InputOutput);
+    };
+    let mut files = Vec::new(alloc);
+    files.push(ChainFile {
+        format: Format::Qcow2,
+        image,
+        extras: Vec::new(alloc),
+    })?;
     Ok(files)
 }
 

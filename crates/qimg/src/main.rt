@@ -1,10 +1,10 @@
-//! A program over disk images. It opens a chain of them and runs a script over it; without arguments it shows what the tools below do,
-//! on an image that it makes in memory.
+//! A program over disk images. It opens a chain of them and runs a script over it; without arguments the chain is a new image in memory.
 //!
 //! `qimg [-r] LAYER ..`, the top first. A LAYER is `raw PATH`, `qcow2 PATH` or `vmdk PATH`, and any number of `file NAME PATH` behind it:
 //! files that it names for its data. With `-r` the top is opened for reading alone. The script comes from standard input, and its answers
 //! go to standard output; the module `script` of `qimg_chain` lists its lines. The files are read whole at the start. At the end the bytes
-//! of the last `save` take the top file's place, where there was one.
+//! of the last `save` take the top file's place, where there was one. `qimg` alone makes a qcow2 image of 65,536 bytes, for writing, and
+//! no file.
 //!
 //! | Status | Standard error | When |
 //! |---|---|---|
@@ -18,11 +18,11 @@ mod failure;
 mod files;
 
 use failure::{Failure, status};
-use files::{read_files, replace};
-use imago_storage::Fault;
+use files::{new_files, read_files, replace};
+use imago_storage::{Fault, MemStorage};
 use qimg_chain::arguments::{Arguments, parse};
 use qimg_chain::run::run_files;
-use qimg_core::first::first_run;
+use qimg_core::plain::ChainFile;
 use std::env::Env;
 use std::fs::Files;
 use std::io::{BufReader, BufWriter, ErrorKind, Write};
@@ -52,20 +52,29 @@ fn arguments<R: Env + AllocGlobal>(rt: &R) -> Result<Option<Arguments>, Failure>
     }
 }
 
-/// Opens a chain and runs the script on standard input over it.
-fn run_script<R: Files + Input + Print + AllocGlobal>(
+/// Opens files as a chain and runs the script on standard input over it. It answers the bytes of the last `save`, if there was one.
+fn run_script<R: Input + Print + AllocGlobal>(
     rt: &R,
-    arguments: &Arguments,
-) -> Result<(), Failure> {
-    let files = read_files(rt, &arguments.layers)?;
+    files: Vec<ChainFile<MemStorage>>,
+    writable: bool,
+) -> Result<Option<Vec<u8>>, Failure> {
     let input = BufReader::new(rt.alloc(), rt.reader())?;
     let mut output = BufWriter::new(rt.alloc(), io::writer(rt))?;
-    let writable = !arguments.read_only;
     let ended = run_files(rt.alloc(), files, writable, CHAIN, input, &mut output);
     let flushed = output.flush();
     // A chain that doesn't open is told as such, also where nobody takes the output.
     let saved = ended?;
     flushed?;
+    Ok(saved)
+}
+
+/// Runs the script over the files that the arguments name, and puts what it saved in the top's place.
+fn serve_files<R: Files + Input + Print + AllocGlobal>(
+    rt: &R,
+    arguments: &Arguments,
+) -> Result<(), Failure> {
+    let files = read_files(rt, &arguments.layers)?;
+    let saved = run_script(rt, files, !arguments.read_only)?;
     match (saved, arguments.layers.first()) {
         (Some(bytes), Some(top)) => replace(rt, &top.path, &bytes),
         _ => Ok(()),
@@ -74,10 +83,11 @@ fn run_script<R: Files + Input + Print + AllocGlobal>(
 
 /// Does what the arguments ask for.
 fn serve<R: Env + Files + Input + Print + AllocGlobal>(rt: &R) -> Result<(), Failure> {
-    match arguments(rt)? {
-        Some(arguments) => run_script(rt, &arguments),
-        None => Ok(first_run(rt.alloc(), &mut io::writer(rt))?),
+    if let Some(arguments) = arguments(rt)? {
+        return serve_files(rt, &arguments);
     }
+    let _saved = run_script(rt, new_files(rt.alloc())?, true)?;
+    Ok(())
 }
 
 fn main(rt: HostRuntime) -> ExitCode {

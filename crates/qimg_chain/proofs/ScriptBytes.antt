@@ -5,8 +5,8 @@ use Rattle.std.specs.Prelude.{⊤, Option, Some, None, option_map, IfSome, Ok, E
 use Rattle.std.specs.Global.{Global}
 use Rattle.std.specs.Io.BufRead.{take_through, drop_through, DropsThrough}
 use Rattle.std.specs.Str.Lines.{lines}
-use Rattle.qimg_core.specs.declared.first.worked.RunFault.{RunFault}
-use Rattle.qimg_core.specs.declared.first.worked.RunFault.TheVariants as run_fault
+use Rattle.qimg_chain.specs.declared.run.fault.RunFault.{RunFault}
+use Rattle.qimg_chain.specs.declared.run.fault.RunFault.TheVariants as run_fault
 use Rattle.qimg_chain.specs.ScriptLimits.{most_bytes, most_lines, AreAnswered, EndsBetween, IsAnswerCount}
 use Rattle.qimg_chain.specs.ScriptRuns.{IsReadingFault, IsTellingFault}
 use Rattle.qimg_chain.proofs.ScriptLines.{CutAlike, line-within, lines-step, through-joined, through-none}

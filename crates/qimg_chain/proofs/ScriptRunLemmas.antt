@@ -15,8 +15,8 @@ use Rattle.qimg_calls.specs.Making.{AnswersAlone}
 use Rattle.qimg_calls.specs.Runs.{Driven, StandsSince}
 use Rattle.qimg_calls.specs.Since.{Since}
 use Rattle.qimg_calls.proofs.Alone.{alone-both, driven-alone}
-use Rattle.qimg_core.specs.declared.first.worked.RunFault.{RunFault}
-use Rattle.qimg_core.specs.declared.first.worked.RunFault.TheVariants as run_fault
+use Rattle.qimg_chain.specs.declared.run.fault.RunFault.{RunFault}
+use Rattle.qimg_chain.specs.declared.run.fault.RunFault.TheVariants as run_fault
 use Rattle.qimg_chain.specs.ScriptAnswers.{answer_text}
 use Rattle.qimg_chain.specs.ScriptLimits.{AreAnswered, IsAnswerCount, most_bytes}
 use Rattle.qimg_chain.specs.ScriptRuns.{AreWritten, IsTellingFault, Reply, Standing, standing, Replies, RunsAll, Scripted, calls_of, answers_of, text_of}

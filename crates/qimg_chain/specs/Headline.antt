@@ -11,12 +11,12 @@ use Rattle.imago_access.specs.Running.{chain_disk}
 use Rattle.imago_access.specs.declared.seen.Seen.{Ghosts}
 use Rattle.qimg_calls.specs.Runs.{Driven}
 use Rattle.qimg_calls.specs.Since.{flushed}
-use Rattle.qimg_core.specs.declared.first.worked.RunFault.{RunFault}
 use Rattle.qimg_core.specs.declared.plain.ChainFile.{ChainFile}
 use Rattle.qimg_chain.specs.Chains.{AreInPlace, AreLayers, IsFit, OfTop}
 use Rattle.qimg_chain.specs.FileMeanings.{FindsByNames, IsDiskOf, files_bytes}
 use Rattle.qimg_chain.specs.Refusals.{FirstCause, FormChain}
 use Rattle.qimg_chain.specs.ScriptRuns.{Scripted, answers_of, calls_of}
+use Rattle.qimg_chain.specs.declared.run.fault.RunFault.{RunFault}
 use Rattle.qimg_chain.specs.declared.run.opened.ScriptFault.{ScriptFault}
 use Rattle.qimg_chain.specs.declared.run.opened.ScriptFault.TheVariants.{Opening, Running}
 

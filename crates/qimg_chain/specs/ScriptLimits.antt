@@ -3,8 +3,8 @@ use Rattle.std.specs.Prelude.{◌≡◌, ◌≢◌, ⊤, ℕ, ◌<◌, ◌≤◌
 use Rattle.std.specs.Global.{Global}
 use Rattle.std.specs.Io.BufRead.{take_through}
 use Rattle.std.specs.Str.Lines.{lines}
-use Rattle.qimg_core.specs.declared.first.worked.RunFault.{RunFault}
-use Rattle.qimg_core.specs.declared.first.worked.RunFault.TheVariants as run_fault
+use Rattle.qimg_chain.specs.declared.run.fault.RunFault.{RunFault}
+use Rattle.qimg_chain.specs.declared.run.fault.RunFault.TheVariants as run_fault
 
 -- the most lines that a script has, and the most bytes
 abbrev pub most_lines : ℕ

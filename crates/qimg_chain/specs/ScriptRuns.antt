@@ -10,13 +10,13 @@ use Rattle.qimg_calls.specs.Runs.{Driven, StandsSince}
 use Rattle.qimg_calls.specs.Since.{Since}
 use Rattle.qimg_calls.specs.declared.call.Call.{Call}
 use Rattle.qimg_calls.specs.declared.call.Answer.{Answer as CallAnswer}
-use Rattle.qimg_core.specs.declared.first.worked.RunFault.{RunFault}
-use Rattle.qimg_core.specs.declared.first.worked.RunFault.TheVariants as run_fault
 use Rattle.qimg_chain.specs.RunAnswers.{KeepsSaved, TellsLine}
 use Rattle.qimg_chain.specs.RunCalls.{Turn, unmade}
 use Rattle.qimg_chain.specs.Script.{IsLine, NotLine}
 use Rattle.qimg_chain.specs.ScriptAnswers.{answer_text}
 use Rattle.qimg_chain.specs.ScriptLimits.{AreAnswered, IsAnswerCount}
+use Rattle.qimg_chain.specs.declared.run.fault.RunFault.{RunFault}
+use Rattle.qimg_chain.specs.declared.run.fault.RunFault.TheVariants as run_fault
 use Rattle.qimg_chain.specs.declared.script.answer.Answer.{Answer}
 use Rattle.qimg_chain.specs.declared.script.answer.Answer.TheVariants as told
 use Rattle.qimg_chain.specs.declared.script.line.Line.{Line}

@@ -10,16 +10,17 @@ ghost use Rattle.qimg_chain.specs.ScriptRuns.{reply, standing, IsReadingFault, I
 
 mod answers;
 mod calls;
+mod fault;
 mod files;
 mod opened;
 
 use crate::chain::NamesFiles;
 use crate::script::{Answer, parse_line, split_line};
 pub use answers::answer_line;
+pub use fault::RunFault;
 use imago_access::{FormatAccess, FormatDriverInstance};
 use imago_storage::MemStorage;
 pub use opened::{ScriptFault, run_files};
-use qimg_core::first::RunFault;
 use std::alloc::Global;
 use std::io::{BufRead, ErrorKind, Take, Write};
 

@@ -1,23 +1,33 @@
 -- The bytes of a new image, as they are made.
-use Rattle.std.proofs.Common.{◌≡◌, ◌≢◌, ℕ, zero, suc, ◌+◌, ◌^◌, ◌<◌, ◌≤◌, refl, arith, ap, sym, ◌∙◌, List, [], ◌∷◌, length, take, inl, inr, length-take}
+use Rattle.std.proofs.Common.{◌≡◌, ◌≢◌, ℕ, zero, suc, ◌+◌, ◌-◌, ◌*◌, ◌/◌, ◌^◌, ◌<◌, ◌≤◌, refl, arith, ap, sym, ◌∙◌, List, [], ◌∷◌, length, take, inl, inr, length-take}
 use Rattle.std.specs.Prelude.{Bool, true, false, ◌==◌, cond, max, replicate, IsTrue, Result, Ok, Err, OnOk, IfErr, ◌⊎◌}
 use Rattle.std.specs.Int.{w64, to_be_bytes}
 use Rattle.std.proofs.Math.Path.{fun_ext}
-use Rattle.std.proofs.Math.Nat.{le-max_left, le-max_right}
+use Rattle.std.proofs.Math.Nat.{le-max_left, le-max_right, div-mul-le_self}
 use Rattle.std.proofs.lemmas.Bool.{cases_lt}
 use Rattle.std.proofs.lemmas.List.{get_or-take, get_or_past}
 use Rattle.std.proofs.lemmas.Grind.{common_steps}
 use Rattle.std.proofs.lemmas.Bool.Decides.{nat_tests}
 use Rattle.imago_storage.specs.State.{StorageState, unit_of}
-use Rattle.imago_storage.specs.Calls.{Resized, Cause}
-use Rattle.imago_storage.specs.Through.{WrittenThrough, NotWrittenThrough, round_up}
+use Rattle.imago_storage.specs.Calls.{Resized, Spliced, Cause}
+use Rattle.imago_storage.specs.Through.{round_up, Overflows, UnlessOverflow, NotThrough, WrittenThrough, NotWrittenThrough}
 use Rattle.imago_storage.specs.declared.fault.Fault.{Fault}
-use Rattle.imago_storage.specs.declared.fault.Fault.TheVariants.{Memory, Storage}
+use Rattle.imago_storage.specs.declared.fault.Fault.TheVariants.{RangeOverflow, Memory, Storage}
 use Rattle.qcow2_types.specs.Bytes.{Bytes, bytes_of, splice}
 use Rattle.qcow2_types.proofs.Splices.{splice-outside, splice-inside}
-use Rattle.qimg_core.specs.Requests.{NotPut}
 use Rattle.qimg_core.specs.Created.{Piece, with_pieces, nothing_in, blank_pieces, blank, first_counts, created, created_length, extension_bytes, l1_entries_of, Creates, NotCreated}
-use Rattle.qimg_core.proofs.RequestLemmas.{spliced-bytes, put-refused}
+
+-- a list that is another with bytes at a place, by places
+pub spliced-bytes : (old : List ℕ) (at : ℕ) (bytes new : List ℕ) → Spliced old at bytes new → bytes_of new ≡ splice (bytes_of old) at bytes
+spliced-bytes old at bytes new spliced = fun_ext (λ p. elim (cases_lt p at) [
+  | inl lt ↦ spliced.before p lt ∙ sym (splice-outside (bytes_of old) at bytes p (inl lt))
+  | inr le ↦ elim (cases_lt p (at + length bytes)) [
+    | inl lt ↦
+        let place : at + (p - at) ≡ p = omega arith in
+        spliced.inside p le lt ∙ (sym (splice-inside (bytes_of old) at bytes (p - at) (omega arith)) ∙ ap (splice (bytes_of old) at bytes) place)
+    | inr past ↦ spliced.after p past ∙ sym (splice-outside (bytes_of old) at bytes p (inr past))
+  ]
+])
 
 -- one piece more
 pub piece-put : (f g made : Bytes) (at : ℕ) (bytes bytes' : List ℕ) → f ≡ g → made ≡ splice f at bytes → bytes ≡ bytes' → made ≡ splice g at bytes'
@@ -107,11 +117,23 @@ not-created size before after Memory h = tt
 not-created size before after Storage h = tt
 not-created size before after fault h = absurd h
 
+-- a range well below 2^64 doesn't pass it
+overflows-not : (unit at n : ℕ) → unit ≤ 2 ^ 20 → at + n ≤ 2 ^ 60 → Overflows unit at n → ⊥
+unfolding round_up
+overflows-not unit at n small low passes =
+    let up : (at + n + (unit - 1)) / unit * unit ≤ at + n + (unit - 1) = div-mul-le_self (at + n + (unit - 1)) unit in
+    let high : 2 ^ 64 ≤ (at + n + (unit - 1)) / unit * unit = passes.1 in
+    omega arith
+
+-- other refusals than of overflow give their cause
+unless-overflow : (P : Type 0) (old new : StorageState) (Q R : Fault → Type 0) → (P → ⊥) → ((fault : Fault) → Q fault → R fault) → (fault : Fault) → UnlessOverflow P old new Q fault → R fault
+unless-overflow P old new Q R never give RangeOverflow h = absurd (never h.0)
+unless-overflow P old new Q R never give fault h = give fault h
+
 -- a write that is refused refuses the new image
 pub created-refused : (result : Result (Unit {0}) Fault) (old new : StorageState) (size : ℕ) (bytes : List ℕ) → unit_of old.shape ≤ 2 ^ 20 → 0 + length bytes ≤ 2 ^ 60
     → IfErr result (NotWrittenThrough old new 0 bytes) → IfErr result (NotCreated size)
-created-refused result old new size bytes unit low h = each result (put-refused result old new 0 bytes unit low h)
-  where
-    each : (r : Result (Unit {0}) Fault) → IfErr r (NotPut old new) → IfErr r (NotCreated size)
-    each (Ok _) h' = tt
-    each (Err fault) h' = not-created size old.faults new.faults fault h'
+created-refused (Ok _) old new size bytes small low h = tt
+created-refused (Err fault) old new size bytes small low h =
+    unless-overflow _ old new (NotThrough (unit_of old.shape) old new 0 bytes) (NotCreated size) (overflows-not (unit_of old.shape) 0 (length bytes) small low)
+    (λ (e : Fault) (n : NotThrough (unit_of old.shape) old new 0 bytes e). not-created size old.faults new.faults e n.cause) fault h

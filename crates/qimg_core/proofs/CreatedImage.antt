@@ -1,5 +1,5 @@
--- A new image, whatever its size: consistent, without leaks, taken when it is opened, and 0 everywhere.
-use Rattle.std.proofs.Common.{◌≡◌, ℕ, zero, suc, ◌-◌, ◌*◌, ◌/◌, ◌^◌, ◌<◌, ◌≤◌, refl, arith, ap, ◌∙◌, [], None, Ok, inl, inr}
+-- A new image, whatever its size: consistent, without leaks, and 0 everywhere.
+use Rattle.std.proofs.Common.{◌≡◌, ℕ, zero, suc, ◌-◌, ◌/◌, ◌^◌, ◌<◌, ◌≤◌, refl, arith, ap, ◌∙◌, [], None, Ok, inl, inr}
 use Rattle.std.specs.Prelude.{Bool, true, false, cond, nat_lt, Result}
 use Rattle.std.specs.Int.{w64, to_be_bytes}
 use Rattle.std.specs.Str.{is_utf8, chars}
@@ -7,8 +7,8 @@ use Rattle.std.specs.Char.{encode_utf8}
 use Rattle.std.proofs.lemmas.Bool.{le-ltb}
 use Rattle.imago_storage.specs.Disk.{Value, byte}
 use Rattle.imago_storage.specs.declared.fault.Fault.{Fault}
-use Rattle.qcow2_types.specs.Bytes.{Bytes, be, run, word, splice, all_below}
-use Rattle.qcow2_types.specs.Words.{unmapped, mapping_of}
+use Rattle.qcow2_types.specs.Bytes.{Bytes, be, run, splice}
+use Rattle.qcow2_types.specs.Words.{unmapped}
 use Rattle.qcow2_types.specs.Header.{Header, fields_of, header_of, texts_of, extensions_at, extension_at, first_fault, rules_of_kind, rules_of_size, rules_of_writing, cluster_size, words_of_cluster}
 use Rattle.qcow2_types.specs.Entries.{entry, l2_table}
 use Rattle.qcow2_types.specs.Consistency.{IsConsistent, leaks}
@@ -20,10 +20,7 @@ use Rattle.qcow2_types.proofs.Splices.{be-written, splice-outside}
 use Rattle.qcow2_types.proofs.Values.{entry-slot}
 use Rattle.qimg_core.specs.Files.{value_at}
 use Rattle.qimg_core.specs.Created.{blank, blank_fields, blank_header, created, new_header, nothing_in, extension_bytes, l1_entries_of}
-use Rattle.std.specs.Result.{result_err}
-use Rattle.qimg_core.specs.Opening.{rules_of_form, has_new_extensions, has_plain_words, own_fault, header_fault, tables_fault, open_fault}
 use Rattle.qimg_core.proofs.BlankImage.{blank-consistent, blank-leaks, blank-no_table}
-use Rattle.qimg_core.proofs.OpeningLemmas.{both-none, open-tables}
 
 -- an image of size 0 with another size in its header
 abbrev resized : ℕ → ℕ → Bytes
@@ -80,47 +77,15 @@ image-kept e size few small =
     size-switched (blank e) (resized e size) (blank_header e) (blank-consistent e few) size (header-kept true e size few small)
     (λ p apart. splice-outside (blank e) 24 (to_be_bytes w64 size) p (elim apart [ inl low ↦ absurd (omega arith) | inr high ↦ inr (omega arith) ]))
 
--- the extensions are those of a new image
-extensions-kept : (e size : ℕ) → e ≤ 2 → has_new_extensions (resized e size) ≡ true
-unfolding has_new_extensions all_below blank splice nothing_in extension_bytes
-extensions-kept zero size few = refl
-extensions-kept (suc zero) size few = refl
-extensions-kept (suc (suc zero)) size few = refl
-extensions-kept (suc (suc (suc e))) size few = absurd (omega arith)
-
--- its words are plain
-plain-kept : (e size : ℕ) → e ≤ 2 → has_plain_words (resized e size) (sized (blank_fields e) size) ≡ true
-unfolding has_plain_words all_below mapping_of word be blank splice nothing_in extension_bytes
-plain-kept zero size few = refl
-plain-kept (suc zero) size few = refl
-plain-kept (suc (suc zero)) size few = refl
-plain-kept (suc (suc (suc e))) size few = absurd (omega arith)
-
--- it has the first form
-form-kept : (e size : ℕ) → size ≤ 65536 → size ≤ e * 32768 → first_fault (rules_of_form (sized (blank_fields e) size)) ≡ None
-form-kept e size small covered =
-    let low : nat_lt 65536 size ≡ false = le-ltb _ _ small in
-    let low' : nat_lt (e * 32768) size ≡ false = le-ltb _ _ covered in
-    rw (low, low') refl
-
 module _ (size : ℕ) (small : size ≤ 65536) where
   -- at most two words in the L1 table
   few : l1_entries_of size ≤ 2
   few = omega arith
 
-  -- they cover the disk
-  covered : size ≤ l1_entries_of size * 32768
-  covered = omega arith
-
   -- it is the one of size 0, but for its size
   kept : SizeSwitched (blank (l1_entries_of size)) (created size) (blank_header (l1_entries_of size)) size
   unfolding created
   kept = image-kept (l1_entries_of size) size few (omega arith)
-
-  -- its fields
-  created-fields : fields_of (created size) ≡ (new_header size).fields
-  unfolding created
-  created-fields = fields-kept (l1_entries_of size) size few (omega arith)
 
   -- its header loads
   created-loads : (writing : Bool) → header_of writing (created size) ≡ Ok (new_header size)
@@ -154,24 +119,3 @@ module _ (size : ℕ) (small : size ≤ 65536) where
       either : (b : Bool) → ◌≡◌ {A = Value} (cond b (byte 0) (byte 0)) (byte 0)
       either true = refl
       either false = refl
-
-  -- no rule on the header is broken
-  created-header : header_fault (created size) ≡ None
-  unfolding header_fault own_fault created
-  created-header =
-      let fields : fields_of (resized (l1_entries_of size) size) ≡ sized (blank_fields (l1_entries_of size)) size = created-fields in
-      both-none _ _ (ap result_err (created-loads true))
-      (both-none _ _ (ap (λ h. first_fault (rules_of_form h)) fields ∙ form-kept (l1_entries_of size) size small covered)
-      (let passed : has_new_extensions (resized (l1_entries_of size) size) ≡ true = extensions-kept (l1_entries_of size) size few in rw passed refl))
-
-  -- nor one on the tables
-  created-tables : tables_fault (created size) (new_header size).fields ≡ None
-  unfolding tables_fault created
-  created-tables =
-      let sound = created-consistent.readable.tables in
-      let plain = plain-kept (l1_entries_of size) size few in
-      rw (sound, plain) refl
-
-  -- so it is taken
-  pub created-accepted : open_fault (created size) ≡ None
-  created-accepted = open-tables (created size) None created-header (ap (tables_fault (created size)) created-fields ∙ created-tables)

@@ -1,19 +1,7 @@
-pub mod RequestLemmas
-pub mod Pairs
-pub mod FirstLemmas
-pub mod ClusterLemmas
-pub mod WriteLemmas
-pub mod ReadLemmas
-pub mod Loops
-pub mod OpenedLemmas
-pub mod RunLemmas
 pub mod BlankImage
 pub mod ScanLemmas
-pub mod HeaderReads
 pub mod CreateLemmas
-pub mod OpeningLemmas
 pub mod CreatedImage
-pub mod OpensLemmas
 pub mod PlainReads
 pub mod L2Words
 pub mod PlainTables
@@ -35,5 +23,3 @@ pub mod Compared
 pub mod TablesListed
 pub mod ImageNamed
 pub mod Verdicts
-pub mod ReadsAgree
-pub mod WorkedLemmas

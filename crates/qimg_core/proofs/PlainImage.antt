@@ -1,6 +1,6 @@
 -- What a plain read of an image answers as a whole.
 use Rattle.std.proofs.Common.{◌≡◌, ℕ, ◌+◌, ◌-◌, ◌^◌, ◌<◌, ◌≤◌, refl, arith, ap, sym, subst, ◌∙◌, List, [], ◌∷◌, ◌++◌, length, drop, length-append, length-drop, inl, inr}
-use Rattle.std.specs.Prelude.{Bool, true, false, not, nat_le, ◌⊎◌, slice_index, Result, Ok, Err, OnOk, IfErr, Option, Some, None}
+use Rattle.std.specs.Prelude.{Bool, true, false, cond, not, nat_le, nat_lt, ◌⊎◌, slice_index, Result, Ok, Err, OnOk, IfErr, Option, Some, None}
 use Rattle.std.specs.Option.{is_some, SomeIff}
 use Rattle.std.proofs.lemmas.Bool.{cases_lt}
 use Rattle.std.proofs.lemmas.Bool.Decides.{nat_tests}
@@ -12,20 +12,24 @@ use Rattle.imago_storage.specs.declared.fault.Fault.{Fault}
 use Rattle.imago_storage.specs.declared.fault.Fault.TheVariants.{Memory, Storage, DamagedTable, Unsupported, MissingBelow, RangeOverflow}
 use Rattle.qcow2_types.specs.Bytes.{Bytes}
 use Rattle.qcow2_types.specs.Header.{Header, header_of, first_fault, has_external_data}
-use Rattle.qcow2_types.specs.Disk.{size_in_header, chain_size}
+use Rattle.qcow2_types.specs.Disk.{size_in_header, chain_size, in_qcow2, shown}
 use Rattle.qcow2_types.specs.Entries.{l1_table_sound}
 use Rattle.qcow2_metadata.specs.Loading.{NotLoaded}
 use Rattle.qimg_core.specs.Files.{file, value_at, chain_of}
-use Rattle.qimg_core.specs.Pieces.{ShowsRange}
-use Rattle.qimg_core.specs.Plain.{IsFirstFault, NotShown, NoL1, image_value, value_fault, alone_fault, rules_of_reading, loaded_fault, image_fault, below_size, ImageRefuses, IsImageRead, NotImageRead, MustRefuse}
-use Rattle.qimg_core.proofs.FirstLemmas.{value-shown}
+use Rattle.qimg_core.specs.Plain.{ShowsRange, IsFirstFault, NotShown, NoL1, image_value, value_fault, alone_fault, rules_of_reading, loaded_fault, image_fault, below_size, ImageRefuses, IsImageRead, NotImageRead, MustRefuse}
 use Rattle.qimg_core.proofs.PlainTables.{unshown-as}
 use Rattle.qimg_core.proofs.ScanLemmas.{kept-none, kept-file}
 
 -- the value of a place of the chain
 pub value-image : (f : Bytes) (H : Header) (p : ℕ) → header_of false f ≡ Ok H → value_at f p ≡ image_value f H.fields p
-unfolding image_value
-value-image f H p loads = value-shown f H p loads
+unfolding value_at image_value
+value-image f H p loads =
+    ap (λ r. in_qcow2 f (λ _. 0) r p (cond (nat_lt p 0) (byte 0) (byte 0))) loads
+    ∙ ap (shown f (λ _. 0) H.fields p) (both-same (nat_lt p 0) (byte 0))
+  where
+    both-same : (b : Bool) (v : Value) → cond b v v ≡ v
+    both-same true v = refl
+    both-same false v = refl
 
 -- the front of a range is read, and the rest is blank
 pub front-read : (result : Result (Unit {0}) Fault) (f : Bytes) (H : Header) (offset inside : ℕ) (front whole : List ℕ) → header_of false f ≡ Ok H → inside ≤ length whole → length front ≡ inside → ((i : ℕ) → i < length whole → offset + i < H.fields.size → i < inside)

@@ -1,5 +1,5 @@
 -- What a read of an image's bytes alone answers, and why it is refused.
-use Rattle.std.specs.Prelude.{◌≡◌, ◌⊎◌, ℕ, ◌+◌, ◌-◌, ◌*◌, ◌/◌, ◌%◌, ◌^◌, ◌<◌, min, false, not, nat_le, List, [], ◌∷◌, length, slice_index, map, Option, Some, None, Result, Ok, Err, MatchResult}
+use Rattle.std.specs.Prelude.{◌≡◌, ◌⊎◌, ℕ, ◌+◌, ◌-◌, ◌*◌, ◌/◌, ◌%◌, ◌^◌, ◌<◌, ◌≤◌, min, false, not, nat_le, List, [], ◌∷◌, length, slice_index, map, Option, Some, None, Result, Ok, Err, MatchResult}
 use Rattle.std.specs.Option.{is_some}
 use Rattle.imago_storage.specs.State.{StorageState, Rose}
 use Rattle.imago_storage.specs.Calls.{Kept}
@@ -14,7 +14,6 @@ use Rattle.qcow2_types.specs.Disk.{shown, shown_by, chain_size}
 use Rattle.qcow2_types.specs.Places.{l2_entries}
 use Rattle.qcow2_metadata.specs.Tables.{TableValue}
 use Rattle.qimg_core.specs.Files.{file, chain_of, value_at}
-use Rattle.qimg_core.specs.Pieces.{ShowsRange}
 use Rattle.std.specs.Prelude.{Vec, String}
 use Rattle.std.specs.declared.alloc.Global.{Global}
 use Rattle.imago_access.specs.declared.format.Format.{Format}
@@ -96,6 +95,11 @@ abbrev pub ImageRefuses : Bytes → ℕ → ℕ → Fault → Type 0
 ImageRefuses f offset n fault =
     (image_fault f offset n ≡ Some fault)
     ⊎ ((image_fault f offset n ≡ None) × IsFirstFault (value_at f) offset (below_size (chain_size (chain_of f)) offset n) fault)
+
+-- the buffer holds the bytes that the places below the size show, and then 0
+pub record ShowsRange (f : Bytes) (size offset : ℕ) (buffer : List ℕ) : Type 0 where
+  pub below : (i : ℕ) → i < length buffer → offset + i < size → value_at f (offset + i) ≡ byte (slice_index buffer i)
+  pub past : (i : ℕ) → i < length buffer → size ≤ offset + i → slice_index buffer i ≡ 0
 
 -- The buffer holds what the image shows from the offset on, and past its size 0.
 pub record IsImageRead (f : Bytes) (offset : ℕ) (buffer : List ℕ) : Type 0 where

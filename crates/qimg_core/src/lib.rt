@@ -1,9 +1,8 @@
-//! Tools over disk images: a checker, a plain reader, and the first disk, an image that is made, opened, read, written and flushed.
+//! Tools over disk images: a checker, a plain reader, and the making of small images.
 #![tactic(auto)]
 
 mod buffers;
 pub mod check;
+pub mod creation;
 mod file_end;
-pub mod first;
-pub mod laws;
 pub mod plain;

@@ -2,11 +2,10 @@
 ghost use Rattle.std.specs.Prelude.{IfOk, IfErr, Ok};
 ghost use Rattle.qimg_chain.specs.Headline.{NotRun, RunFrom, to_open};
 
-use super::run;
+use super::{RunFault, run};
 use crate::chain::{ImageDriver, NamesFiles, open_chain};
 use imago_access::Seen;
 use imago_storage::{Fault, MemStorage};
-use qimg_core::first::RunFault;
 use qimg_core::plain::ChainFile;
 use std::alloc::Global;
 use std::io::{BufRead, Write};

@@ -1,7 +1,7 @@
 use Rattle.std.proofs.Common.{◌≡◌, ap, refl, arith}
 use Rattle.std.specs.Prelude.{Result, Ok, Err, IsErrAnd}
 use Rattle.std.specs.Io.Take.{take_remaining}
-use Rattle.qimg_core.specs.declared.first.worked.RunFault.{RunFault}
+use Rattle.qimg_chain.specs.declared.run.fault.RunFault.{RunFault}
 use Rattle.qimg_chain.specs.ScriptRuns.{reply, standing}
 use Rattle.qimg_chain.proofs.ScriptBytes.{cut-reading, cut-telling, read-all, read-more, read-none}
 use Rattle.qimg_chain.proofs.ScriptRunLemmas.{all-written, last-untold, made-then, ran-none, ran-then, scripted, scripted-cut}

@@ -5,7 +5,6 @@ use Rattle.imago_storage.specs.MemStorage.{mem_state}
 use Rattle.imago_storage.specs.State.{InStep}
 use Rattle.imago_storage.specs.declared.memory.MemStorage.{MemStorage}
 use Rattle.qimg_core.specs.declared.plain.ChainFile.{ChainFile}
-use Rattle.qimg_core.specs.declared.first.worked.RunFault.{RunFault}
 use Rattle.imago_access.specs.Chain.{Each}
 use Rattle.imago_access.specs.Layers.{chain}
 use Rattle.imago_access.specs.Running.{chain_disk}
@@ -18,6 +17,7 @@ use Rattle.qimg_chain.specs.FileMeanings.{FindsByNames, IsDiskOf, files_bytes}
 use Rattle.qimg_chain.specs.Headline.{RunFrom, ToOpen}
 use Rattle.qimg_chain.specs.Refusals.{FormChain}
 use Rattle.qimg_chain.specs.ScriptRuns.{Scripted}
+use Rattle.qimg_chain.specs.declared.run.fault.RunFault.{RunFault}
 use Rattle.imago_storage.proofs.Failing.{mem_never}
 use Rattle.qimg_chain.proofs.Failing.{unopened}
 use Rattle.qimg_chain.proofs.ScriptRunLemmas.{append-none}
