@@ -99,7 +99,7 @@ module _ {S : Type 0} (g : Ghosts S) (d : Qcow2 S g) (safe : IsSafe g d) where
     unnamed =
         let m = rest_of g d.tables holds.space in
         let le : refs m.file m.header.fields hold.host ≤ named_at_all m hold.host =
-            refs-file m.file (in_memory m) m.header.fields hold.host in
+        refs-file m.file (in_memory m) m.header.fields hold.host in
         let none = holds.held.nameable.reserved.unnamed in
         Prim.omega (arith, le, none)
 
