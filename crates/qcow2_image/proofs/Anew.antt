@@ -1,22 +1,30 @@
 -- What reading the tables of an image anew leaves, and why it is refused.
-use Rattle.std.proofs.Common.{◌≡◌, ◌≢◌, ℕ, ◌+◌, refl, arith, ap, subst, sym, ◌∙◌, false, cond, List, [], ◌∷◌, Result, Ok, Err, inl, inr}
-use Rattle.std.specs.Prelude.{IfErr, IsOk, nat_lt}
+use Rattle.std.proofs.Common.{◌≡◌, ◌≢◌, ℕ, ◌+◌, ◌≤◌, refl, arith, ap, subst, sym, ◌∙◌, Bool, true, false, cond, List, [], ◌∷◌, Result, Ok, Err, inl, inr}
+use Rattle.std.specs.Prelude.{IfErr, IsOk, OnOk, nat_lt}
+use Rattle.std.specs.List.{AllByRecursion}
 use Rattle.std.proofs.lemmas.Bool.{cases_Bool}
 use Rattle.std.proofs.lemmas.List.Sums.{sum_by-cons}
 use Rattle.imago_storage.specs.State.{StorageState}
-use Rattle.imago_storage.specs.Calls.{Cause, Kept}
+use Rattle.imago_storage.specs.Calls.{Cause, Kept, Later}
 use Rattle.imago_storage.specs.declared.fault.Fault.{Fault}
+use Rattle.imago_storage.specs.declared.storage.Storage.{Ghosts}
 use Rattle.imago_storage.specs.declared.fault.Fault.TheVariants.{DamagedHeader, DamagedTable, Unsupported, Limit, CacheFull, Memory, Storage}
-use Rattle.qcow2_types.specs.Bytes.{Bytes}
-use Rattle.qcow2_types.specs.Header.{Header, header_of}
+use Rattle.qcow2_types.specs.Bytes.{Bytes, bytes_of}
+use Rattle.qcow2_types.specs.Counts.{refcount_table_sound}
+use Rattle.qcow2_types.specs.Header.{Header, header_of, has_external_data}
 use Rattle.qcow2_metadata.specs.Loading.{NotLoaded}
 use Rattle.qcow2_metadata.specs.Updates.{with_places_of}
 use Rattle.qcow2_alloc.specs.Cache.{kept_pinned}
+use Rattle.qcow2_alloc.specs.Caches.{cached_in}
 use Rattle.qcow2_alloc.specs.Dropping.{Dropped}
 use Rattle.qcow2_alloc.specs.Finding.{pinned_in}
+use Rattle.qcow2_alloc.specs.Memory.{Cached}
+use Rattle.qcow2_alloc.specs.Opening.{IsL1Of}
 use Rattle.qcow2_alloc.specs.declared.async_lru_cache.Slot.{Slot}
-use Rattle.qcow2_image.specs.Opening.{header_for}
-use Rattle.qcow2_image.specs.Steps.{DiffersElsewhere, IsFirstFault, WhyNotReloaded}
+use Rattle.qcow2_image.specs.Opening.{WhyNoSpace, header_for}
+use Rattle.qcow2_image.specs.Seen.{IsOfFile, IsSeen, file_of}
+use Rattle.qcow2_image.specs.declared.tables.Tables.{Tables}
+use Rattle.qcow2_image.specs.Steps.{DiffersElsewhere, IsFirstFault, WhyNotReloaded, header_anew}
 use Rattle.qcow2_image.proofs.OpeningRules.{reading-refusal}
 
 -- A storage that dropped what it has cached is the same.
@@ -36,36 +44,113 @@ refused-why r s s' Memory why = why
 refused-why r s s' Storage why = why
 refused-why r s s' fault why = absurd why
 
--- Why the header isn't loaded,
-pub header-why : (f : Bytes) (H : Header) (s s' : StorageState) (fault : Fault) → NotLoaded (header_for false f) s s' fault → fault ≢ DamagedTable
-    → WhyNotReloaded f H s.faults s'.faults fault
-header-why f H s s' DamagedHeader why before = why.0
-header-why f H s s' DamagedTable why before = absurd (before refl)
-header-why f H s s' Unsupported why before = inl why.0
-header-why f H s s' (Limit n) why before = why.0
-header-why f H s s' Memory why before = tt
-header-why f H s s' Storage why before = why
-header-why f H s s' fault why before = absurd (reading-refusal false f fault why.0)
+-- What keeps a file from being opened for reading keeps it from being read anew, and so does a damaged refcount table, where it is written.
+anew-refused : (w : Bool) (f : Bytes) (fault : Fault) → header_for false f ≡ Err fault → header_anew w f ≡ Err fault
+unfolding header_anew
+anew-refused w f fault is = rw is refl
 
--- why one isn't taken over whose L1 table isn't loaded: first because it can't change so,
-pub first-why : (f : Bytes) (H H' : Header) (s s' : StorageState) (fault first : Fault) → header_of false f ≡ Ok H' → IsFirstFault H' H fault first
-    → NotLoaded (header_for false f) s s' fault → WhyNotReloaded f H s.faults s'.faults first
-first-why f H H' s s' fault first loads (inl same) why = subst (WhyNotReloaded f H s.faults s'.faults) (sym same.1) (from fault why) where
-  from : (fault : Fault) → NotLoaded (header_for false f) s s' fault → WhyNotReloaded f H s.faults s'.faults fault
-  from DamagedTable why = (why.0, λ differs. subst (λ r. DiffersElsewhere r H) loads differs same.0)
-  from DamagedHeader why = why.0
-  from Unsupported why = inl why.0
-  from (Limit n) why = why.0
-  from Memory why = tt
-  from Storage why = why
-  from fault why = absurd (reading-refusal false f fault why.0)
-first-why f H H' s s' fault first loads (inr other) why =
-    subst (WhyNotReloaded f H s.faults s'.faults) (sym other.1) (inr (subst (λ r. DiffersElsewhere r H) (sym loads) other.0))
+counts-refused : (w : Bool) (f : Bytes) (H : Header) → header_for false f ≡ Ok H → w ≡ true → refcount_table_sound f H.fields ≡ false
+    → header_anew w f ≡ Err DamagedTable
+unfolding header_anew
+counts-refused w f H opens is bad = rw (opens, is, bad) refl
+
+-- Why the header isn't loaded,
+pub header-why : (w : Bool) (f : Bytes) (H : Header) (s s' : StorageState) (fault : Fault) → NotLoaded (header_for false f) s s' fault
+    → fault ≢ DamagedTable → WhyNotReloaded w f H s.faults s'.faults fault
+header-why w f H s s' DamagedHeader why before = anew-refused w f DamagedHeader why.0
+header-why w f H s s' DamagedTable why before = absurd (before refl)
+header-why w f H s s' Unsupported why before = inl (anew-refused w f Unsupported why.0)
+header-why w f H s s' (Limit n) why before = anew-refused w f (Limit n) why.0
+header-why w f H s s' Memory why before = tt
+header-why w f H s s' Storage why before = why
+header-why w f H s s' fault why before = absurd (reading-refusal false f fault why.0)
+
+-- why one isn't taken over behind which something isn't loaded: first because it can't change so,
+module _ (w : Bool) (f : Bytes) (H H' : Header) (loads : header_of false f ≡ Ok H') where
+  first-of : (a b : ℕ) (fault first : Fault) → IsFirstFault H' H fault first
+      → (with_places_of H' H ≡ H' → WhyNotReloaded w f H a b fault) → WhyNotReloaded w f H a b first
+  first-of a b fault first (inl same) why = subst (WhyNotReloaded w f H a b) (sym same.1) (why same.0)
+  first-of a b fault first (inr other) why =
+      subst (WhyNotReloaded w f H a b) (sym other.1) (inr (subst (λ r. DiffersElsewhere r H) (sym loads) other.0))
+
+  alike : with_places_of H' H ≡ H' → DiffersElsewhere (header_of false f) H → ⊥
+  alike same differs = subst (λ r. DiffersElsewhere r H) loads differs same
+
+  -- or else by what isn't loaded: the L1 table,
+  pub first-why : (s s' : StorageState) (fault first : Fault) → IsFirstFault H' H fault first → NotLoaded (header_for false f) s s' fault
+      → WhyNotReloaded w f H s.faults s'.faults first
+  first-why s s' fault first is why = first-of s.faults s'.faults fault first is (λ same. from same fault why) where
+    from : with_places_of H' H ≡ H' → (fault : Fault) → NotLoaded (header_for false f) s s' fault → WhyNotReloaded w f H s.faults s'.faults fault
+    from same DamagedTable why = (anew-refused w f DamagedTable why.0, alike same)
+    from same DamagedHeader why = anew-refused w f DamagedHeader why.0
+    from same Unsupported why = inl (anew-refused w f Unsupported why.0)
+    from same (Limit n) why = anew-refused w f (Limit n) why.0
+    from same Memory why = tt
+    from same Storage why = why
+    from same fault why = absurd (reading-refusal false f fault why.0)
+
+  -- or the free space,
+  pub first-counts : header_for false f ≡ Ok H' → (a b : ℕ) (fault first : Fault) → IsFirstFault H' H fault first
+      → WhyNoSpace f H'.fields w a b fault → WhyNotReloaded w f H a b first
+  first-counts opens a b fault first is why = first-of a b fault first is (λ same. from same fault why) where
+    from : with_places_of H' H ≡ H' → (fault : Fault) → WhyNoSpace f H'.fields w a b fault → WhyNotReloaded w f H a b fault
+    from same DamagedTable why = (counts-refused w f H' opens why.0 why.1, alike same)
+    from same Memory why = tt
+    from same Storage why = why
+    from same fault why = absurd why
 
 -- and why a header that was loaded isn't taken over.
-pub updating-why : (f : Bytes) (H H' : Header) (a b : ℕ) (fault : Fault) → header_of false f ≡ Ok H' → with_places_of H' H ≢ H' → fault ≡ Unsupported → WhyNotReloaded f H a b fault
-updating-why f H H' a b fault loads differs is =
-    subst (WhyNotReloaded f H a b) (sym is) (inr (subst (λ r. DiffersElsewhere r H) (sym loads) differs))
+pub updating-why : (w : Bool) (f : Bytes) (H H' : Header) (a b : ℕ) (fault : Fault) → header_of false f ≡ Ok H' → with_places_of H' H ≢ H'
+    → fault ≡ Unsupported → WhyNotReloaded w f H a b fault
+updating-why w f H H' a b fault loads differs is =
+    subst (WhyNotReloaded w f H a b) (sym is) (inr (subst (λ r. DiffersElsewhere r H) (sym loads) differs))
+
+-- A refusal to load the free space leaves no fewer faults.
+pub counts-later : (f : Bytes) (H : Header) (w : Bool) (s s' : StorageState) (fault : Fault) → Kept s s' → WhyNoSpace f H.fields w s.faults s'.faults fault
+    → Later s s'
+counts-later f H w s s' fault kept why = record { faults = more fault why; refusals = omega (arith, kept.refusals) } where
+  more : (fault : Fault) → WhyNoSpace f H.fields w s.faults s'.faults fault → s.faults ≤ s'.faults
+  more Memory why = omega (arith, why)
+  more Storage why = why.kept
+  more DamagedTable why = let same = why.2 in omega (arith, same)
+  more fault why = absurd why
+
+-- Where what is in memory is the file's, and its refcount table isn't damaged, only memory and the storage refuse the free space.
+pub counts-fine : (f : Bytes) (H H' : Header) (w : Bool) (a b : ℕ) (fault first : Fault) → header_of false f ≡ Ok H → header_of false f ≡ Ok H'
+    → (w ≡ true → refcount_table_sound f H.fields ≡ true) → IsFirstFault H' H fault first → WhyNoSpace f H'.fields w a b fault
+    → Cause a b first
+counts-fine f H H' w a b fault first was loads sound is why = of-first is where
+  same : H' ≡ H
+  same = cc (sym loads ∙ was)
+
+  from : (fault : Fault) → WhyNoSpace f H'.fields w a b fault → Cause a b fault
+  from Memory why = why
+  from Storage why = why
+  from DamagedTable why =
+      let fine = sound why.0 in
+      let bad = subst (λ (x : Header). refcount_table_sound f x.fields ≡ false) same why.1 in
+      absurd (let e = sym fine ∙ bad in cc e)
+  from fault why = absurd why
+
+  of-first : IsFirstFault H' H fault first → Cause a b first
+  of-first (inl x) = subst (Cause a b) (sym x.1) (from fault why)
+  of-first (inr x) = absurd (x.0 (subst (λ (y : Header). with_places_of y H ≡ y) (sym same) refl))
+
+-- What was loaded is the file's, while nothing is cached.
+pub seen-anew : {S : Type 0} (g : Ghosts S) (t : Tables S g) (before : StorageState) (H : Header) → g.state t.file.image ≡ before → t.file.header ≡ H
+    → cached_in t.caches ≡ record { tables = []; blocks = [] } → header_of false (bytes_of before.bytes) ≡ Ok H
+    → has_external_data H.fields ≡ false → IsL1Of (bytes_of before.bytes) H.fields t.l1 → IsSeen g t
+seen-anew g t before H same header empty loads inside l1 = record {
+  loads = subst (λ (s : StorageState). header_of false (bytes_of s.bytes) ≡ Ok t.file.header) (sym same) (loads ∙ ap Ok (sym header));
+  inside = subst (λ (K : Header). has_external_data K.fields ≡ false) (sym header) inside;
+  l1 = subst (λ (s : StorageState). IsL1Of (bytes_of s.bytes) t.file.header.fields t.l1) (sym same)
+      (subst (λ (K : Header). IsL1Of (bytes_of before.bytes) K.fields t.l1) (sym header) l1);
+  tables = subst (λ (c : Cached). AllByRecursion (IsOfFile (file_of g t) t.file.header.fields) c.tables) (sym empty) tt;
+}
+
+pub on-ok : {T : Type 0} (r : Result T Fault) (P : Type 0) → P → OnOk r P
+on-ok (Ok v) P p = p
+on-ok (Err e) P p = tt
 
 -- What is in memory already is taken over.
 pub never-differs : (f : Bytes) (H H' : Header) → header_of false f ≡ Ok H → header_of false f ≡ Ok H' → with_places_of H' H ≢ H' → ⊥

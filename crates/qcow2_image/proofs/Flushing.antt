@@ -25,7 +25,8 @@ use Rattle.qcow2_image.specs.declared.qcow2.PreparedMappingState.{PreparedMappin
 use Rattle.qcow2_image.specs.declared.qcow2.Qcow2.{Qcow2}
 use Rattle.qcow2_image.proofs.ClusterSteps.{idle-waits}
 use Rattle.qcow2_image.proofs.KeepingDisks.{kept-disk, keeps-disk-both, keeps-image-disk}
-use Rattle.qcow2_image.proofs.Settling.{asked-keeps, meant, ok-whole, on-ok}
+use Rattle.qcow2_image.proofs.Anew.{on-ok}
+use Rattle.qcow2_image.proofs.Settling.{asked-keeps, meant, ok-whole}
 
 -- An image that was safe but for a failure is safe where it didn't fail.
 pub safe-again : {S : Type 0} (g : Ghosts S) (d : Qcow2 S g) → d.failed ≡ false → WasSafe g d → IsSafe g d

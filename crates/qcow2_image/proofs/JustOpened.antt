@@ -12,7 +12,6 @@ use Rattle.qcow2_types.specs.Header.{Fields, Header, header_of, has_external_dat
 use Rattle.qcow2_types.specs.Consistency.{Consistent, IsConsistent, leaks}
 use Rattle.qcow2_types.specs.Over.{over}
 use Rattle.qcow2_types.specs.Pending.{FreeEntry}
-use Rattle.qcow2_alloc.specs.Allocators.{LoadsAllocator}
 use Rattle.qcow2_alloc.specs.Caches.{cached_in, order_of}
 use Rattle.qcow2_alloc.specs.Memory.{Cached, memory}
 use Rattle.qcow2_alloc.specs.Opening.{IsL1Of}
@@ -61,6 +60,15 @@ memory-empty : (f : Bytes) (h : Fields) (cached : Cached) → cached ≡ record 
 unfolding over
 memory-empty f h cached empty = ap (λ (c : Cached). memory f h c) empty
 
+-- The free space of a consistent image is sound, as it was just loaded.
+pub opened-space : {S : Type 0} (g : Ghosts S) (t : Tables S g) → IsConsistent (file_of g t) t.file.header → (writable : Bool) (o : Option Space)
+    → IsSpaceOpened (g.state t.file.image) t.file.header.fields writable o → IfSome o (λ space. IsSound (rest_of g t space))
+opened-space g t consistent writable None opened = tt
+opened-space g t consistent writable (Some space) opened =
+    let state = g.state t.file.image in
+    subst (λ (es : List FreeEntry). IsSound (record (rest_of g t space) { pending = es })) (sym opened.idle)
+    (opened-sound (file_of g t) t.file.header consistent state state space.allocator refl opened.loads)
+
 module _ {S : Type 0} (g : Ghosts S) (before : StorageState) (writable : Bool) (l2_tables refcount_blocks : ℕ) (d : Qcow2 S g)
     (now : IsJustOpened g before writable l2_tables refcount_blocks d.tables) where
   abbrev state : StorageState
@@ -92,20 +100,14 @@ module _ {S : Type 0} (g : Ghosts S) (before : StorageState) (writable : Bool) (
     consistent = verdict-consistent (bytes_of state.bytes) (leaks (bytes_of state.bytes) sound.0.fields) false H (sound.0, sound.1, refl)
         now.seen.loads
 
-    sound-space : (o : Option Space) → IsSpaceOpened before H.fields writable o → IfSome o (λ space. IsSound (rest_of g d.tables space))
-    sound-space None opened = tt
-    sound-space (Some space) opened =
-        let loads = subst (λ (s : StorageState). LoadsAllocator s H.fields (Ok space.allocator) s) (sym now.same) opened.loads in
-        subst (λ (es : List FreeEntry). IsSound (record (rest_of g d.tables space) { pending = es })) (sym opened.idle)
-        (opened-sound (bytes_of state.bytes) H consistent state state space.allocator refl loads)
-
   pub opened-safe : d.failed ≡ false → d.unspent ≡ None → IsTrue state.shape.keeps → Consistent (bytes_of state.bytes) → IsSafe g d
   opened-safe runs free keeps sound = record {
     runs = runs;
     keeps = keeps;
     consistent = consistent sound;
     seen = now.seen;
-    sound = sound-space sound d.tables.space now.space;
+    sound = opened-space g d.tables (consistent sound) writable d.tables.space
+        (subst (λ (s : StorageState). IsSpaceOpened s H.fields writable d.tables.space) (sym now.same) now.space);
     held = rw free tt;
     writable = λ some. absurd (Prim.cc (subst IsSome free some));
   }

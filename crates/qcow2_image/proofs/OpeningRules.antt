@@ -25,7 +25,7 @@ use Rattle.qcow2_metadata.proofs.TableFacts.{words_long, words_at}
 use Rattle.qcow2_alloc.specs.Allocators.{IsTablePlaced, LoadsAllocator}
 use Rattle.qcow2_alloc.specs.Opening.{IsL1Of}
 use Rattle.qcow2_alloc.specs.declared.allocation.Allocator.{Allocator}
-use Rattle.qcow2_image.specs.Opening.{WhyNotOpened, header_for, rules_of_opening}
+use Rattle.qcow2_image.specs.Opening.{WhyNotOpened, WhyNoSpace, header_for, rules_of_opening}
 
 -- the refusals of a header by its bytes, and of an L1 table
 abbrev pub IsReadingRefusal : Fault → Type 0
@@ -111,6 +111,53 @@ module _ (writable : Bool) (f : Bytes) where
     unfolding header_for
     external-refused is = rw (loads, is) refl
 
+    limited : Limited H.fields
+    limited = header-limited writable f H loads
+
+    -- The refcount table stands where words can name it, too.
+    counts-placed : IsTablePlaced H.fields
+    counts-placed = record {
+      aligned =
+          let whole = place-whole H.fields.cluster_bits H.fields.refcount_table_offset limited.refcount_place in
+          omega (arith, div-add-mod H.fields.refcount_table_offset (cluster_size H.fields), whole);
+      reach = place-near H.fields.cluster_bits H.fields.refcount_table_offset limited.refcount_place;
+    }
+
+    module _ (old new : StorageState) (same : bytes_of old.bytes ≡ f) where
+      -- Where it is loaded each of its words has a meaning,
+      pub space-sound : (a : Allocator) → LoadsAllocator old H.fields (Ok a) new → refcount_table_sound f H.fields ≡ true
+      unfolding refcount_table_sound
+      space-sound a loaded = sound-table f block_words (layout_of H.fields) H.fields.refcount_table_offset (refcount_table_entries H.fields)
+          (subst (λ (x : Bytes). AreSound block_words (layout_of H.fields) (words_in x H.fields.refcount_table_offset (refcount_table_entries H.fields)))
+          same loaded.sound)
+
+      module _ (written : Bool) (is : written ≡ true) where
+        counts-why : (fault : Fault) → WhyNotLoaded block_words (layout_of H.fields)
+            (words_in f H.fields.refcount_table_offset (refcount_table_entries H.fields)) old.faults new.faults fault
+            → WhyNoSpace f H.fields written old.faults new.faults fault
+        unfolding refcount_table_sound
+        counts-why Memory why = why
+        counts-why Storage why = why
+        counts-why DamagedTable why = (
+          is,
+          damaged-word f block_words (layout_of H.fields) H.fields.refcount_table_offset (refcount_table_entries H.fields) why.0,
+          why.1,
+        )
+        counts-why (Limit n) why =
+            let same = why.0 in
+            let more = why.1 in
+            let few = limited.refcount_entries in
+            let long = words_long f H.fields.refcount_table_offset (refcount_table_entries H.fields) in
+            absurd (omega (arith, same, more, few, long))
+        counts-why fault why = absurd why
+
+        -- and else that is why.
+        pub space-not-loaded : (fault : Fault) → LoadsAllocator old H.fields (Err fault) new
+            → WhyNoSpace f H.fields written old.faults new.faults fault
+        space-not-loaded fault loaded = counts-why fault
+            (subst (λ (x : Bytes). WhyNotLoaded block_words (layout_of H.fields)
+            (words_in x H.fields.refcount_table_offset (refcount_table_entries H.fields)) old.faults new.faults fault) same (loaded.err counts-placed))
+
     module _ (inside : has_external_data H.fields ≡ false) where
       -- and then that on the L1 table.
       pub table-refused : l1_table_sound f H.fields ≡ false → header_for writable f ≡ Err DamagedTable
@@ -131,9 +178,6 @@ module _ (writable : Bool) (f : Bytes) where
           → header_for writable f ≡ Err DamagedTable
       unfolding header_for
       counts-refused sound is bad = rw (loads, inside, sound, is, bad) refl
-
-      limited : Limited H.fields
-      limited = header-limited writable f H loads
 
       whole : H.fields.l1_offset / cluster_size H.fields * cluster_size H.fields ≡ H.fields.l1_offset
       whole = place-whole H.fields.cluster_bits H.fields.l1_offset limited.l1_place
@@ -179,45 +223,10 @@ module _ (writable : Bool) (f : Bytes) where
         table-not-loaded old new (Limit n) why = let same = why.0 in let more = why.1 in let few = limited.l1_entries in absurd (omega (arith, same, more, few, long))
         table-not-loaded old new fault why = absurd why
 
-      -- The refcount table stands where words can name it, too.
-      counts-placed : IsTablePlaced H.fields
-      counts-placed = record {
-        aligned =
-            let whole = place-whole H.fields.cluster_bits H.fields.refcount_table_offset limited.refcount_place in
-            omega (arith, div-add-mod H.fields.refcount_table_offset (cluster_size H.fields), whole);
-        reach = place-near H.fields.cluster_bits H.fields.refcount_table_offset limited.refcount_place;
-      }
-
-      module _ (old new : StorageState) (same : bytes_of old.bytes ≡ f) (l1 : l1_table_sound f H.fields ≡ true) (is : writable ≡ true) where
-        -- Where it is loaded nothing is refused,
-        pub space-allowed : (a : Allocator) → LoadsAllocator old H.fields (Ok a) new → header_for writable f ≡ Ok H
-        unfolding refcount_table_sound
-        space-allowed a loaded = none-refused l1 (λ w. sound-table f block_words (layout_of H.fields) H.fields.refcount_table_offset
-            (refcount_table_entries H.fields)
-            (subst (λ (x : Bytes). AreSound block_words (layout_of H.fields) (words_in x H.fields.refcount_table_offset (refcount_table_entries H.fields)))
-            same loaded.sound))
-
-        counts-why : (fault : Fault) → WhyNotLoaded block_words (layout_of H.fields)
-            (words_in f H.fields.refcount_table_offset (refcount_table_entries H.fields)) old.faults new.faults fault
-            → NotLoaded (header_for writable f) old new fault
-        unfolding refcount_table_sound
-        counts-why Memory why = why
-        counts-why Storage why = why
-        counts-why DamagedTable why = (
-          counts-refused l1 is
-              (damaged-word f block_words (layout_of H.fields) H.fields.refcount_table_offset (refcount_table_entries H.fields) why.0),
-          why.1,
-        )
-        counts-why (Limit n) why =
-            let same = why.0 in
-            let more = why.1 in
-            let few = limited.refcount_entries in
-            let long = words_long f H.fields.refcount_table_offset (refcount_table_entries H.fields) in
-            absurd (omega (arith, same, more, few, long))
-        counts-why fault why = absurd why
-
-        -- and else that is why.
-        pub space-not-loaded : (fault : Fault) → LoadsAllocator old H.fields (Err fault) new → NotLoaded (header_for writable f) old new fault
-        space-not-loaded fault loaded = counts-why fault
-            (subst (λ (x : Bytes). WhyNotLoaded block_words (layout_of H.fields)
-            (words_in x H.fields.refcount_table_offset (refcount_table_entries H.fields)) old.faults new.faults fault) same (loaded.err counts-placed))
+      -- What keeps the free space from being loaded keeps the file from being opened.
+      pub space-refused : l1_table_sound f H.fields ≡ true → (old new : StorageState) (fault : Fault)
+          → WhyNoSpace f H.fields writable old.faults new.faults fault → NotLoaded (header_for writable f) old new fault
+      space-refused sound old new Memory why = why
+      space-refused sound old new Storage why = why
+      space-refused sound old new DamagedTable why = (counts-refused sound why.0 why.1, why.2)
+      space-refused sound old new fault why = absurd why

@@ -1,6 +1,6 @@
 -- What requests that change nothing do to an image.
-use Rattle.std.proofs.Common.{◌≡◌, ℕ, ◌≤◌, arith, ap, sym, subst, ◌∙◌, Bool, List, None, Result, Ok, Err, inl}
-use Rattle.std.specs.Prelude.{IsTrue, IsOk, IsSome, OnOk, OnErr, IfErr, Option}
+use Rattle.std.proofs.Common.{◌≡◌, ℕ, ◌≤◌, arith, ap, sym, subst, ◌∙◌, Bool, List, Some, None, Result, Ok, Err, inl}
+use Rattle.std.specs.Prelude.{[], IsTrue, IsOk, IsSome, IfSome, OnOk, OnErr, IfErr, Option}
 use Rattle.std.specs.Borrow.{RattleType}
 use Rattle.imago_storage.specs.State.{Shape, StorageState}
 use Rattle.imago_storage.specs.Calls.{Kept, Later, IsFaultless, CountsFaults}
@@ -12,31 +12,31 @@ use Rattle.imago_storage.specs.Steps.{Call}
 use Rattle.imago_access.proofs.Marking.{plain_mild}
 use Rattle.imago_access.specs.Files.{WasNotCutOff, IsMild, ImageCause, files}
 use Rattle.imago_access.specs.PartCalls.{PartCall, PartRefused}
-use Rattle.imago_access.specs.Going.{Marks}
+use Rattle.imago_access.specs.Going.{Marks, Went}
 use Rattle.imago_access.specs.Layer.{Layer, Meaning}
 use Rattle.imago_access.specs.Parts.{DeclinableCause}
 use Rattle.imago_access.specs.Stops.{IsMeant}
 use Rattle.imago_access.specs.declared.seen.Seen.{Ghosts as SeenGhosts}
 use Rattle.qcow2_types.specs.Bytes.{bytes_of}
-use Rattle.qcow2_types.specs.Header.{Header}
+use Rattle.qcow2_types.specs.Consistency.{IsConsistent}
+use Rattle.qcow2_types.specs.Header.{Fields, Header}
+use Rattle.qcow2_clusters.specs.declared.space.Space.{Space}
 use Rattle.qcow2_image.specs.contracts.qcow2.Qcow2Seen.TheImpl.{ghosts}
 use Rattle.qcow2_image.specs.declared.qcow2.Qcow2.{Qcow2}
 use Rattle.qcow2_image.specs.declared.qcow2.PreparedMappingState.{PreparedMappingState}
 use Rattle.qcow2_image.specs.declared.mode.OpenMode.{OpenMode}
 use Rattle.qcow2_image.specs.declared.tables.Tables.{Tables}
-use Rattle.qcow2_image.specs.ImageLayer.{blank_of, cells, qcow2_layer, meaning_of}
+use Rattle.qcow2_image.specs.ImageLayer.{blank_of, cells, qcow2_fixed, qcow2_layer, meaning_of}
 use Rattle.imago_access.specs.Layer.{IsFree}
 use Rattle.qcow2_image.specs.HeldHomes.{none-held, none-unspent}
 use Rattle.qcow2_image.specs.Holding.{Holding}
+use Rattle.qcow2_image.specs.Opening.{IsSpaceOpened}
 use Rattle.qcow2_image.specs.Rooms.{IsSafe, Sees}
 use Rattle.qcow2_image.specs.Unspent.{holding_in}
 use Rattle.qcow2_image.specs.Seen.{IsSeen, file_of, memory_of, layer_of}
 use Rattle.qcow2_image.specs.Steps.{KeepsImage, failed_anew, failed_behind, failed_by, Reloads}
+use Rattle.qcow2_image.proofs.JustOpened.{opened-space}
 use Rattle.qcow2_image.proofs.Steps.{layer-by, marks-kept, memory-is}
-
-pub on-ok : {T : Type 0} (r : Result T Fault) (P : Type 0) → P → OnOk r P
-on-ok (Ok v) P p = p
-on-ok (Err e) P p = tt
 
 -- What a call keeps that wasn't cut off is kept by one that succeeded.
 pub ok-whole : {T : Type 0} (r : Result T Fault) (P : Type 0) → (WasNotCutOff r → P) → OnOk r P
@@ -105,10 +105,10 @@ meant g t mode failed number hold seen =
     }
 
 -- What a call answered that read all anew, once that has marked the image.
-pub reloads-settled : {S : Type 0} (g : Ghosts S) (old new : Qcow2 S g) (mid : Tables S g) (answer result : Result Unit Fault) → Reloads g old.tables answer mid → result ≡ answer → new ≡ record old { tables = mid; failed = failed_behind failed_anew answer old.failed }
-    → Reloads g old.tables result new.tables × (new.mode ≡ old.mode) × (new.number ≡ old.number) × (new.unspent ≡ old.unspent) × (new.failed ≡ failed_behind failed_anew result old.failed)
+pub reloads-settled : {S : Type 0} (g : Ghosts S) (old new : Qcow2 S g) (mid : Tables S g) (answer result : Result Unit Fault) → Reloads g old.mode.writable old.tables answer mid → result ≡ answer → new ≡ record old { tables = mid; failed = failed_behind failed_anew answer old.failed }
+    → Reloads g old.mode.writable old.tables result new.tables × (new.mode ≡ old.mode) × (new.number ≡ old.number) × (new.unspent ≡ old.unspent) × (new.failed ≡ failed_behind failed_anew result old.failed)
 reloads-settled g old new mid answer result all same is = (
-  subst (λ t. Reloads g old.tables result t) (sym (ap (λ (x : Qcow2 _ g). x.tables) is)) (subst (λ r. Reloads g old.tables r mid) (sym same) all),
+  subst (λ t. Reloads g old.mode.writable old.tables result t) (sym (ap (λ (x : Qcow2 _ g). x.tables) is)) (subst (λ r. Reloads g old.mode.writable old.tables r mid) (sym same) all),
   ap (λ (x : Qcow2 _ g). x.mode) is,
   ap (λ (x : Qcow2 _ g). x.number) is,
   ap (λ (x : Qcow2 _ g). x.unspent) is,
@@ -116,7 +116,7 @@ reloads-settled g old new mid answer result all same is = (
 )
 
 -- All is read anew, while nothing is prepared.
-module _ (R : RattleType) (st : Ghosts R.Denot) (sd : mir.Syntax.Dict) (dd : mir.Syntax.Dict) (old new : Qcow2 R.Denot st) (result : Result Unit Fault) (all : Reloads st old.tables result new.tables)
+module _ (R : RattleType) (st : Ghosts R.Denot) (sd : mir.Syntax.Dict) (dd : mir.Syntax.Dict) (old new : Qcow2 R.Denot st) (result : Result Unit Fault) (all : Reloads st old.mode.writable old.tables result new.tables)
     (mode : new.mode ≡ old.mode) (number : new.number ≡ old.number) (unspent : new.unspent ≡ old.unspent) (free : IsFree (layer_of st old))
     (failed : new.failed ≡ failed_behind failed_anew result old.failed) where
   abbrev sees : SeenGhosts (Qcow2 R.Denot st) PreparedMappingState
@@ -135,33 +135,70 @@ module _ (R : RattleType) (st : Ghosts R.Denot) (sd : mir.Syntax.Dict) (dd : mir
   layer-same failed header = layer-by (st.state old.tables.file.image) (st.state new.tables.file.image) (memory_of st old.tables) (memory_of st new.tables) old.tables.file.header.fields new.tables.file.header.fields old.mode new.mode old.number new.number old.failed new.failed (holding_in st old.unspent) (holding_in st new.unspent) all.kept.shape all.kept.bytes
       (memory-is st new.tables ∙ ap bytes_of all.kept.bytes ∙ sym (memory-is st old.tables)) (ap (λ (H : Header). H.fields) header) mode number failed hold-same
 
-  sees-anew : IsSeen st new.tables → new.tables.space ≡ None → Sees st new
-  sees-anew seen space = record { seen = seen; sure = inl (nothing-prepared, rw space tt) }
+  abbrev Opened : Type 0
+  Opened = IsSpaceOpened (st.state new.tables.file.image) new.tables.file.header.fields old.mode.writable new.tables.space
 
-  safe-anew : new.failed ≡ old.failed → new.tables.file.header ≡ old.tables.file.header → new.tables.space ≡ None → IsSeen st new.tables → IsSafe st old → IsSafe st new
-  safe-anew failed header space seen safe = record {
-    runs = failed ∙ safe.runs;
-    keeps = subst (λ (x : Shape). IsTrue x.keeps) (sym all.kept.shape) safe.keeps;
-    consistent = rw (ap bytes_of all.kept.bytes, header) safe.consistent;
-    seen = seen;
-    sound = rw space tt;
-    held = rw none-prepared tt;
-    writable = λ some. absurd (cc (subst IsSome nothing-prepared some));
-  }
+  idle-anew : (o : Option Space) → IsSpaceOpened (st.state new.tables.file.image) new.tables.file.header.fields old.mode.writable o
+      → IfSome o (λ space. space.to_free.entries ≡ [])
+  idle-anew None opened = tt
+  idle-anew (Some space) opened = opened.idle
+
+  sees-anew : IsSeen st new.tables → Opened → Sees st new
+  sees-anew seen opened = record { seen = seen; sure = inl (nothing-prepared, idle-anew new.tables.space opened) }
+
+  safe-anew : new.failed ≡ old.failed → new.tables.file.header ≡ old.tables.file.header → Opened → IsSeen st new.tables → IsSafe st old → IsSafe st new
+  safe-anew failed header opened seen safe =
+      let consistent : IsConsistent (file_of st new.tables) new.tables.file.header = rw (ap bytes_of all.kept.bytes, header) safe.consistent in record {
+        runs = failed ∙ safe.runs;
+        keeps = subst (λ (x : Shape). IsTrue x.keeps) (sym all.kept.shape) safe.keeps;
+        consistent = consistent;
+        seen = seen;
+        sound = opened-space st new.tables consistent old.mode.writable new.tables.space opened;
+        held = rw none-prepared tt;
+        writable = λ some. absurd (cc (subst IsSome nothing-prepared some));
+      }
 
   pub anew-same : IsSeen st old.tables → OnOk result ((layer_of st new ≡ layer_of st old) × Sees st new)
   anew-same seen = from result failed (all.same seen) all.anew all.space where
     from : (r : Result Unit Fault) → new.failed ≡ failed_behind failed_anew r old.failed → OnOk r (new.tables.file.header ≡ old.tables.file.header) → OnOk r (IsSeen st new.tables)
-        → OnOk r (new.tables.space ≡ None) → OnOk r ((layer_of st new ≡ layer_of st old) × Sees st new)
+        → OnOk r Opened → OnOk r ((layer_of st new ≡ layer_of st old) × Sees st new)
     from (Ok v) same header anew space = (layer-same same header, sees-anew anew space)
     from (Err fault) same header anew space = tt
 
   pub anew-safely : IsOk result → IsSafe st old → IsSafe st new
   anew-safely ok safe = from result failed (all.same safe.seen) all.anew all.space ok where
     from : (r : Result Unit Fault) → new.failed ≡ failed_behind failed_anew r old.failed → OnOk r (new.tables.file.header ≡ old.tables.file.header) → OnOk r (IsSeen st new.tables)
-        → OnOk r (new.tables.space ≡ None) → IsOk r → IsSafe st new
+        → OnOk r Opened → IsOk r → IsSafe st new
     from (Ok v) same header anew space ok = safe-anew same header space anew safe
     from (Err fault) same header anew space ok = absurd (cc ok)
+
+  fixed-anew : (layer_of st new).fixed ≡ (layer_of st old).fixed
+  fixed-anew =
+      let h = ap (λ (H : Header). H.fields) all.places in λ i. qcow2_fixed (all.kept.shape i)
+      (record old.tables.file.header.fields {
+        version = sym (ap (λ (x : Fields). x.version) h) i;
+        cluster_bits = sym (ap (λ (x : Fields). x.cluster_bits) h) i;
+      })
+      (mode i) (number i)
+
+  pub anew-went : Went sees (IsOk result) (IsOk result) old new
+  anew-went = record {
+    fixed = fixed-anew;
+    failed = from result failed;
+    later = ((all.kept.shape, all.later), tt);
+    faults = λ ok. (on-success result ok all.faults, tt);
+    safely = anew-safely;
+    lasting = λ l. l;
+  } where
+    from : (r : Result Unit Fault) → new.failed ≡ failed_behind failed_anew r old.failed → IsTrue old.failed → IsTrue new.failed
+    from (Ok v) is was = subst IsTrue (sym is) was
+    from (Err Memory) is was = subst IsTrue (sym is) was
+    from (Err fault) is was = is
+
+    on-success : (r : Result Unit Fault) → IsOk r → OnOk r (IsFaultless (st.state old.tables.file.image) (st.state new.tables.file.image))
+        → IsFaultless (st.state old.tables.file.image) (st.state new.tables.file.image)
+    on-success (Ok v) ok faultless = faultless
+    on-success (Err fault) ok faultless = absurd (cc ok)
 
   pub anew-marks : IfErr result (Marks sees old new)
   anew-marks = from result failed all.left where

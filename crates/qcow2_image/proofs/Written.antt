@@ -52,7 +52,7 @@ use Rattle.qcow2_image.specs.Unspent.{holding_in}
 use Rattle.qcow2_image.specs.Writing.{IsHomeAt, WhyNotTold, WritesAt}
 use Rattle.qcow2_image.proofs.Needing.{since-as, wrote-byte}
 use Rattle.qcow2_image.proofs.Preparing.{safe-undamaged, went-kept}
-use Rattle.qcow2_image.proofs.Settling.{on-ok}
+use Rattle.qcow2_image.proofs.Anew.{on-ok}
 use Rattle.qcow2_image.proofs.Steps.{looked-kept, takes-kept}
 use Rattle.qcow2_image.specs.Steps.{KeepsImage}
 use Rattle.qcow2_image.specs.contracts.qcow2.Qcow2Seen.TheImpl.{ghosts}

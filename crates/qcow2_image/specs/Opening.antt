@@ -1,6 +1,6 @@
 -- What an image is right after it was opened, and why it isn't opened.
-use Rattle.std.specs.Prelude.{◌≡◌, ⊤, ℕ, Bool, false, not, ◌&&◌, ◌||◌, ◌==◌, List, [], ◌∷◌, Option, Some, None, IfSome, Ok, Err, Result, is_some}
-use Rattle.imago_storage.specs.State.{MayFail, StorageState}
+use Rattle.std.specs.Prelude.{◌≡◌, ⊤, ℕ, Bool, true, false, not, ◌&&◌, ◌||◌, ◌==◌, List, [], ◌∷◌, Option, Some, None, IfSome, Ok, Err, Result, is_some}
+use Rattle.imago_storage.specs.State.{MayFail, Rose, StorageState}
 use Rattle.imago_storage.specs.declared.fault.Fault.{Fault}
 use Rattle.imago_storage.specs.declared.fault.Fault.TheVariants.{DamagedTable, Memory, Storage, Unsupported}
 use Rattle.imago_storage.specs.declared.storage.Storage.{Ghosts}
@@ -38,6 +38,14 @@ abbrev pub WhyNotOpened : {S : Type 0} → (S → StorageState) → Bool → Byt
 WhyNotOpened state writable f Memory = ⊤
 WhyNotOpened state writable f Storage = MayFail state
 WhyNotOpened state writable f fault = header_for writable f ≡ Err fault
+
+-- Why the free space of an image isn't loaded, which is asked of one that is to be written alone: a word of its refcount table has no
+-- meaning, or memory was wanting, or the storage has failed.
+abbrev pub WhyNoSpace : Bytes → Fields → (writable : Bool) → (before after : ℕ) → Fault → Type 0
+WhyNoSpace f h writable before after DamagedTable = (writable ≡ true) × (refcount_table_sound f h ≡ false) × (after ≡ before)
+WhyNoSpace f h writable before after Memory = after ≡ before
+WhyNoSpace f h writable before after Storage = Rose before after
+WhyNoSpace f h writable before after fault = ⊥
 
 -- What is known of the free space of an image right after it was opened: its refcount table, where it is to be written, and else nothing.
 -- Nothing waits to be freed.

@@ -1,5 +1,5 @@
 -- When an image has failed behind a call, and what reading its tables anew does.
-use Rattle.std.specs.Prelude.{◌≡◌, ◌≢◌, ◌⊎◌, ⊤, [], ℕ, Bool, true, false, None, Result, Ok, Err, OnOk, OnErr, IfErr}
+use Rattle.std.specs.Prelude.{◌≡◌, ◌≢◌, ◌⊎◌, ⊤, [], ◌∷◌, ℕ, Bool, true, false, not, ◌&&◌, Result, Ok, Err, OnOk, OnErr, IfErr}
 use Rattle.imago_storage.specs.State.{Rose}
 use Rattle.imago_storage.specs.Calls.{Kept, Later, IsFaultless, Cause}
 use Rattle.imago_storage.specs.declared.fault.Fault.{Fault}
@@ -7,12 +7,13 @@ use Rattle.imago_storage.specs.declared.fault.Fault.TheVariants.{DamagedHeader, 
 use Rattle.imago_storage.specs.declared.storage.Storage.{Ghosts}
 use Rattle.imago_access.specs.Files.{WasNotCutOff}
 use Rattle.qcow2_types.specs.Bytes.{Bytes}
-use Rattle.qcow2_types.specs.Header.{Header, header_of}
+use Rattle.qcow2_types.specs.Counts.{refcount_table_sound}
+use Rattle.qcow2_types.specs.Header.{Header, first_fault, header_of, ◌and-then◌, ◌>>=◌}
 use Rattle.qcow2_metadata.specs.Updates.{with_places_of}
 use Rattle.qcow2_alloc.specs.Caches.{HasRoomOf, cached_in}
 use Rattle.qcow2_image.specs.declared.qcow2.Qcow2.{Qcow2}
 use Rattle.qcow2_image.specs.declared.tables.Tables.{Tables}
-use Rattle.qcow2_image.specs.Opening.{header_for}
+use Rattle.qcow2_image.specs.Opening.{IsSpaceOpened, header_for}
 use Rattle.qcow2_image.specs.Seen.{IsSeen, file_of}
 
 -- whether an image has failed behind a refusal: a storage's fault marks it
@@ -41,21 +42,30 @@ abbrev pub IsFirstFault : Header → Header → Fault → Fault → Type 0
 IsFirstFault loaded H fault first =
     ((with_places_of loaded H ≡ loaded) × (first ≡ fault)) ⊎ ((with_places_of loaded H ≢ loaded) × (first ≡ Unsupported))
 
--- Why the tables of an image with this header can't be read anew: by what keeps its file from being opened, by what can't change in an open
--- image, which comes before the L1 table, for want of memory, or by a storage that failed.
-abbrev pub WhyNotReloaded : Bytes → Header → ℕ → ℕ → Fault → Type 0
-WhyNotReloaded f H before after DamagedHeader = header_for false f ≡ Err DamagedHeader
-WhyNotReloaded f H before after DamagedTable = (header_for false f ≡ Err DamagedTable) × (DiffersElsewhere (header_of false f) H → ⊥)
-WhyNotReloaded f H before after Unsupported = (header_for false f ≡ Err Unsupported) ⊎ DiffersElsewhere (header_of false f) H
-WhyNotReloaded f H before after (Limit bound) = header_for false f ≡ Err (Limit bound)
-WhyNotReloaded f H before after Memory = ⊤
-WhyNotReloaded f H before after Storage = Rose before after
-WhyNotReloaded f H before after fault = ⊥
+-- The header by which an image is read anew, that is written or not, or the first rule that its file breaks: those of an image that is
+-- opened for reading; and where it is written, each word of its refcount table has a meaning.
+unfoldable pub header_anew : Bool → Bytes → Result Header Fault
+header_anew writable f =
+    header_for false f >>= λ H. first_fault ((writable && not (refcount_table_sound f H.fields), DamagedTable) ∷ []) and-then Ok H
 
--- They are read anew: what is in memory is then what the file says, whatever it was, and nothing else is cached or known of the free
--- space. The header stays but for the size and the places of tables. A refusal leaves what was in memory. Where that was what the file
--- says, the header stays whole, and only want of memory and a storage that failed refuse.
-pub record Reloads {S : Type 0} (g : Ghosts S) (old : Tables S g) (result : Result Unit Fault) (new : Tables S g) : Type 0 where
+-- Why the tables of an image with this header, that is written or not, can't be read anew: by such a rule, by what can't change in an open
+-- image, which comes before the tables, for want of memory, or by a storage that failed.
+abbrev pub WhyNotReloaded : (writable : Bool) → Bytes → Header → ℕ → ℕ → Fault → Type 0
+WhyNotReloaded writable f H before after DamagedHeader = header_anew writable f ≡ Err DamagedHeader
+WhyNotReloaded writable f H before after DamagedTable =
+    (header_anew writable f ≡ Err DamagedTable) × (DiffersElsewhere (header_of false f) H → ⊥)
+WhyNotReloaded writable f H before after Unsupported = (header_anew writable f ≡ Err Unsupported) ⊎ DiffersElsewhere (header_of false f) H
+WhyNotReloaded writable f H before after (Limit bound) = header_anew writable f ≡ Err (Limit bound)
+WhyNotReloaded writable f H before after Memory = ⊤
+WhyNotReloaded writable f H before after Storage = Rose before after
+WhyNotReloaded writable f H before after fault = ⊥
+
+-- They are read anew: what is in memory is then what the file says, whatever it was, nothing else is cached, and what is known of the free
+-- space of an image that is written is what it is right after opening. The header stays but for the size and the places of tables. A
+-- refusal leaves what was in memory. Where that was what the file says, the header stays whole, and only want of memory, a storage that
+-- failed and a refcount table that is damaged by now refuse.
+pub record Reloads {S : Type 0} (g : Ghosts S) (writable : Bool) (old : Tables S g) (result : Result Unit Fault) (new : Tables S g)
+    : Type 0 where
   pub kept : Kept (g.state old.file.image) (g.state new.file.image)
   pub later : Later (g.state old.file.image) (g.state new.file.image)
   pub faults : OnOk result (IsFaultless (g.state old.file.image) (g.state new.file.image))
@@ -63,11 +73,13 @@ pub record Reloads {S : Type 0} (g : Ghosts S) (old : Tables S g) (result : Resu
   pub anew : OnOk result (IsSeen g new)
   pub empty : OnOk result (cached_in new.caches ≡ record { tables = []; blocks = [] })
   pub room : HasRoomOf old.caches new.caches
-  pub space : OnOk result (new.space ≡ None)
+  pub space : OnOk result (IsSpaceOpened (g.state new.file.image) new.file.header.fields writable new.space)
   pub same : IsSeen g old → OnOk result (new.file.header ≡ old.file.header)
   pub left : OnErr result ((new.file.header ≡ old.file.header) × (new.l1 ≡ old.l1) × (new.caches ≡ old.caches) × (new.space ≡ old.space))
-  pub cause : IfErr result (WhyNotReloaded (file_of g old) old.file.header (g.state old.file.image).faults (g.state new.file.image).faults)
-  pub known : IsSeen g old → IfErr result (Cause (g.state old.file.image).faults (g.state new.file.image).faults)
+  pub cause : IfErr result (WhyNotReloaded writable (file_of g old) old.file.header (g.state old.file.image).faults
+      (g.state new.file.image).faults)
+  pub known : IsSeen g old → (writable ≡ true → refcount_table_sound (file_of g old) old.file.header.fields ≡ true)
+      → IfErr result (Cause (g.state old.file.image).faults (g.state new.file.image).faults)
 
 -- A call that writes nothing, and drops nothing that was read.
 pub record KeepsTables {S T : Type 0} (g : Ghosts S) (old : Tables S g) (result : Result T Fault) (new : Tables S g) : Type 0 where

@@ -436,12 +436,12 @@ impl<S: Storage> FormatDriverInstance for Qcow2<S> {
         // It is marked as failed behind each refusal but want of memory.
         ensures marked { self.new.failed ≡ failed_behind failed_anew result self.old.failed }
         // What is in memory is then what the file says, whatever it was before, and nothing else is cached; a refusal leaves what it was.
-        ensures reloads { self.old.failed ≡ false → Reloads S.Storage self.old.tables result self.new.tables }
+        ensures reloads { self.old.failed ≡ false → Reloads S.Storage self.old.mode.writable self.old.tables result self.new.tables }
     {
         if self.failed {
             return Err(Fault::Failed);
         }
-        let answer = reload(&mut self.tables, alloc);
+        let answer = reload(&mut self.tables, alloc, self.mode.writable);
         self.settle_anew(answer)
     }
 

@@ -6,11 +6,11 @@ ghost use Rattle.imago_storage.specs.declared.fault.Fault.TheVariants.{DamagedTa
 ghost use Rattle.imago_access.specs.Building.{IsOpened};
 ghost use Rattle.imago_access.specs.declared.format.Format.TheVariants as format;
 ghost use Rattle.qcow2_types.specs.Bytes.{bytes_of};
-ghost use Rattle.qcow2_types.specs.Entries.{l1_table_sound};
+ghost use Rattle.qcow2_types.specs.Counts.{refcount_table_sound};
 ghost use Rattle.qcow2_types.specs.Header.{header_of, has_external_data};
 ghost use Rattle.qcow2_metadata.specs.Loading.{file, NotLoaded};
 ghost use Rattle.qcow2_alloc.specs.Opening.{IsL1Of};
-ghost use Rattle.qcow2_image.specs.Opening.{header_for, WhyNotOpened, IsJustOpened, IsOpenedAs, IsSpaceOpened, is_qcow2};
+ghost use Rattle.qcow2_image.specs.Opening.{header_for, WhyNotOpened, WhyNoSpace, IsJustOpened, IsOpenedAs, IsSpaceOpened, is_qcow2};
 
 use crate::cache_entries::CacheEntries;
 use crate::mode::OpenMode;
@@ -93,18 +93,19 @@ fn load_metadata<S: Storage>(
 
 // The free space of an image with this header that is to be written; of another nothing is known. Nothing but reads is asked of the
 // storage.
-fn load_free_space<S: Storage>(
+pub(crate) fn load_free_space<S: Storage>(
     alloc: Global,
     file: &mut ImageFile<S>,
     writable: bool,
 ) -> Result<Option<Space>, Fault>
-    requires loads { header_of writable (bytes_of (S.state file.old.image).bytes) ≡ Ok file.old.header }
-    requires inside { has_external_data file.old.header.fields ≡ false }
-    requires l1 { l1_table_sound (bytes_of (S.state file.old.image).bytes) file.old.header.fields ≡ true }
+    requires loads { header_of false (bytes_of (S.state file.old.image).bytes) ≡ Ok file.old.header }
     ensures ok { IfOk result (IsSpaceOpened (S.state file.old.image) file.old.header.fields writable) }
-    ensures allowed { OnOk result (header_for writable (bytes_of (S.state file.old.image).bytes) ≡ Ok file.old.header) }
-    ensures err { IfErr result (WhyNotOpened S.state writable (bytes_of (S.state file.old.image).bytes)) }
+    ensures sound { writable ≡ true
+        → OnOk result (refcount_table_sound (bytes_of (S.state file.old.image).bytes) file.old.header.fields ≡ true) }
+    ensures err { let f = bytes_of (S.state file.old.image).bytes in
+        IfErr result (WhyNoSpace f file.old.header.fields writable (S.state file.old.image).faults (S.state file.new.image).faults) }
     ensures same { OnOk result (S.state file.new.image ≡ S.state file.old.image) }
+    ensures kept { Kept (S.state file.old.image) (S.state file.new.image) }
     ensures header { file.new.header ≡ file.old.header }
 {
     if !writable {

@@ -1,21 +1,25 @@
 // Reading the tables of an open image anew.
-ghost use Rattle.std.specs.Prelude.{◌≡◌, ◌≢◌, [], false, Ok, IsOk, OnOk, IfOk, IfErr};
+ghost use Rattle.std.specs.Prelude.{◌≡◌, ◌≢◌, [], true, false, Ok, IsOk, OnOk, IfOk, IfErr};
 ghost use Rattle.imago_storage.specs.Calls.{Cause, Kept, Later};
 ghost use Rattle.imago_storage.specs.declared.fault.Fault.TheVariants.{DamagedTable};
+ghost use Rattle.qcow2_types.specs.Bytes.{bytes_of};
+ghost use Rattle.qcow2_types.specs.Counts.{refcount_table_sound};
 ghost use Rattle.qcow2_types.specs.Header.{header_of, has_external_data};
 ghost use Rattle.qcow2_metadata.specs.Loading.{file, NotLoaded};
 ghost use Rattle.qcow2_alloc.specs.Caches.{cached_in, HasRoomOf};
 ghost use Rattle.qcow2_alloc.specs.Opening.{IsL1Of};
 ghost use Rattle.qcow2_image.specs.Caching.{IsUnpinned};
-ghost use Rattle.qcow2_image.specs.Opening.{header_for};
+ghost use Rattle.qcow2_image.specs.Opening.{IsSpaceOpened, WhyNoSpace, header_for};
 ghost use Rattle.qcow2_image.specs.Steps.{IsFirstFault, Reloads, WhyNotReloaded};
 
-use crate::opening::{load_header, load_l1};
+use crate::opening::{load_free_space, load_header, load_l1};
 use crate::tables::Tables;
 use imago_storage::{Fault, Storage};
-use qcow2_alloc::MetadataCaches;
+use qcow2_alloc::{ImageFile, MetadataCaches};
+use qcow2_clusters::Space;
 use qcow2_metadata::{Header, L1Table};
 use std::alloc::Global;
+use std::mem;
 
 // The header again. The storage drops what it has cached first, so that it is what is below it now.
 fn load_header_anew<S: Storage>(alloc: Global, image: &mut S) -> Result<Header, Fault>
@@ -52,8 +56,8 @@ fn load_anew<S: Storage>(
     ensures loads { IfOk result (λ r. header_of false (file (S.state image.old)) ≡ Ok r.0) }
     ensures inside { IfOk result (λ r. has_external_data r.0.fields ≡ false) }
     ensures l1 { IfOk result (λ r. IsL1Of (file (S.state image.old)) r.0.fields r.1) }
-    ensures err { let f = file (S.state image.old) in
-        IfErr result (WhyNotReloaded f opened.now (S.state image.old).faults (S.state image.new).faults) }
+    ensures err { let f = file (S.state image.old) in (writable : _)
+        → IfErr result (WhyNotReloaded writable f opened.now (S.state image.old).faults (S.state image.new).faults) }
     ensures known { header_of false (file (S.state image.old)) ≡ Ok opened.now → header_for false (file (S.state image.old)) ≡ Ok opened.now
         → IfErr result (Cause (S.state image.old).faults (S.state image.new).faults) }
     ensures same { OnOk result (S.state image.new ≡ S.state image.old) }
@@ -83,20 +87,54 @@ pub(crate) fn drop_cached<S: Storage>(caches: &mut MetadataCaches<S>) -> Result<
     }
 }
 
-// Reads the header and the L1 table anew, and drops what is cached and what is known of the free space. It refuses what opening does, and
-// before the L1 table a header that differs in more than the size and the places of tables. What is in memory changes only once nothing
-// can refuse any more.
-pub(crate) fn reload<S: Storage>(tables: &mut Tables<S>, alloc: Global) -> Result<(), Fault>
-    ensures { Reloads S.Storage tables.old result tables.new }
+// The free space of an image that is written, by the header that was read anew in place of the open one; of another nothing is known. The
+// header comes back.
+fn load_space_anew<S: Storage>(
+    alloc: Global,
+    file: &mut ImageFile<S>,
+    header: Header,
+    writable: bool,
+) -> (Header, Result<Option<Space>, Fault>)
+    requires loads { header_of false (bytes_of (S.state file.old.image).bytes) ≡ Ok header }
+    ensures back { result.0 ≡ header }
+    ensures header { file.new.header ≡ file.old.header }
+    ensures ok { IfOk result.1 (IsSpaceOpened (S.state file.old.image) header.fields writable) }
+    ensures sound { writable ≡ true → OnOk result.1 (refcount_table_sound (bytes_of (S.state file.old.image).bytes) header.fields ≡ true) }
+    ensures err { let f = bytes_of (S.state file.old.image).bytes in
+        IfErr result.1 (WhyNoSpace f header.fields writable (S.state file.old.image).faults (S.state file.new.image).faults) }
+    ensures same { OnOk result.1 (S.state file.new.image ≡ S.state file.old.image) }
+    ensures kept { Kept (S.state file.old.image) (S.state file.new.image) }
+{
+    let mut other = header;
+    mem::swap(&mut file.header, &mut other);
+    let space = load_free_space(alloc, file, writable);
+    mem::swap(&mut file.header, &mut other);
+    (other, space)
+}
+
+// Reads the header and the L1 table anew, and the refcount table of an image that is written, and drops what is cached and what waits to be
+// freed. It refuses what opening for reading does, before the tables a header that differs in more than the size and the places of tables,
+// and a damaged refcount table. What is in memory changes only once nothing can refuse any more.
+pub(crate) fn reload<S: Storage>(
+    tables: &mut Tables<S>,
+    alloc: Global,
+    writable: bool,
+) -> Result<(), Fault>
+    ensures { Reloads S.Storage writable tables.old result tables.new }
 {
     let (header, l1) = match load_anew(alloc, &mut tables.file.image, &tables.file.header) {
         Ok(loaded) => loaded,
         Err(fault) => return Err(fault),
     };
+    let (header, loaded) = load_space_anew(alloc, &mut tables.file, header, writable);
+    let space = match loaded {
+        Ok(space) => space,
+        Err(fault) => return Err(first_fault(header, &tables.file.header, fault)),
+    };
     match tables.file.header.update(&header) {
         Ok(()) => {
             tables.l1 = l1;
-            tables.space = None;
+            tables.space = space;
             drop_cached(&mut tables.caches)
         }
         Err(fault) => Err(fault),

@@ -1,17 +1,37 @@
-use Rattle.std.proofs.Common.{◌≡◌, sym, subst, ◌∙◌, false, Ok}
+use Rattle.std.proofs.Common.{◌≡◌, sym, subst, ◌∙◌, true, false, Ok}
 use Rattle.imago_storage.specs.State.{StorageState}
 use Rattle.qcow2_types.specs.Bytes.{bytes_of}
+use Rattle.qcow2_types.specs.Counts.{refcount_table_sound}
 use Rattle.qcow2_types.specs.Header.{Header, header_of, has_external_data}
 use Rattle.qcow2_metadata.specs.Loading.{file}
 use Rattle.qcow2_alloc.specs.Opening.{IsL1Of}
-use Rattle.qcow2_image.specs.Opening.{IsSpaceOpened, header_for}
+use Rattle.qcow2_image.specs.Opening.{IsSpaceOpened, WhyNoSpace, header_for}
 use Rattle.qcow2_image.proofs.JustOpened.{just-opened}
-use Rattle.qcow2_image.proofs.OpeningRules.{not-opened}
+use Rattle.qcow2_image.proofs.OpeningRules.{none-refused, not-opened, reads-too, space-refused}
 use Rattle.qcow2_image.proofs.opening.open_tables.Goals as goal
 
 pub returns-in-Err-clause-err : goal.returns-in-Err-clause-err
 returns-in-Err-clause-err g c =
     not-opened c.args.writable (file (g.S.Storage.state c.args.image)) g.S.Storage.state c.args.image c.load_metadata.new.image c.in-Err.fault c.in-Err.ensures.err
+
+pub load_free_space-requires : goal.load_free_space-requires
+load_free_space-requires g c =
+    let loaded = c.in-Ok.ensures in record {
+      loads = subst (λ (s : StorageState). header_of false (bytes_of s.bytes) ≡ Ok c.in-Ok.loaded.0) (sym loaded.same)
+          (reads-too c.args.writable (file (g.S.Storage.state c.args.image)) c.in-Ok.loaded.0 loaded.loads);
+    }
+
+pub returns-in-Err-load_free_space-clause-err : goal.returns-in-Err-load_free_space-clause-err
+returns-in-Err-load_free_space-clause-err g c =
+    let w = c.args.writable in
+    let before = g.S.Storage.state c.args.image in
+    let after = g.S.Storage.state c.load_free_space.new.file.image in
+    let loaded = c.in-Ok.ensures in
+    let fault = c.in-Err-load_free_space.fault in
+    not-opened w (file before) g.S.Storage.state c.args.image c.load_free_space.new.file.image fault
+    (space-refused w (file before) c.in-Ok.loaded.0 loaded.loads loaded.inside loaded.l1.sound before after fault
+    (subst (λ (s : StorageState). WhyNoSpace (file s) c.in-Ok.loaded.0.fields w s.faults after.faults fault) loaded.same
+    c.in-Err-load_free_space.ensures.err))
 
 pub returns-clause-ok : goal.returns-clause-ok
 returns-clause-ok g c =
@@ -27,7 +47,8 @@ returns-clause-ok g c =
     (subst (λ (K : Header). has_external_data K.fields ≡ false) (sym header) loaded.inside)
     (subst (λ (K : Header). IsL1Of (file before) K.fields c.in-Ok.loaded.1) (sym header) loaded.l1)
     (subst (λ (K : Header). header_for w (file before) ≡ Ok K) (sym header)
-    (subst (λ (s : StorageState). header_for w (bytes_of s.bytes) ≡ Ok c.in-Ok.loaded.0) loaded.same spaced.allowed))
+    (none-refused w (file before) c.in-Ok.loaded.0 loaded.loads loaded.inside loaded.l1.sound
+    (subst (λ (s : StorageState). w ≡ true → refcount_table_sound (file s) c.in-Ok.loaded.0.fields ≡ true) loaded.same spaced.sound)))
     c.in-Ok-new.ensures.empty.0 c.in-Ok-new.ensures.empty.1
     (subst (λ (K : Header). IsSpaceOpened before K.fields w c.in-Ok-load_free_space.space) (sym header)
     (subst (λ (s : StorageState). IsSpaceOpened s c.in-Ok.loaded.0.fields w c.in-Ok-load_free_space.space) loaded.same spaced.ok))

@@ -7,14 +7,14 @@ use Rattle.qcow2_image.proofs.Anew.{header-why, first-why}
 use Rattle.qcow2_image.proofs.reloading.load_anew.Goals as goal
 
 pub returns-in-Err-clause-err : goal.returns-in-Err-clause-err
-returns-in-Err-clause-err g c =
+returns-in-Err-clause-err g c = λ w.
     let old = g.S.Storage.state c.args.image.now in
-    header-why (file old) c.args.opened.now old (g.S.Storage.state c.load_header_anew.new.image) c.in-Err.fault c.in-Err.ensures.err c.in-Err.ensures.first
+    header-why w (file old) c.args.opened.now old (g.S.Storage.state c.load_header_anew.new.image) c.in-Err.fault c.in-Err.ensures.err c.in-Err.ensures.first
 
 pub returns-in-Err-load_l1-clause-err : goal.returns-in-Err-load_l1-clause-err
-returns-in-Err-load_l1-clause-err g c =
+returns-in-Err-load_l1-clause-err g c = λ w.
     let old = g.S.Storage.state c.args.image.now in
     let new = g.S.Storage.state c.load_l1.new.image in
     let why = subst (λ (s : StorageState). NotLoaded (header_for false (file s)) s new c.in-Err-load_l1.fault) c.in-Ok.ensures.same
     (c.in-Err-load_l1.ensures.err false (subst (λ (s : StorageState). header_of false (file s) ≡ Ok c.in-Ok.header) (sym c.in-Ok.ensures.same) c.in-Ok.ensures.loads)) in
-    first-why (file old) c.args.opened.now c.in-Ok.header old new c.in-Err-load_l1.fault c.first_fault.result c.in-Ok.ensures.loads c.first_fault.ensures why
+    first-why w (file old) c.args.opened.now c.in-Ok.header c.in-Ok.ensures.loads old new c.in-Err-load_l1.fault c.first_fault.result c.first_fault.ensures why

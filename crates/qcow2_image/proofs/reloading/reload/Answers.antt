@@ -1,8 +1,21 @@
-use Rattle.std.proofs.Common.{false, rules, ◌≡◌, refl}
+use Rattle.std.proofs.Common.{false, rules, ◌≡◌, ◌≢◌, Ok, refl, sym, subst, ◌∙◌}
+use Rattle.std.specs.Prelude.{IfErr, IfOk, OnOk}
+use Rattle.imago_storage.specs.Calls.{Kept}
+use Rattle.imago_storage.specs.State.{StorageState}
+use Rattle.qcow2_types.specs.Header.{Header, header_of}
 use Rattle.qcow2_metadata.specs.Loading.{file}
-use Rattle.qcow2_image.proofs.Anew.{updating-why, never-differs}
+use Rattle.qcow2_metadata.specs.Updates.{with_places_of}
+use Rattle.qcow2_image.specs.Opening.{IsSpaceOpened, WhyNoSpace}
+use Rattle.qcow2_image.specs.Steps.{IsFirstFault}
+use Rattle.qcow2_image.proofs.Anew.{counts-fine, counts-later, first-counts, never-differs, on-ok, seen-anew, updating-why}
 use Rattle.qcow2_image.proofs.OpeningRules.{none-refused}
 use Rattle.qcow2_image.proofs.reloading.reload.Goals as goal
+
+pub load_space_anew-header-requires : goal.load_space_anew-header-requires
+load_space_anew-header-requires g c =
+    let loaded = c.in-Ok.ensures in record {
+      loads = subst (λ (s : StorageState). header_of false (file s) ≡ Ok c.in-Ok.loaded.0) (sym loaded.same) loaded.loads;
+    }
 
 pub returns-in-Err : goal.returns-in-Err
 returns-in-Err g c =
@@ -17,29 +30,96 @@ returns-in-Err g c =
       space = search rules;
       same = search rules;
       left = search rules;
-      cause = c.in-Err.ensures.err;
-      known = λ seen. c.in-Err.ensures.known seen.loads (none-refused false (file old) c.args.tables.now.file.header seen.loads seen.inside seen.l1.sound (λ w. absurd (cc w)));
+      cause = c.in-Err.ensures.err c.args.writable;
+      known = λ seen sound. c.in-Err.ensures.known seen.loads (none-refused false (file old) c.args.tables.now.file.header seen.loads seen.inside seen.l1.sound (λ w. absurd (cc w)));
     }
 
-pub returns : goal.returns
-returns g c =
+pub returns-in-Err-loaded : goal.returns-in-Err-loaded
+returns-in-Err-loaded g c =
     let t = c.args.tables.now in
     let old = g.S.Storage.state t.file.image in
-    let new = g.S.Storage.state c.load_anew.new.image in
+    let mid = g.S.Storage.state c.load_anew.new.image in
+    let new = g.S.Storage.state c.load_space_anew-header.new.file.image in
     let loaded = c.in-Ok.ensures in
-    let refused = c.in-Err-update.ensures in
-    let same : new ≡ old = loaded.same in record {
-      kept = c.load_anew.ensures.kept;
-      later = c.load_anew.ensures.later;
+    let spaced = c.load_space_anew-header.ensures in
+    let H = c.in-Ok.loaded.0 in
+    let fault = c.in-Err-loaded.fault in
+    let first = c.first_fault.result in
+    let why = subst (λ (s : StorageState). WhyNoSpace (file s) H.fields c.args.writable s.faults new.faults fault) loaded.same
+    (subst (λ r. IfErr r (WhyNoSpace (file mid) H.fields c.args.writable mid.faults new.faults)) c.in-Err-loaded.is spaced.err) in
+    let kept = subst (λ (s : StorageState). Kept s new) loaded.same spaced.kept in
+    let opens = none-refused false (file old) H loaded.loads loaded.inside loaded.l1.sound (λ w. absurd (cc w)) in
+    let is = subst (λ (K : Header). IsFirstFault K t.file.header fault first) spaced.back
+    (subst (λ (K : Header). IsFirstFault c.load_space_anew-header.result.0 K fault first) spaced.header c.first_fault.ensures) in record {
+      kept = kept;
+      later = counts-later (file old) H c.args.writable old new fault kept why;
       faults = tt;
-      places = rw refused.err refl;
+      places = search rules;
       anew = tt;
       empty = tt;
       room = search rules;
       space = tt;
       same = λ seen. tt;
-      left = (refused.err, refl, refl, refl);
-      cause = updating-why (file old) t.file.header c.in-Ok.loaded.0 old.faults new.faults c.in-Err-update.fault
-          loaded.loads (λ is. absurd (let ok = refused.allowed.1 is in cc)) refused.fault;
-      known = λ seen. absurd (never-differs (file old) t.file.header c.in-Ok.loaded.0 seen.loads loaded.loads (λ is. absurd (let ok = refused.allowed.1 is in cc)));
+      left = (spaced.header, refl, refl, refl);
+      cause = first-counts c.args.writable (file old) t.file.header H loaded.loads opens old.faults new.faults fault first is why;
+      known = λ seen sound. counts-fine (file old) t.file.header H c.args.writable old.faults new.faults fault first seen.loads loaded.loads sound
+          is why;
+    }
+
+pub returns-in-Err-update : goal.returns-in-Err-update
+returns-in-Err-update g c =
+    let t = c.args.tables.now in
+    let old = g.S.Storage.state t.file.image in
+    let new = g.S.Storage.state c.load_space_anew-header.new.file.image in
+    let mid = g.S.Storage.state c.load_anew.new.image in
+    let loaded = c.in-Ok.ensures in
+    let spaced = c.load_space_anew-header.ensures in
+    let refused = c.in-Err-update.ensures in
+    let H = c.in-Ok.loaded.0 in
+    let same : new ≡ old = subst (λ r. OnOk r (new ≡ mid)) c.in-Ok-loaded.is spaced.same ∙ loaded.same in
+    let differs : with_places_of H t.file.header ≢ H = λ is.
+    let is' = subst (λ (K : Header). with_places_of H K ≡ H) (sym spaced.header) is in
+    absurd (let ok = refused.allowed.1 (subst (λ (K : Header). with_places_of K c.load_space_anew-header.new.file.header ≡ K) (sym spaced.back) is') in cc ok) in record {
+      kept = search rules;
+      later = search rules;
+      faults = tt;
+      places = search rules;
+      anew = tt;
+      empty = tt;
+      room = search rules;
+      space = tt;
+      same = λ seen. tt;
+      left = (refused.err ∙ spaced.header, refl, refl, refl);
+      cause = updating-why c.args.writable (file old) t.file.header H old.faults new.faults c.in-Err-update.fault loaded.loads differs refused.fault;
+      known = λ seen sound. absurd (never-differs (file old) t.file.header H seen.loads loaded.loads differs);
+    }
+
+pub returns-in-Ok-update : goal.returns-in-Ok-update
+returns-in-Ok-update g c =
+    let t = c.args.tables.now in
+    let old = g.S.Storage.state t.file.image in
+    let new = g.S.Storage.state c.load_space_anew-header.new.file.image in
+    let mid = g.S.Storage.state c.load_anew.new.image in
+    let loaded = c.in-Ok.ensures in
+    let spaced = c.load_space_anew-header.ensures in
+    let H = c.in-Ok.loaded.0 in
+    let K = c.update.new.self in
+    let same : new ≡ old = subst (λ r. OnOk r (new ≡ mid)) c.in-Ok-loaded.is spaced.same ∙ loaded.same in
+    let header : K ≡ H = c.in-Ok-update.ensures.ok ∙ spaced.back in
+    let space : IsSpaceOpened mid H.fields c.args.writable c.in-Ok-loaded.space =
+    subst (λ r. IfOk r (IsSpaceOpened mid H.fields c.args.writable)) c.in-Ok-loaded.is spaced.ok in record {
+      kept = search rules;
+      later = search rules;
+      faults = search rules;
+      places = search rules;
+      anew = on-ok c.drop_cached.result _ (seen-anew g.S.Storage _ old H same header c.drop_cached.ensures.empty loaded.loads loaded.inside loaded.l1);
+      empty = search rules;
+      room = search rules;
+      space = on-ok c.drop_cached.result _ (subst (λ (x : Header). IsSpaceOpened new x.fields c.args.writable c.in-Ok-loaded.space) (sym header)
+          (subst (λ (s : StorageState). IsSpaceOpened s H.fields c.args.writable c.in-Ok-loaded.space)
+          (sym (subst (λ r. OnOk r (new ≡ mid)) c.in-Ok-loaded.is spaced.same)) space));
+      same = search rules;
+      left = search rules;
+      cause = search rules;
+      known = search rules;
     }
