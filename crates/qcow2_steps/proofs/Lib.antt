@@ -4,6 +4,7 @@ pub mod WordSteps
 pub mod DataRuns
 pub mod OwnClusters
 pub mod WrittenValues
+pub mod HiddenClusters
 pub mod QuietValues
 pub mod AddingUp
 pub mod Steps

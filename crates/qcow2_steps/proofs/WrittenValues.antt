@@ -49,7 +49,7 @@ module _ (m : Metadata) (first c k : ℕ) (own : AreNamedFor m first c k) (w : B
     (among : (d i j : ℕ) → of_mapping m.header.fields (meets m.header.fields d) (slot w m.header.fields i j)
     ≤ of_either m.header.fields (meets m.header.fields d) (slot m.file m.header.fields i j) (slot (in_memory m) m.header.fields i j)) where
   -- So a guest cluster whose data is there is its own.
-  own-guest : (guest d : ℕ) (copied : Bool) → entry w m.header.fields guest ≡ data_at d copied → c ≤ d → d ≤ c + k → guest ≡ first + (d - c)
+  pub own-guest : (guest d : ℕ) (copied : Bool) → entry w m.header.fields guest ≡ data_at d copied → c ≤ d → d ≤ c + k → guest ≡ first + (d - c)
   own-guest guest d copied is from upto =
       let there = data-slot w m.header was guest d copied is in
       let behind : c + (d - c) ≡ d = omega (arith, from) in

@@ -1,5 +1,5 @@
 -- Bytes are written into clusters in a row in which no table, block or header stands.
-use Rattle.std.specs.Prelude.{◌≡◌, ◌≢◌, ℕ, ◌+◌, ◌*◌, ◌<◌, ◌≤◌, Option, Some}
+use Rattle.std.specs.Prelude.{◌≡◌, ◌≢◌, ℕ, ◌+◌, ◌*◌, ◌<◌, ◌≤◌, Bool, true, Option, Some}
 use Rattle.imago_storage.specs.Disk.{Value, byte}
 use Rattle.qcow2_types.specs.Bytes.{Bytes}
 use Rattle.qcow2_types.specs.Consistency.{IsConsistent}
@@ -10,7 +10,7 @@ use Rattle.qcow2_types.specs.Header.{Fields, cluster_size, words_of_cluster}
 use Rattle.qcow2_types.specs.References.{meets, of_copied, refs, structure}
 use Rattle.qcow2_types.specs.Slots.{Live, slot}
 use Rattle.qcow2_types.specs.Versions.{KeepsSlots, of_either}
-use Rattle.qcow2_types.specs.Words.{Mapping}
+use Rattle.qcow2_types.specs.Words.{Mapping, data_at, zeroes}
 use Rattle.qcow2_alloc.specs.Quiet.{Metadata, counted, in_memory, named_at_all, referenced}
 
 -- x is the file with n other bytes from `at` on, in clusters c to c + k.
@@ -60,3 +60,17 @@ pub record GivesData (h : Fields) (first c at n : ℕ) (x : Bytes) (p : ℕ) (v 
   pub to : q < at + n
   pub place : IsByteOf h first c q p
   pub value : v ≡ Some (byte (x q))
+
+-- A cluster that no place shows by these words: no table, block or header stands in it, and no word has its data there.
+pub record IsHidden (words : Bytes) (h : Fields) (c : ℕ) : Type 0 where
+  pub apart : structure words h (meets h c) ≡ 0
+  pub dataless : (guest : ℕ) (copied : Bool) → entry words h guest ≢ data_at c copied
+
+-- The same by the words of the file, and by those in memory.
+abbrev pub IsHiddenIn : Metadata → ℕ → Type 0
+IsHiddenIn m c = IsHidden m.file m.header.fields c × IsHidden (in_memory m) m.header.fields c
+
+-- A guest cluster reads as zeroes, and keeps this cluster for them, as copied, in the file and in memory.
+pub record IsKeptFor (m : Metadata) (guest c : ℕ) : Type 0 where
+  pub file : entry m.file m.header.fields guest ≡ zeroes (Some c) true
+  pub memory : entry (in_memory m) m.header.fields guest ≡ zeroes (Some c) true

@@ -12,7 +12,7 @@ ghost use Rattle.qcow2_alloc.specs.FreeList.{covers};
 ghost use Rattle.qcow2_alloc.specs.Memory.{Cached};
 ghost use Rattle.qcow2_alloc.specs.Quiet.{Metadata, IsQuiet, IsSound, ShowsEither, counted, covers_metadata, named_at_all, one_at, referenced, waiting};
 ghost use Rattle.qcow2_steps.specs.Advancing.{Advances, MayBeLeft};
-ghost use Rattle.qcow2_steps.specs.Data.{AreNamedFor, GivesData, WritesBeside};
+ghost use Rattle.qcow2_steps.specs.Data.{AreNamedFor, GivesData, IsHiddenIn, WritesBeside};
 ghost use Rattle.qcow2_steps.specs.Words.{DropsNames, GivesWord, IsOfWord, IsReserved, NamesCluster, names_at};
 
 use std::marker::Brand;
@@ -61,6 +61,14 @@ pub fn what_is_quiet_advances()
 pub fn what_is_written_advances()
     ensures { (m : Metadata) (first c k at n : ℕ) (x : Bytes) → IsSound m → WritesBeside m c k at n x → AreNamedFor m first c k
         → Advances (GivesData m.header.fields first c at n x) (IsIn at n) (λ guest. ⊥) (λ _. 0) (λ _. 0) m (record m { file = x }) }
+{}
+
+/// Bytes that are written in a cluster that no place shows give nothing.
+pub fn what_is_hidden_advances()
+    ensures hidden { (m : Metadata) (c at n : ℕ) (x : Bytes) → IsSound m → WritesBeside m c 0 at n x → IsHiddenIn m c
+        → Advances (λ p v. ⊥) (IsIn at n) (λ guest. ⊥) (λ _. 0) (λ _. 0) m (record m { file = x }) }
+    ensures stops { (m : Metadata) (c at n : ℕ) (x y : Bytes) → IsSound m → WritesBeside m c 0 at n x → IsHiddenIn m c
+        → ((q : ℕ) → (y q ≡ m.file q) ⊎ (y q ≡ x q)) → MayBeLeft (λ p v. ⊥) m y m.header }
 {}
 
 /// What is put among what waits to be freed is taken, also where other words name it still. So where a word names less, and what it named

@@ -9,9 +9,9 @@ ghost use Rattle.qcow2_types.specs.Header.{cluster_size, words_of_cluster};
 ghost use Rattle.qcow2_types.specs.References.{meets, structure};
 ghost use Rattle.qcow2_types.specs.Slots.{Live, slot};
 ghost use Rattle.qcow2_types.specs.Words.{data_at};
-ghost use Rattle.qcow2_alloc.specs.Quiet.{Metadata, IsSound, in_memory, named_at_all};
+ghost use Rattle.qcow2_alloc.specs.Quiet.{Metadata, IsSound, IsUsed, in_memory, named_at_all};
 ghost use Rattle.qcow2_steps.specs.Advancing.{MayBeLeft};
-ghost use Rattle.qcow2_steps.specs.Data.{AreNamedFor, GivesData, IsNamedFor, KeepsWords, WritesBeside, copies_at};
+ghost use Rattle.qcow2_steps.specs.Data.{AreNamedFor, GivesData, IsHiddenIn, IsKeptFor, IsNamedFor, KeepsWords, WritesBeside, copies_at};
 ghost use Rattle.qcow2_steps.specs.Values.{memory_value};
 ghost use Rattle.qcow2_steps.specs.Words.{IsReserved};
 
@@ -48,4 +48,13 @@ pub fn what_is_written_shows_at_its_places()
     ensures there { (m : Metadata) (c k at n p d : ℕ) (copied : Bool) (x : Bytes) → IsSound m → WritesBeside m c k at n x
         → entry (in_memory m) m.header.fields (p / cluster_size m.header.fields) ≡ data_at d copied
         → memory_value (record m { file = x }) p ≡ Some (byte (x (d * cluster_size m.header.fields + p % cluster_size m.header.fields))) }
+{}
+
+/// No place shows a cluster that is kept for zeroes as copied, or that is reserved. What is kept is used, and stays kept where bytes are
+/// written beside the structure.
+pub fn what_no_place_shows()
+    ensures kept { (m : Metadata) (guest c : ℕ) → IsSound m → IsKeptFor m guest c → IsHiddenIn m c × IsUsed m c }
+    ensures reserved { (m : Metadata) (c : ℕ) → IsSound m → IsReserved m c → IsHiddenIn m c }
+    ensures stays { (m : Metadata) (c k at n guest d : ℕ) (x : Bytes) → IsSound m → WritesBeside m c k at n x → IsKeptFor m guest d
+        → IsKeptFor (record m { file = x }) guest d }
 {}
