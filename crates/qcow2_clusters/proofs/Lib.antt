@@ -6,6 +6,7 @@ pub mod FreeingWaiting
 pub mod AllocatingOne
 pub mod StoringOne
 pub mod StoringSettled
+pub mod FillingKept
 pub mod LoneTables
 pub mod NamedWords
 pub mod NamedAtRest

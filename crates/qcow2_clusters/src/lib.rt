@@ -4,6 +4,7 @@
 //! Each call says what the image becomes, and which files a stop of the machine may leave in it.
 #![tactic(auto)]
 
+mod filling;
 mod freeing;
 mod making_tables;
 mod naming;
@@ -11,6 +12,7 @@ mod settling;
 mod space;
 mod storing;
 
+pub use filling::fill;
 pub use freeing::free_waiting;
 pub use making_tables::{copy_table, make_table};
 pub use naming::name;

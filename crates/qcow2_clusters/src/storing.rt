@@ -14,7 +14,7 @@ use qcow2_types::{ClusterCount, HostCluster};
 use std::alloc::Global;
 
 // Writes the content of a cluster that words can name.
-fn write_cluster<S: Storage>(
+pub(crate) fn write_cluster<S: Storage>(
     alloc: Global,
     file: &mut ImageFile<S>,
     cluster: HostCluster,

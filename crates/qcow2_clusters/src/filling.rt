@@ -1,0 +1,28 @@
+// The content of a guest cluster is written to the cluster that it keeps for its zeroes.
+ghost use Rattle.std.specs.Prelude.{◌≡◌, length};
+ghost use Rattle.qcow2_types.specs.Header.{cluster_size};
+ghost use Rattle.qcow2_metadata.specs.Places.{IsInReach};
+ghost use Rattle.qcow2_clusters.specs.Filling.{FillsFile};
+
+use crate::storing::write_cluster;
+use imago_storage::{Fault, Storage};
+use qcow2_alloc::ImageFile;
+use qcow2_types::HostCluster;
+use std::alloc::Global;
+
+/// Writes the content of a guest cluster to the host cluster that it keeps for its zeroes, as copied. It reads as zeroes still, until it
+/// comes to name the cluster as its data. Nothing is allocated. Nothing may be cached, since nothing is asked of what is.
+///
+/// It refuses with `Fault::Memory` and `Fault::Storage`: a part may be written then, which no place shows.
+pub fn fill<S: Storage>(
+    alloc: Global,
+    file: &mut ImageFile<S>,
+    cluster: HostCluster,
+    content: &[u8],
+) -> Result<(), Fault>
+    requires reach { IsInReach file.old.header.fields.cluster_bits cluster }
+    requires whole { length content.now ≡ cluster_size file.old.header.fields }
+    ensures { FillsFile S.state cluster content.now file.old result file.new }
+{
+    write_cluster(alloc, file, cluster, content)
+}
