@@ -1,4 +1,5 @@
--- How a guest cluster comes to name a cluster that was reserved: the search of its table, its word, and what is written then.
+-- How a guest cluster comes to name a cluster that was reserved, or kept for it: the search of its table, its word, and what is written
+-- then.
 use Rattle.std.proofs.Common.{◌≡◌, ◌≢◌, ℕ, ◌+◌, ◌*◌, ◌/◌, ◌%◌, ◌^◌, ◌≤◌, refl, arith, ap, sym, subst, ◌∙◌, true, Some, None, Option, List, Result, Ok, Err, inl, inr}
 use Rattle.std.specs.Prelude.{⊤, ◌++◌, IfErr, IsTrue, OnOk, nat_eq}
 use Rattle.std.proofs.lemmas.List.{append-nil}
@@ -12,7 +13,7 @@ use Rattle.qcow2_types.specs.Entries.{entry}
 use Rattle.qcow2_types.specs.Header.{Header, cluster_size, words_of_cluster}
 use Rattle.qcow2_types.specs.Pending.{FreeEntry}
 use Rattle.qcow2_types.specs.Words.{Mapping, data_at, mapping_of}
-use Rattle.qcow2_metadata.specs.Allocations.{allocation_of, freed, holds}
+use Rattle.qcow2_metadata.specs.Allocations.{allocation_of, freed, holds, newly, replaced}
 use Rattle.qcow2_metadata.specs.Places.{IsInReach}
 use Rattle.qcow2_metadata.specs.Tables.{TableValue, mapping_in, table_in, with_word}
 use Rattle.qcow2_alloc.specs.declared.cache.MetadataCaches.{MetadataCaches}
@@ -25,21 +26,20 @@ use Rattle.qcow2_alloc.specs.Finding.{TableFound, WhyNotFound}
 use Rattle.qcow2_alloc.specs.Going.{AreBlocksInReach, AreTablesInReach, IsMild, WasNotCutOff}
 use Rattle.qcow2_alloc.specs.Memory.{Cached}
 use Rattle.qcow2_alloc.specs.Opening.{IsL1Of}
-use Rattle.qcow2_alloc.specs.Quiet.{IsQuiet, IsSound, IsUsed, Metadata, Quietly, counted, in_memory, referenced, waiting}
+use Rattle.qcow2_alloc.specs.Quiet.{IsQuiet, IsSound, IsUsed, Metadata, Quietly, in_memory}
 use Rattle.qcow2_alloc.proofs.Memory.SafeLaws.{clean-memory}
 use Rattle.qcow2_alloc.proofs.Quiet.QuietFlushes.{going-quietly}
 use Rattle.qcow2_alloc.proofs.Quiet.QuietShows.{in-cluster}
 use Rattle.qcow2_alloc.proofs.Quiet.QuietThen.{quietly-then}
 use Rattle.qcow2_steps.proofs.QuietValues.{quiet-entries}
-use Rattle.qcow2_steps.specs.Words.{names_at}
-use Rattle.qcow2_clusters.specs.Naming.{IsNameable, Names, NamesIn, PutsOff, WhyNotNamed, listed_of, named_before, naming}
+use Rattle.qcow2_clusters.specs.Naming.{IsNameable, Names, NamesIn, PutsOff, WhyNotNamed, given_for, listed_of, naming, taken_before}
 use Rattle.qcow2_clusters.specs.Progress.{Kind, Progresses, both, handing}
 use Rattle.qcow2_clusters.specs.Rest.{AreEmpty, Clusters, HasEntries, IsReady, nothing_cached, resting, storage}
 use Rattle.qcow2_clusters.specs.Settling.{Settles, WhyNotSettled}
-use Rattle.qcow2_clusters.proofs.Adding.{AdvancesBy, IsWider, progresses-halted, progresses-in-memory, progresses-then, progresses-weaker, quiet-progresses, wider-both, wider-handing}
+use Rattle.qcow2_clusters.proofs.Adding.{AdvancesBy, progresses-halted, progresses-in-memory, progresses-then, progresses-weaker, quiet-progresses, wider-both, wider-handing}
 use Rattle.qcow2_clusters.proofs.Ending.{settled-cause, settled-faultless}
 use Rattle.qcow2_clusters.proofs.LoneTables.{lone_table, never-full, only-read, refused-empty, used-alone, used-read}
-use Rattle.qcow2_clusters.proofs.NamedWords.{back-all, back-named, freed-data, names-data, old-entry, put-advances, stepping, table-fine, table-near, word-counted, word-named, word-owed, word-unnamed}
+use Rattle.qcow2_clusters.proofs.NamedWords.{WordNamed, freed-data, names-data, old-entry, put-advances, stepping, table-fine, table-near, word-named}
 use Rattle.qcow2_clusters.proofs.Resting.{begun-quietly, l1-stays}
 
 -- Why the search was refused is why the call is: no cache is full.
@@ -94,9 +94,9 @@ module _ {S : Type 0} (state : S → StorageState) (table guest x : ℕ) (c c' :
   abbrev m2 : Metadata
   m2 = resting state c'
 
-  -- what the guest cluster named
+  -- what the guest cluster gives up
   abbrev dropped : List FreeEntry
-  dropped = listed_of (freed (allocation_of c.file.header.fields.cluster_bits (entry m0.file c.file.header.fields guest)))
+  dropped = listed_of (given_for m0 guest x)
 
   -- What came before the writes, and what holds then of a sound image.
   pub record Begun : Type 0 where
@@ -272,8 +272,11 @@ module _ {S : Type 0} (state : S → StorageState) (table guest x : ℕ) (c c' :
         first : IsSound (found-as u.mid) × IsQuiet (λ _. 0) (λ _. 0) m0 (found-as u.mid)
         first = (searched (Ok tt) u.mid u.found).holds ready.0.keeps ready.0.sound tt
 
+        abbrev old : Mapping
+        old = mapping_in u.table column
+
         abbrev step-kind : Kind
-        step-kind = stepping (found-as u.mid) row column x (mapping_in u.table column)
+        step-kind = stepping (found-as u.mid) row column x old before
 
         tables-set : (cached_in mid).tables ≡ hit (nat_eq table) (cached_in u.mid).tables (with_word u.table column (2 ^ 63 + x * cluster_size c.file.header.fields))
         tables-set = ap (λ (k : MetadataCaches S). (cached_in k).tables) u.left ∙ ap (hit (nat_eq table) (cached_in u.mid).tables) u.used.ok.1
@@ -281,49 +284,28 @@ module _ {S : Type 0} (state : S → StorageState) (table guest x : ℕ) (c c' :
         blocks-set : (cached_in mid).blocks ≡ (cached_in u.mid).blocks
         blocks-set = ap (λ (k : MetadataCaches S). (cached_in k).blocks) u.left
 
-        word-set : AdvancesBy step-kind (found-as u.mid) set-image
-            × (entry (in_memory set-image) c.file.header.fields guest ≡ data_at x true)
-            × IsWider step-kind (naming m0 guest x)
-            × IsUsed set-image x
-        word-set =
-            word-named m0 table guest x ready.0.sound able some near (bytes_of s1.bytes) (cached_in u.mid) (order_of c.caches) bytes-same first.0 first.1
-            u.table u.there (cached_in mid) tables-set blocks-set
-
-        abbrev old : Mapping
-        old = mapping_in u.table column
-
         was : old ≡ entry m0.file c.file.header.fields guest
         was = old-entry m0 table guest x ready.0.sound able u.table is-file's
-
-        owed : (d : ℕ) → referenced set-image d + waiting (found-as u.mid) d + names_at m0 old d ≤ counted (found-as u.mid) d
-        owed = word-owed m0 table guest x ready.0.sound able some near (bytes_of s1.bytes) (cached_in u.mid) (order_of c.caches) bytes-same first.0 first.1
-            u.table u.there (cached_in mid) tables-set blocks-set
-
-        unnamed : names_at m0 old x ≡ 0
-        unnamed = word-unnamed m0 table guest x ready.0.sound able some near (bytes_of s1.bytes) (cached_in u.mid) (order_of c.caches) bytes-same first.0 first.1
-            u.table u.there (cached_in mid) tables-set blocks-set
 
         means : mapping_of u.table.layout (2 ^ 63 + x * cluster_size c.file.header.fields) ≡ data_at x true
         means = ap (λ (t : TableValue). mapping_of t.layout (2 ^ 63 + x * cluster_size c.file.header.fields)) is-read
             ∙ names-data m0 x ready.0.sound some near
 
-        back : before ≡ freed (allocation_of c.file.header.fields.cluster_bits old)
-        back = back-all c.file.header.fields x old _ before means u.used.ok.2 u.used.ok.3 unnamed
+        word-set : WordNamed m0 guest x old before (found-as u.mid) set-image
+        word-set =
+            word-named m0 table guest x ready.0.sound able some near (bytes_of s1.bytes) (cached_in u.mid) (order_of c.caches) bytes-same first.0 first.1
+            u.table u.there (cached_in mid) tables-set blocks-set before u.used.ok.2 _ means u.used.ok.3 was
 
-        back-at : (d : ℕ) → holds d before ≡ names_at m0 old d
-        back-at = back-named c.file.header.fields x old _ before means u.used.ok.2 u.used.ok.3 unnamed
+        -- What it handed back is what the guest cluster gives up.
+        gives-up : before ≡ given_for m0 guest x
+        gives-up = u.used.ok.2 ∙ ap (λ (w : Mapping). freed (replaced x (allocation_of c.file.header.fields.cluster_bits w))) was
 
         abbrev put-kind : Kind
         put-kind = handing (λ _. 0) (λ d. holds d before)
 
         put-step : AdvancesBy put-kind set-image put-image
-        put-step = put-advances set-image before word-set.0.sound
-            (λ d. let enough = owed d in let same = back-at d in let counts = counted-still d in omega (arith, enough, same, counts))
-            (rw back (freed-data (allocation_of c.file.header.fields.cluster_bits old)))
-          where
-            counted-still : (d : ℕ) → counted set-image d ≡ counted (found-as u.mid) d
-            counted-still d = word-counted m0 table guest x ready.0.sound able some near (bytes_of s1.bytes) (cached_in u.mid) (order_of c.caches) bytes-same first.0 first.1
-                u.table u.there (cached_in mid) tables-set blocks-set d
+        put-step = put-advances set-image before word-set.step.sound word-set.owed
+            (rw u.used.ok.2 (freed-data (replaced x (allocation_of c.file.header.fields.cluster_bits old))))
 
         set-sound : IsSound m1
         set-sound = subst IsSound same-image put-step.sound
@@ -339,7 +321,7 @@ module _ {S : Type 0} (state : S → StorageState) (table guest x : ℕ) (c c' :
         set-progress =
             let none : Kind = handing (λ _. 0) (λ _. 0) in
             let one = quiet-progresses ⊤ (λ _. 0) (λ _. 0) s0 m0 s1 (found-as u.mid) (λ sound d named. refl) (searched (Ok tt) u.mid u.found) in
-            let two = progresses-in-memory ⊤ step-kind s1 (found-as u.mid) set-image (λ sound yes. word-set.0) in
+            let two = progresses-in-memory ⊤ step-kind s1 (found-as u.mid) set-image (λ sound yes. word-set.step) in
             let put : Progresses ⊤ put-kind s1 set-image s1 m1 =
             subst (Progresses ⊤ put-kind s1 set-image s1) same-image (progresses-in-memory ⊤ put-kind s1 set-image put-image (λ sound yes. put-step)) in
             let three = quiet-progresses (WasNotCutOff result) (λ _. 0) (λ _. 0) s1 m1 s2 m2 (λ sound d named. refl) settled in
@@ -349,14 +331,17 @@ module _ {S : Type 0} (state : S → StorageState) (table guest x : ℕ) (c c' :
             let wide : Kind = naming m0 guest x in
             progresses-weaker (WasNotCutOff result) (result ≡ Ok tt) (both none (both step-kind (both put-kind none))) wide s0 m0 s2 m2
             (wider-both none (both step-kind (both put-kind none)) wide (wider-handing (λ _. 0) (λ _. 0) wide)
-            (wider-both step-kind (both put-kind none) wide word-set.2
+            (wider-both step-kind (both put-kind none) wide word-set.wider
             (wider-both put-kind none wide (wider-handing (λ _. 0) (λ d. holds d before) wide) (wider-handing (λ _. 0) (λ _. 0) wide))))
             (λ ok. subst WasNotCutOff (sym ok) tt)
-            (λ d. let same = named-same d in omega (arith, same))
-            (λ d. let same = named-same d in let all = back-at d in omega (arith, same, all)) all
+            (λ d. let same = given-same d in omega (arith, same))
+            (λ d. let same = given-same d in let anew = newly-same d in omega (arith, same, anew)) all
           where
-            named-same : (d : ℕ) → named_before m0 guest d ≡ names_at m0 old d
-            named-same d = ap (λ (w : Mapping). names_at m0 w d) (sym was)
+            given-same : (d : ℕ) → holds d (given_for m0 guest x) ≡ holds d before
+            given-same d = ap (holds d) (sym gives-up)
+
+            newly-same : (d : ℕ) → newly x (taken_before m0 guest) d ≡ newly x (allocation_of c.file.header.fields.cluster_bits old) d
+            newly-same d = ap (λ (w : Mapping). newly x (allocation_of c.file.header.fields.cluster_bits w) d) (sym was)
 
         set-l1 : result ≡ Ok tt → (l1 : TableValue) → IsL1Of m0.file c.file.header.fields l1 → IsL1Of m2.file c'.file.header.fields l1
         set-l1 ok l1 of =
@@ -374,13 +359,13 @@ module _ {S : Type 0} (state : S → StorageState) (table guest x : ℕ) (c c' :
             ∙ ap (λ (H : Header). entry (in_memory m2) H.fields guest) (sym (settles.header ∙ u.found.others.1))
             ∙ same
             ∙ ap (λ (m : Metadata). entry (in_memory m) m.header.fields guest) (sym same-image)
-            ∙ word-set.1
+            ∙ word-set.named
 
         -- What is written then leaves what is used.
         set-bytes : result ≡ Ok tt → (q : ℕ) → q / cluster_size c.file.header.fields ≡ x → m2.file q ≡ m0.file q
         set-bytes ok q at =
             let quiet : IsQuiet (λ _. 0) (λ _. 0) put-image m2 = subst (λ m. IsQuiet (λ _. 0) (λ _. 0) m m2) (sym same-image) (last ok).1 in
-            let used : IsUsed put-image (q / cluster_size c.file.header.fields) = subst (IsUsed put-image) (sym at) (put-step.used x word-set.3 (back-at x ∙ unnamed)) in
+            let used : IsUsed put-image (q / cluster_size c.file.header.fields) = subst (IsUsed put-image) (sym at) (put-step.used x word-set.used word-set.spared) in
             in-cluster c.file.header.fields (bytes_of s1.bytes) m2.file q (quiet.kept (q / cluster_size c.file.header.fields) used refl)
             ∙ ap (λ (b : Bytes). b q) bytes-same
 
@@ -401,8 +386,7 @@ module _ {S : Type 0} (state : S → StorageState) (table guest x : ℕ) (c c' :
           held = held;
           reach = set-reach;
           why = subst (λ r. IfErr r (WhyNotNamed Ready s0.faults s1.faults)) (sym is) tt;
-          waits = λ ready ok. list ∙ ap (λ (b : Option FreeEntry). c.space.to_free.entries ++ listed_of b)
-              (back ready allocator list is settles ∙ ap (λ (w : Mapping). freed (allocation_of c.file.header.fields.cluster_bits w)) (was ready allocator list is settles));
+          waits = λ ready ok. list ∙ ap (λ (b : Option FreeEntry). c.space.to_free.entries ++ listed_of b) (gives-up ready allocator list is settles);
           progress = λ ready. set-progress ready allocator list is settles;
           l1 = λ ready. set-l1 ready allocator list is settles;
           named = λ ready. set-named ready allocator list is settles;

@@ -1,5 +1,6 @@
--- A word of a table that is cached alone, of an image that rested, comes to name a reserved cluster: what that does to its metadata.
-use Rattle.std.proofs.Common.{◌≡◌, ◌≢◌, ℕ, ◌+◌, ◌*◌, ◌/◌, ◌%◌, ◌^◌, ◌<◌, ◌≤◌, refl, arith, ap, sym, subst, ◌∙◌, inl, inr, true, Some, None, Option, List}
+-- A word of a table that is cached alone, of an image that rested, comes to name a cluster that was reserved, or kept for its guest cluster:
+-- what that does to its metadata.
+use Rattle.std.proofs.Common.{◌≡◌, ◌≢◌, ℕ, ◌+◌, ◌*◌, ◌/◌, ◌%◌, ◌^◌, ◌<◌, ◌≤◌, eq-eqb, refl, arith, ap, sym, subst, ◌∙◌, inl, inr, true, Some, None, Option, List}
 use Rattle.std.specs.Prelude.{Bool, false, nat_eq, not, ◌&&◌, ◌==◌, ◌++◌, IfSome, if◌then◌else◌}
 use Rattle.std.specs.Option.{option_map}
 use Rattle.std.specs.Map.{lookup}
@@ -13,7 +14,7 @@ use Rattle.qcow2_types.specs.Header.{Fields, cluster_size, layout_of, words_of_c
 use Rattle.qcow2_types.specs.Pending.{FreeEntry}
 use Rattle.qcow2_types.specs.References.{meets, of_mapping, refs}
 use Rattle.qcow2_types.specs.Slots.{slot}
-use Rattle.qcow2_types.specs.Words.{Mapping, data_at, is_damaged, mapping_of, max_offset}
+use Rattle.qcow2_types.specs.Words.{Mapping, data_at, is_damaged, mapping_of, max_offset, zeroes}
 use Rattle.qcow2_types.proofs.Consistent.{consistent-shaped, meets-own, some-words}
 use Rattle.qcow2_types.proofs.Either.{refs-cached}
 use Rattle.qcow2_types.proofs.Shows.{guest-slot-there}
@@ -32,13 +33,17 @@ use Rattle.qcow2_alloc.specs.Finding.{IsTableFine}
 use Rattle.qcow2_alloc.specs.Memory.{Cached}
 use Rattle.qcow2_alloc.specs.Quiet.{IsQuiet, IsSound, IsUsed, Metadata, counted, covers_metadata, in_memory, named_at_all, one_at, referenced, waiting}
 use Rattle.qcow2_alloc.proofs.Memory.ChangingWords.{cluster-mapped}
+use Rattle.qcow2_alloc.proofs.Memory.DroppingNames.{data-drops}
+use Rattle.qcow2_steps.specs.Data.{IsKeptFor}
 use Rattle.qcow2_steps.specs.Values.{own_value_by}
-use Rattle.qcow2_steps.specs.Words.{GivesWord, IsOfWord, IsReserved, NamesCluster, names_at}
-use Rattle.qcow2_steps.proofs.AddingUp.{reserved-still}
+use Rattle.qcow2_steps.specs.Words.{DropsNames, GivesWord, IsOfWord, IsReserved, NamesCluster, names_at}
+use Rattle.qcow2_steps.proofs.AddingUp.{advances-weaker, reserved-still}
 use Rattle.qcow2_steps.proofs.Headers.{header-same}
-use Rattle.qcow2_steps.proofs.Steps.{meets-one, named-advances, put-off-advances, quiet-advances}
+use Rattle.qcow2_steps.proofs.HiddenClusters.{kept-used}
+use Rattle.qcow2_steps.proofs.QuietValues.{quiet-entries}
+use Rattle.qcow2_steps.proofs.Steps.{dropped-advances, meets-one, named-advances, put-off-advances, quiet-advances}
 use Rattle.qcow2_steps.proofs.Values.{places-there}
-use Rattle.qcow2_steps.proofs.WordSteps.{named-owed}
+use Rattle.qcow2_steps.proofs.WordSteps.{named-owed, used-after}
 use Rattle.qcow2_clusters.specs.Naming.{IsNameable, listed_of, naming}
 use Rattle.qcow2_clusters.specs.Progress.{Kind, handing}
 use Rattle.qcow2_clusters.proofs.Adding.{AdvancesBy, IsWider}
@@ -60,19 +65,19 @@ module _ (m : Metadata) (table guest x : ℕ) (sound : IsSound m) (able : IsName
   is-there : l2_table m.file h i ≢ 0
   is-there none =
       let long : 0 < cluster_size h = pow_pos h.cluster_bits in
-      let some = mul-pos {m = table} (let apart = able.some in omega (arith, apart)) long in
-      let place = able.there in
+      let some = mul-pos {m = table} (let apart = able.under.some in omega (arith, apart)) long in
+      let place = able.under.there in
       omega (arith, some, place, none)
 
   pub table-near : IsInReach h.cluster_bits table
-  table-near = subst (λ n. n ≤ max_offset) able.there
-      (place-near h.cluster_bits (l2_table m.file h i) (table-place m.file h i (sound-words m.file h sound.safe.consistent.readable.tables) able.inside))
+  table-near = subst (λ n. n ≤ max_offset) able.under.there
+      (place-near h.cluster_bits (l2_table m.file h i) (table-place m.file h i (sound-words m.file h sound.safe.consistent.readable.tables) able.under.inside))
 
   -- Each of its words means something.
   word-fine : (k : ℕ) → k < words_of_cluster h → is_damaged (l2_mapping m.file h (table * cluster_size h) k) ≡ false
   word-fine k lt =
-      subst (λ p. is_damaged (l2_mapping m.file h p k) ≡ false) able.there
-      ((sound-words m.file h sound.safe.consistent.readable.tables).slots i k (record { in_l1 = able.inside; is_there = is-there; in_table = lt }))
+      subst (λ p. is_damaged (l2_mapping m.file h p k) ≡ false) able.under.there
+      ((sound-words m.file h sound.safe.consistent.readable.tables).slots i k (record { in_l1 = able.under.inside; is_there = is-there; in_table = lt }))
 
   pub table-fine : (f : Bytes) → f ≡ m.file → IsTableFine f h table
   table-fine f same = record {
@@ -92,15 +97,14 @@ module _ (m : Metadata) (table guest x : ℕ) (sound : IsSound m) (able : IsName
     old-slot =
         ap (λ (x : TableValue). mapping_in x j) is
         ∙ ap (mapping_of (layout_of h)) (words_at m.file (table * cluster_size h) (words_of_cluster h) j row)
-        ∙ ap (λ p. l2_mapping m.file h p j) (sym able.there)
+        ∙ ap (λ p. l2_mapping m.file h p j) (sym able.under.there)
 
     -- as the file says.
     pub old-entry : mapping_in t j ≡ entry m.file h guest
     old-entry = old-slot ∙ sym (entry-slot m.file h guest sound.safe.consistent.readable.tables ∙ guest-slot-there m.file h guest is-there)
 
--- What a word named is handed back as often as it named it, and that is all of its allocation, where it didn't name the new cluster.
+-- What a word named is handed back as often as it named it, and the new cluster is taken, where it didn't name that.
 module _ (h : Fields) (x : ℕ) (old new : Mapping) (before : Option FreeEntry) (means : new ≡ data_at x true)
-    (back : before ≡ freed (replaced x (allocation_of h.cluster_bits old)))
     (conserved : Conserves h.cluster_bits old new before (newly x (allocation_of h.cluster_bits old))) (unnamed : of_mapping h (meets h x) old ≡ 0) where
   total : (c : ℕ) → one_at x c + holds c before ≡ of_mapping h (meets h c) old + newly x (allocation_of h.cluster_bits old) c
   total c = ap (λ (n : ℕ). n + holds c before) (sym (meets-one h x c) ∙ ap (of_mapping h (meets h c)) (sym means)) ∙ conserved h refl c
@@ -119,17 +123,27 @@ module _ (h : Fields) (x : ℕ) (old new : Mapping) (before : Option FreeEntry) 
     if-same true = refl
     if-same false = refl
 
-  pub back-all : before ≡ freed (allocation_of h.cluster_bits old)
-  back-all = back ∙ rw apart refl
+  pub newly-one : (c : ℕ) → newly x (allocation_of h.cluster_bits old) c ≡ one_at x c
+  newly-one c = rw apart (if-and (c == x)) where
+    if-and : (b : Bool) → ◌≡◌ {A = ℕ} (if b && not false then 1 else 0) (if b then 1 else 0)
+    if-and true = refl
+    if-and false = refl
 
   pub back-named : (c : ℕ) → holds c before ≡ of_mapping h (meets h c) old
-  back-named c =
-      let new-one : newly x (allocation_of h.cluster_bits old) c ≡ one_at x c = rw apart (if-and (c == x)) in
-      omega (arith, total c, new-one)
-    where
-      if-and : (b : Bool) → ◌≡◌ {A = ℕ} (if b && not false then 1 else 0) (if b then 1 else 0)
-      if-and true = refl
-      if-and false = refl
+  back-named c = let new-one = newly-one c in omega (arith, total c, new-one)
+
+-- Where it kept the cluster it hands back nothing, and nothing is taken.
+own-just : (x : ℕ) → is_just x (Some (x, 1)) ≡ true
+own-just x = rw (eq-eqb x x refl) refl
+
+pub kept-back : (x : ℕ) → freed (replaced x (Some (x, 1))) ≡ None
+kept-back x = rw (own-just x) refl
+
+pub kept-newly : (x c : ℕ) → newly x (Some (x, 1)) c ≡ 0
+kept-newly x c = rw (own-just x) (none (c == x)) where
+  none : (b : Bool) → ◌≡◌ {A = ℕ} (if b && not true then 1 else 0) 0
+  none true = refl
+  none false = refl
 
 -- Nothing is done to an image.
 idle : (m : Metadata) → IsSound m → AdvancesBy (handing (λ _. 0) (λ _. 0)) m m
@@ -164,15 +178,24 @@ pub names-data : (m : Metadata) (x : ℕ) → IsSound m → x ≢ 0 → IsInReac
     → mapping_of (layout_of m.header.fields) (2 ^ 63 + x * cluster_size m.header.fields) ≡ data_at x true
 names-data m x sound some near = fresh-word m.header.fields x (consistent-shaped m.file m.header sound.safe.consistent).low (omega (arith, some)) near
 
--- what is given, set and taken by that one step
-abbrev pub stepping : Metadata → (i j x : ℕ) → Mapping → Kind
-stepping m i j x old = record {
+-- What is given, set, handed out and taken by that one step, where it hands this back.
+abbrev pub stepping : Metadata → (i j x : ℕ) → Mapping → Option FreeEntry → Kind
+stepping m i j x old before = record {
   gives = GivesWord m i j (data_at x true);
   written = λ q. ⊥;
   set = IsOfWord m.header.fields i j;
-  handed = names_at m old;
-  taken = one_at x;
+  handed = λ c. holds c before;
+  taken = newly x (allocation_of m.header.fields.cluster_bits old);
 }
+
+-- The word was set: what it named is counted still, so that it may wait to be freed, and so is the cluster that it names.
+pub record WordNamed (m : Metadata) (guest x : ℕ) (old : Mapping) (before : Option FreeEntry) (found set : Metadata) : Type 0 where
+  pub step : AdvancesBy (stepping found (guest / words_of_cluster m.header.fields) (guest % words_of_cluster m.header.fields) x old before) found set
+  pub named : entry (in_memory set) m.header.fields guest ≡ data_at x true
+  pub wider : IsWider (stepping found (guest / words_of_cluster m.header.fields) (guest % words_of_cluster m.header.fields) x old before) (naming m guest x)
+  pub used : IsUsed set x
+  pub owed : (c : ℕ) → referenced set c + waiting set c + holds c before ≤ counted set c
+  pub spared : holds x before ≡ 0
 
 -- It is found, over a file that is the same, and its word comes to name the cluster.
 module _ (m : Metadata) (table guest x : ℕ) (sound : IsSound m) (able : IsNameable m table guest x) (some : x ≢ 0) (near : IsInReach m.header.fields.cluster_bits x)
@@ -192,64 +215,121 @@ module _ (m : Metadata) (table guest x : ℕ) (sound : IsSound m) (able : IsName
     abbrev sets : SetsWord y m.header.fields cached table i' j' (2 ^ 63 + x * cluster_size m.header.fields) cached'
     sets = record {
       table = t;
-      caches = record { there = there; inside = able.inside; place = ap (λ (b : Bytes). l2_table b m.header.fields i') same ∙ able.there; some = able.some };
+      caches = record { there = there; inside = able.under.inside; place = ap (λ (b : Bytes). l2_table b m.header.fields i') same ∙ able.under.there; some = able.under.some };
       inside = row m table guest x sound able;
       tables = tables;
       blocks = blocks;
     }
 
-    reserved : IsReserved found x
-    reserved =
-        reserved-still (λ p v. ⊥) (λ q. ⊥) (λ g. ⊥) (λ _. 0) (λ _. 0) m found
-        (quiet-advances m found (λ _. 0) (λ _. 0) sound sound' quiet (λ c named. refl)) x able.reserved refl
+    abbrev set : Metadata
+    set = record found { cached = cached' }
 
-    names : NamesCluster found i' j' (mapping_in t j') x cached'
-    names =
-        cluster-mapped y m.header cached cached' order table i' j' x sound'.safe sets some near reserved.unnamed (let taken = reserved.used.taken in omega (arith, taken))
-
-    named-step : AdvancesBy (stepping found i' j' x (mapping_in t j')) found (record found { cached = cached' })
-    named-step = named-advances found i' j' x (mapping_in t j') cached' sound' names reserved
-
-    named-entry : entry (in_memory (record found { cached = cached' })) m.header.fields guest ≡ data_at x true
-    named-entry = names.changed.written.entries guest refl refl
-
-    -- It is counted for the word that names it now.
-    named-used : IsUsed (record found { cached = cached' }) x
-    named-used = record {
-      apart = reserved.used.apart;
-      taken =
-          let covered = named-step.sound.covered x in
-          let once = names.references in
-          let none = reserved.waits in
-          omega (arith, covered, once, none);
-    }
-
-    named-wider : IsWider (stepping found i' j' x (mapping_in t j')) (naming m guest x)
-    named-wider = record {
+    named-wider : (old : Mapping) (before : Option FreeEntry) → IsWider (stepping found i' j' x old before) (naming m guest x)
+    named-wider old before = record {
       gives = λ p v given. (given.0, given.1 ∙ ap (λ (b : Bytes). own_value_by b m.header.fields p (data_at x true)) same);
       written = λ q none. none;
       set = λ g is. is;
     }
 
-    -- What it named is counted still, so that it may wait to be freed.
-    pub word-owed : (c : ℕ) → referenced (record found { cached = cached' }) c + waiting found c + names_at found (mapping_in t j') c ≤ counted found c
-    word-owed = named-owed found i' j' (mapping_in t j') cached' sound' x names reserved
+    -- The cluster was reserved.
+    module _ (before : Option FreeEntry) (mapping : Mapping) (means : mapping ≡ data_at x true)
+        (conserved : Conserves m.header.fields.cluster_bits (mapping_in t j') mapping before (newly x (allocation_of m.header.fields.cluster_bits (mapping_in t j'))))
+        (was : IsReserved m x) where
+      reserved : IsReserved found x
+      reserved =
+          reserved-still (λ p v. ⊥) (λ q. ⊥) (λ g. ⊥) (λ _. 0) (λ _. 0) m found
+          (quiet-advances m found (λ _. 0) (λ _. 0) sound sound' quiet (λ c named. refl)) x was refl
 
-    -- It didn't name the new cluster.
-    pub word-unnamed : names_at found (mapping_in t j') x ≡ 0
-    word-unnamed =
-        let now = names.changed.references x in
-        let own : of_mapping m.header.fields (meets m.header.fields x) (data_at x true) ≡ 1 = meets-own m.header.fields x in
-        let before : refs (in_memory found) m.header.fields x ≤ named_at_all found x = refs-cached y (in_memory found) m.header.fields x (places-there found sound') in
-        let none = reserved.unnamed in
-        let once = names.references in
-        omega (arith, now, own, before, none, once)
+      names : NamesCluster found i' j' (mapping_in t j') x cached'
+      names =
+          cluster-mapped y m.header cached cached' order table i' j' x sound'.safe sets some near reserved.unnamed (let taken = reserved.used.taken in omega (arith, taken))
 
-    pub word-counted : (c : ℕ) → counted (record found { cached = cached' }) c ≡ counted found c
-    word-counted c = let same = names.changed.written.counts c in omega (arith, same)
+      -- The word didn't name it.
+      unnamed : names_at found (mapping_in t j') x ≡ 0
+      unnamed =
+          let now = names.changed.references x in
+          let own : of_mapping m.header.fields (meets m.header.fields x) (data_at x true) ≡ 1 = meets-own m.header.fields x in
+          let least : refs (in_memory found) m.header.fields x ≤ named_at_all found x = refs-cached y (in_memory found) m.header.fields x (places-there found sound') in
+          let none = reserved.unnamed in
+          let once = names.references in
+          omega (arith, now, own, least, none, once)
 
-    pub word-named : AdvancesBy (stepping found i' j' x (mapping_in t j')) found (record found { cached = cached' })
-        × (entry (in_memory (record found { cached = cached' })) m.header.fields guest ≡ data_at x true)
-        × IsWider (stepping found i' j' x (mapping_in t j')) (naming m guest x)
-        × IsUsed (record found { cached = cached' }) x
-    word-named = (named-step, named-entry, named-wider, named-used)
+      back : (c : ℕ) → holds c before ≡ names_at found (mapping_in t j') c
+      back = back-named m.header.fields x (mapping_in t j') mapping before means conserved unnamed
+
+      anew : (c : ℕ) → newly x (allocation_of m.header.fields.cluster_bits (mapping_in t j')) c ≡ one_at x c
+      anew = newly-one m.header.fields x (mapping_in t j') mapping before means conserved unnamed
+
+      named-step : AdvancesBy (stepping found i' j' x (mapping_in t j') before) found set
+      named-step = advances-weaker (GivesWord found i' j' (data_at x true)) (GivesWord found i' j' (data_at x true)) (λ q. ⊥) (λ q. ⊥)
+          (IsOfWord m.header.fields i' j') (IsOfWord m.header.fields i' j') (names_at found (mapping_in t j')) (one_at x) (λ c. holds c before)
+          (newly x (allocation_of m.header.fields.cluster_bits (mapping_in t j'))) found set (λ p v given. given) (λ q none. none) (λ g is. is)
+          (λ c. let all = back c in let one = anew c in omega (arith, all, one)) (λ c used none. let one = anew c in omega (arith, one, none))
+          (named-advances found i' j' x (mapping_in t j') cached' sound' names reserved)
+
+      pub reserved-named : WordNamed m guest x (mapping_in t j') before found set
+      reserved-named = record {
+        step = named-step;
+        named = names.changed.written.entries guest refl refl;
+        wider = named-wider (mapping_in t j') before;
+        used = record {
+          apart = reserved.used.apart;
+          taken =
+              let covered = named-step.sound.covered x in
+              let once = names.references in
+              let none = reserved.waits in
+              omega (arith, covered, once, none);
+        };
+        owed = λ c.
+            let owed = named-owed found i' j' (mapping_in t j') cached' sound' x names reserved c in
+            let all = back c in
+            let counts = names.changed.written.counts c in
+            omega (arith, owed, all, counts);
+        spared = back x ∙ unnamed;
+      }
+
+    -- The guest cluster kept it for its zeroes.
+    module _ (was : IsKeptFor m guest x) (meant : mapping_in t j' ≡ entry m.file m.header.fields guest) where
+      kept : IsKeptFor found guest x
+      kept = record {
+        file = ap (λ (b : Bytes). entry b m.header.fields guest) same ∙ was.file;
+        memory = quiet-entries m found (λ _. 0) (λ _. 0) sound sound' quiet guest ∙ was.memory;
+      }
+
+      drops : DropsNames found i' j' (zeroes (Some x) true) (data_at x true) cached'
+      drops = data-drops y m.header cached cached' order table i' j' sound'.safe x sets some near (meant ∙ was.file)
+
+      kept-step : AdvancesBy (stepping found i' j' x (zeroes (Some x) true) None) found set
+      kept-step = advances-weaker (GivesWord found i' j' (data_at x true)) (GivesWord found i' j' (data_at x true)) (λ q. ⊥) (λ q. ⊥)
+          (IsOfWord m.header.fields i' j') (IsOfWord m.header.fields i' j') (λ _. 0) (λ _. 0) (λ c. 0)
+          (newly x (Some (x, 1))) found set (λ p v given. given) (λ q none. none) (λ g is. is)
+          (λ c. let none = kept-newly x c in omega (arith, none)) (λ c used none. refl)
+          (dropped-advances found i' j' (zeroes (Some x) true) (data_at x true) (λ _. 0) cached' sound' drops (λ c. omega arith))
+
+      kept-named : WordNamed m guest x (zeroes (Some x) true) None found set
+      kept-named = record {
+        step = kept-step;
+        named = drops.changed.written.entries guest refl refl;
+        wider = named-wider (zeroes (Some x) true) None;
+        used = used-after found i' j' (zeroes (Some x) true) cached' (data_at x true) drops.changed x (kept-used found guest x sound' kept);
+        owed = λ c. let covered = kept-step.sound.covered c in omega (arith, covered);
+        spared = refl;
+      }
+
+      pub kept-named-by : (before : Option FreeEntry) → before ≡ freed (replaced x (allocation_of m.header.fields.cluster_bits (mapping_in t j')))
+          → WordNamed m guest x (mapping_in t j') before found set
+      kept-named-by before back =
+          let is = meant ∙ was.file in
+          let none : None ≡ before = sym (back ∙ ap (λ (w : Mapping). freed (replaced x (allocation_of m.header.fields.cluster_bits w))) is ∙ kept-back x) in
+          subst (λ (b : Option FreeEntry). WordNamed m guest x (mapping_in t j') b found set) none
+          (subst (λ (w : Mapping). WordNamed m guest x w None found set) (sym is) kept-named)
+
+    -- Either way.
+    pub word-named : (before : Option FreeEntry) → before ≡ freed (replaced x (allocation_of m.header.fields.cluster_bits (mapping_in t j')))
+        → (mapping : Mapping) → mapping ≡ data_at x true
+        → Conserves m.header.fields.cluster_bits (mapping_in t j') mapping before (newly x (allocation_of m.header.fields.cluster_bits (mapping_in t j')))
+        → mapping_in t j' ≡ entry m.file m.header.fields guest → WordNamed m guest x (mapping_in t j') before found set
+    word-named before back mapping means conserved meant = elim able.own [
+      | inl reserved ↦ reserved-named before mapping means conserved reserved
+      | inr kept ↦ kept-named-by kept meant before back
+    ]

@@ -1,4 +1,4 @@
-// A guest cluster comes to name a cluster that was reserved.
+// A guest cluster comes to name a cluster that was reserved, or that it kept for its zeroes.
 ghost use Rattle.std.specs.Prelude.{◌<◌};
 ghost use Rattle.qcow2_metadata.specs.Places.{IsInReach};
 ghost use Rattle.qcow2_alloc.specs.Allocators.{UsesTable};
@@ -73,7 +73,8 @@ fn put_off(
 }
 
 /// Has a guest cluster name a host cluster as its data, as copied, in its L2 table, which is in this cluster. What it named before, if
-/// anything, waits to be freed then. The bytes of the host cluster stay what they are. Nothing may be cached before, and nothing is then.
+/// anything, waits to be freed then, but for the host cluster itself, which it may have kept for its zeroes. The bytes of that stay what
+/// they are. Nothing may be cached before, and nothing is then.
 ///
 /// It refuses with `Fault::Memory` and `Fault::Storage`, and with `Fault::DamagedTable` where the table has a word without meaning, or is
 /// out of reach, which no sound image has.

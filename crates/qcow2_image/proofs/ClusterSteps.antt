@@ -5,6 +5,8 @@ use Rattle.std.proofs.lemmas.Nat.{pow_pos}
 use Rattle.std.specs.Prelude.{⊤, IsTrue, IsSome, IfSome, is_some, IfOk, IfErr, OnOk, slice_index, ◌==◌, if◌then◌else◌}
 use Rattle.imago_storage.specs.State.{StorageState}
 use Rattle.imago_storage.specs.Calls.{Cause}
+use Rattle.imago_storage.specs.Disk.{Value}
+use Rattle.qcow2_metadata.specs.Places.{IsInReach}
 use Rattle.imago_storage.specs.declared.fault.Fault.{Fault}
 use Rattle.imago_storage.specs.declared.fault.Fault.TheVariants.{Counter, DamagedTable, Limit, Memory, Storage}
 use Rattle.imago_storage.specs.declared.storage.Storage.{Ghosts}
@@ -23,7 +25,10 @@ use Rattle.qcow2_alloc.specs.declared.allocation.Allocator.{Allocator}
 use Rattle.qcow2_alloc.specs.declared.cache.MetadataCaches.{MetadataCaches}
 use Rattle.qcow2_alloc.proofs.Growth.LoadingTable.{allocator-refused}
 use Rattle.qcow2_alloc.proofs.Memory.Patches.{place-there}
+use Rattle.qcow2_steps.specs.Data.{IsKeptFor}
 use Rattle.qcow2_steps.specs.Words.{IsReserved}
+use Rattle.qcow2_steps.proofs.HiddenClusters.{kept-hidden}
+use Rattle.qcow2_clusters.specs.Filling.{Fills, filling}
 use Rattle.qcow2_clusters.specs.Freeing.{FreesWaiting}
 use Rattle.qcow2_clusters.specs.Freeing as freeing
 use Rattle.qcow2_clusters.specs.MakingTables.{CopiesTable, HasTable, IsTableless, IsTopWord, MakesTable, NamesNewTable, given_up}
@@ -32,9 +37,9 @@ use Rattle.qcow2_clusters.specs.Rest.{Clusters, IsReady, lent, resting}
 use Rattle.qcow2_clusters.specs.Storing.{Rests, Stores, handed_by, held_by}
 use Rattle.qcow2_clusters.specs.Storing as clusters
 use Rattle.qcow2_clusters.specs.declared.space.Space.{Space}
-use Rattle.qcow2_image.specs.Allocating.{EnsuresTable, FreesPending, LoadsSpace, StoresContent, WhyNotAllocated, WhyNotFreed, failed_cut, waits_in}
-use Rattle.qcow2_image.specs.Holding.{Holding}
-use Rattle.qcow2_image.specs.KeepsDisk.{KeepsDisk}
+use Rattle.qcow2_image.specs.Allocating.{EnsuresTable, FillsContent, FreesPending, HasKept, KeepsTop, LoadsSpace, PlacesContent, StoresContent, WhyNotAllocated, WhyNotFreed, failed_cut, waits_in}
+use Rattle.qcow2_image.specs.Holding.{Holding, IsOwnAs}
+use Rattle.qcow2_image.specs.KeepsDisk.{KeepsDisk, KeepsDiskWhere}
 use Rattle.qcow2_image.specs.Looking.{place_of_table}
 use Rattle.qcow2_image.specs.Rooms.{IsSafe, rest_of}
 use Rattle.qcow2_image.specs.Seen.{file_of}
@@ -44,12 +49,17 @@ use Rattle.qcow2_image.specs.declared.qcow2.Qcow2.{Qcow2}
 use Rattle.qcow2_image.specs.declared.tables.Tables.{Tables}
 use Rattle.qcow2_image.proofs.FileWords.{place-in-file, place-named, some-offset, top-long, top-word}
 use Rattle.qcow2_image.proofs.KeepingDisks.{Spares, WhyNoSpace, keeps-disk-same, keeps-image-disk, later-refused, progress-keeps, safe-sound, space-refused, whole-below}
+use Rattle.qcow2_image.proofs.KeptClusters.{apart-some, kept-at-rest, kept-in, kept-is}
 use Rattle.qcow2_image.proofs.Settling.{seen-same}
 use Rattle.qcow2_image.proofs.Steps.{keeps-marked}
 
 pub none-there : {A : Type 0} (o : Option A) → is_some o ≡ false → o ≡ None
 none-there None is = refl
 none-there (Some a) is = absurd (cc is)
+
+pub some-there : (o : Option Space) → is_some o ≡ true → (space : Space) × (o ≡ Some space)
+some-there None is = absurd (cc is)
+some-there (Some space) is = (space, refl)
 
 pub none-some : {A : Type 0} (o : Option Space) → o ≡ None → IsSome o → A
 none-some None is some = absurd (cc some)
@@ -172,12 +182,17 @@ module _ {S T : Type 0} (g : Ghosts S) (old : Qcow2 S g) (mid : Tables S g) (spa
   pub ready : IsSafe g old → IsReady g.state (lent old.tables.file caches space)
   ready safe = record { keeps = safe.keeps; sound = safe-sound g old space there safe }
 
-  pub advanced : (handed taken : ℕ → ℕ) → IfSome (holding_in g old.unspent) (Spares g (WasNotCutOff result) taken old now space space')
-      → (IsSafe g old → WasNotCutOff result → IsL1Of (file_of g mid) mid.file.header.fields mid.l1)
-      → (IsSafe g old → Progresses (going.WasNotCutOff result) (handing handed taken) (g.state old.tables.file.image)
+  -- It gave and set nothing.
+  pub advanced-by : (sure : Type 0) (kind : Kind) → (sure → IsSafe g old) → ((p : ℕ) (v : Option Value) → kind.gives p v → ⊥)
+      → ((guest : ℕ) → kind.set guest → ⊥) → IfSome (holding_in g old.unspent) (Spares g (WasNotCutOff result) kind old now space space')
+      → (sure → WasNotCutOff result → IsL1Of (file_of g mid) mid.file.header.fields mid.l1)
+      → (sure → Progresses (going.WasNotCutOff result) kind (g.state old.tables.file.image)
       (rest_of g old.tables space) (g.state mid.file.image) (rest_of g mid space'))
-      → KeepsDisk g (WasNotCutOff result) old now
-  advanced handed taken spares l1 progress = progress-keeps g (WasNotCutOff result) handed taken old now (record {
+      → KeepsDiskWhere g sure (WasNotCutOff result) old now
+  advanced-by sure kind safe none unset spares l1 progress = progress-keeps g sure (WasNotCutOff result) kind old now (record {
+    safe = safe;
+    none = none;
+    unset = unset;
     space = space;
     space' = space';
     there = there;
@@ -194,9 +209,17 @@ module _ {S T : Type 0} (g : Ghosts S) (old : Qcow2 S g) (mid : Tables S g) (spa
     faults = λ whole. rests.faults (whole-below result whole);
     empty = rests.empty;
     l1 = l1;
-    progress = λ safe. progresses-as (going.WasNotCutOff result) (WasNotCutOff result) (handing handed taken) (g.state old.tables.file.image)
-        (g.state mid.file.image) (rest_of g old.tables space) (rest_of g mid space') (whole-below result) (progress safe);
+    progress = λ known. progresses-as (going.WasNotCutOff result) (WasNotCutOff result) kind (g.state old.tables.file.image)
+        (g.state mid.file.image) (rest_of g old.tables space) (rest_of g mid space') (whole-below result) (progress known);
   })
+
+  -- Nor did it write anything of what was used.
+  pub advanced : (handed taken : ℕ → ℕ) → IfSome (holding_in g old.unspent) (Spares g (WasNotCutOff result) (handing handed taken) old now space space')
+      → (IsSafe g old → WasNotCutOff result → IsL1Of (file_of g mid) mid.file.header.fields mid.l1)
+      → (IsSafe g old → Progresses (going.WasNotCutOff result) (handing handed taken) (g.state old.tables.file.image)
+      (rest_of g old.tables space) (g.state mid.file.image) (rest_of g mid space'))
+      → KeepsDisk g (WasNotCutOff result) old now
+  advanced handed taken = advanced-by (IsSafe g old) (handing handed taken) (λ safe. safe) (λ p v gave. gave) (λ guest is. is)
 
 -- While nothing is prepared nothing has to be spared.
 none-spared : {S : Type 0} (g : Ghosts S) (old : Qcow2 S g) (P : Holding → Type 0) → old.unspent ≡ None → IfSome (holding_in g old.unspent) P
@@ -235,20 +258,158 @@ module _ {S : Type 0} (g : Ghosts S) (old : Qcow2 S g) (mid : Tables S g) (space
   pub stored : StoresContent g bytes old result stored_now
   stored = record {
     keeps = advanced g old mid space space' caches result there there' stores.rests (handed_by result) (λ c. 0)
-        (none-spared g old (Spares g (WasNotCutOff result) (λ c. 0) old stored_now space space') free)
+        (none-spared g old (Spares g (WasNotCutOff result) (handing (handed_by result) (λ c. 0)) old stored_now space space') free)
         (λ safe whole. subst (IsL1Of (file_of g mid) mid.file.header.fields) (sym l1) (l1-stored safe whole))
         (λ safe. stores.progress);
     marks = refl;
-    l1 = l1;
-    entries = ap (λ (K : Header). K.fields.l1_entries) stores.rests.header.2;
+    top = record {
+      l1 = l1;
+      entries = ap (λ (K : Header). K.fields.l1_entries) stores.rests.header.2;
+      tables = λ known. tables-same (file_of g old.tables) (file_of g mid) old.tables.file.header.fields mid.file.header.fields old.tables.l1
+          known.0.seen.l1 (l1-stored known.0 known.1);
+    };
     named = stores.named;
-    tables = λ safe whole. tables-same (file_of g old.tables) (file_of g mid) old.tables.file.header.fields mid.file.header.fields old.tables.l1
-        safe.seen.l1 (l1-stored safe whole);
     reserved = λ safe. reserved-now result (stores.reserved (ready g old mid space space' caches result there there' stores.rests safe)) stores.held;
     content = λ safe. stores.stored (ready g old mid space space' caches result there there' stores.rests safe);
     cause = if-err result _ (WhyNotAllocated g old stored_now) (λ e. allocated-why g old stored_now (IsReady g.state (lent old.tables.file caches space))
         (g.state old.tables.file.image).faults (g.state mid.file.image).faults e
         (ready g old mid space space' caches result there there' stores.rests) refl refl) stores.cause;
+  }
+
+-- Bytes were written to the cluster that a guest cluster keeps for its zeroes.
+module _ {S : Type 0} (g : Ghosts S) (old : Qcow2 S g) (mid : Tables S g) (space : Space) (caches : MetadataCaches S) (guest host : ℕ)
+    (bytes : List ℕ) (result : Result Unit Fault) (there : old.tables.space ≡ Some space) (there' : mid.space ≡ Some space)
+    (l1 : mid.l1 ≡ old.tables.l1) (free : old.unspent ≡ None)
+    (fills : Fills g.state guest host bytes (lent old.tables.file caches space) result (lent mid.file mid.caches space)) where
+  abbrev filled_now : Qcow2 S g
+  filled_now = record old { tables = mid; failed = failed_cut result old.failed }
+
+  abbrev sure-kept : Type 0
+  sure-kept = HasKept g guest (Some host) old
+
+  kept-then : sure-kept → IsKeptFor (rest_of g old.tables space) guest host
+  kept-then known = kept-in g guest host old space known
+
+  fill-ready : sure-kept → IsReady g.state (lent old.tables.file caches space)
+  fill-ready known = ready g old mid space space caches result there there' fills.rests known.safe
+
+  l1-filled : sure-kept → WasNotCutOff result → IsL1Of (file_of g mid) mid.file.header.fields old.tables.l1
+  l1-filled known whole = fills.l1 (kept-then known) (fill-ready known) (whole-below result whole) old.tables.l1 known.safe.seen.l1
+
+  fill-why : (e : Fault) → Cause (g.state old.tables.file.image).faults (g.state mid.file.image).faults e → WhyNotAllocated g old filled_now e
+  fill-why Memory why = tt
+  fill-why Storage why = why
+  fill-why e why = absurd why
+
+  known-now : (r : Result Unit Fault) → OnOk r (IsSome mid.space)
+  known-now (Ok v) = subst IsSome (sym there') refl
+  known-now (Err e) = tt
+
+  pub filled : FillsContent g guest host bytes old result filled_now
+  filled = record {
+    keeps = advanced-by g old mid space space caches result there there' fills.rests sure-kept (filling old.tables.file.header.fields host)
+        (λ known. known.safe) (λ p v gave. gave) (λ guest is. is)
+        (none-spared g old (Spares g (WasNotCutOff result) (filling old.tables.file.header.fields host) old filled_now space space) free)
+        (λ known whole. subst (IsL1Of (file_of g mid) mid.file.header.fields) (sym l1) (l1-filled known whole))
+        (λ known. fills.progress (kept-then known));
+    marks = refl;
+    top = record {
+      l1 = l1;
+      entries = ap (λ (K : Header). K.fields.l1_entries) fills.header;
+      tables = λ known. tables-same (file_of g old.tables) (file_of g mid) old.tables.file.header.fields mid.file.header.fields old.tables.l1
+          known.0.safe.seen.l1 (l1-filled known.0 known.1);
+    };
+    space = there' ∙ sym there;
+    known = known-now result;
+    content = λ known. fills.stored known.safe.keeps;
+    cause = if-err result _ (WhyNotAllocated g old filled_now) fill-why fills.cause;
+  }
+
+-- The content was put in what was kept, or in what was free, or nowhere.
+module _ {S : Type 0} (g : Ghosts S) (guest : ℕ) (bytes : List ℕ) (old new : Qcow2 S g) where
+  own-kept : (host : ℕ) → FillsContent g guest host bytes old (Ok tt) new → HasKept g guest (Some host) old
+      → (space : Space) × (new.tables.space ≡ Some space) × (host ≢ 0) × IsOwnAs true (rest_of g new.tables space) guest host
+      × (true ≡ false → 0 < space.to_free.held)
+  own-kept host f known = from new.tables.space refl f.known where
+    from : (o : Option Space) → new.tables.space ≡ o → IsSome o → (space : Space) × (new.tables.space ≡ Some space) × (host ≢ 0)
+        × IsOwnAs true (rest_of g new.tables space) guest host × (true ≡ false → 0 < space.to_free.held)
+    from None is some = absurd (cc some)
+    from (Some space) is some =
+        let safe = f.keeps.safely known tt in
+        let own : IsKeptFor (rest_of g new.tables space) guest host = kept-at-rest g new.tables space guest host
+        (f.keeps.words known tt guest ∙ kept-is _ host known.is) in
+        let hidden = kept-hidden (rest_of g new.tables space) guest host (safe-sound g new space is safe) own in
+        (space, is, apart-some (file_of g new.tables) new.tables.file.header.fields host hidden.0.apart, own, λ bad. absurd (cc bad))
+
+  pub placed-kept : (host : ℕ) → IsInReach old.tables.file.header.fields.cluster_bits host → FillsContent g guest host bytes old (Ok tt) new
+      → PlacesContent g guest (Some host) bytes old (Ok (host, true)) new
+  placed-kept host near f = record {
+    keeps = f.keeps;
+    marks = f.marks;
+    top = f.top;
+    near = near;
+    which = (refl, (refl, f.space));
+    own = own-kept host f;
+    content = f.content;
+    cause = tt;
+  }
+
+  pub unfilled : (host : ℕ) (e : Fault) → FillsContent g guest host bytes old (Err e) new → PlacesContent g guest (Some host) bytes old (Err e) new
+  unfilled host e f = record {
+    keeps = f.keeps;
+    marks = f.marks;
+    top = f.top;
+    near = tt;
+    which = tt;
+    own = λ known. tt;
+    content = λ known. tt;
+    cause = f.cause;
+  }
+
+  -- A cluster is stored in where none is kept.
+  keeps-none : (ok : Type 0) → KeepsDisk g ok old new → KeepsDiskWhere g (HasKept g guest None old) ok old new
+  keeps-none ok k = record {
+    mode = k.mode;
+    number = k.number;
+    unspent = k.unspent;
+    shape = k.shape;
+    later = k.later;
+    failed = k.failed;
+    size = k.size;
+    bits = k.bits;
+    version = k.version;
+    faults = k.faults;
+    stops = λ known. k.stops known.safe;
+    safely = λ known. k.safely known.safe;
+    layer = λ known. k.layer known.safe;
+    words = λ known. k.words known.safe;
+  }
+
+  top-none : (ok : Type 0) → KeepsTop g (IsSafe g old × ok) old new → KeepsTop g (HasKept g guest None old × ok) old new
+  top-none ok k = record { l1 = k.l1; entries = k.entries; tables = λ known. k.tables (known.0.safe, known.1) }
+
+  pub placed-free : (host : ℕ) → StoresContent g bytes old (Ok host) new → PlacesContent g guest None bytes old (Ok (host, false)) new
+  placed-free host s = record {
+    keeps = keeps-none ⊤ s.keeps;
+    marks = s.marks;
+    top = top-none ⊤ s.top;
+    near = s.named.1;
+    which = (refl, tt);
+    own = λ known. let there = s.reserved known.safe in (there.0, there.1, s.named.0, there.2, λ is. there.3);
+    content = λ known. s.content known.safe;
+    cause = tt;
+  }
+
+  pub unstored : (e : Fault) → StoresContent g bytes old (Err e) new → PlacesContent g guest None bytes old (Err e) new
+  unstored e s = record {
+    keeps = keeps-none (WasNotCutOff {T = ℕ} (Err e)) s.keeps;
+    marks = s.marks;
+    top = top-none (WasNotCutOff {T = ℕ} (Err e)) s.top;
+    near = tt;
+    which = tt;
+    own = λ known. tt;
+    content = λ known. tt;
+    cause = s.cause;
   }
 
 -- In a safe image the L1 table in memory is the file's, and what it names over a guest cluster, if anything, is a table.
@@ -326,7 +487,7 @@ module _ {S : Type 0} (g : Ghosts S) (old : Qcow2 S g) (mid : Tables S g) (space
   pub made : EnsuresTable g guest old result made_now
   made = record {
     keeps = advanced g old mid space space' caches result there there' names.rests handed taken
-        (none-spared g old (Spares g (WasNotCutOff result) taken old made_now space space') free)
+        (none-spared g old (Spares g (WasNotCutOff result) (handing handed taken) old made_now space space') free)
         (λ safe whole. l1-moved (file_of g mid) old.tables.file.header mid.file.header mid.l1 names.rests.header
         (names.l1 (is-ready safe) (as-asked safe) (whole-below result whole)))
         (λ safe. names.progress (as-asked safe));
@@ -428,9 +589,10 @@ module _ {S : Type 0} (g : Ghosts S) (old : Qcow2 S g) (mid : Tables S g) (space
   l1-freed : IsSafe g old → WasNotCutOff result → IsL1Of (file_of g mid) mid.file.header.fields old.tables.l1
   l1-freed safe whole = frees.l1 (freed-ready safe) (whole-below result whole) old.tables.l1 safe.seen.l1
 
-  spares-each : (hold : Holding) → Spares g (WasNotCutOff result) (λ c. 0) old freed_now space space' hold
+  spares-each : (hold : Holding) → Spares g (WasNotCutOff result) (handing (λ c. 0) (λ c. 0)) old freed_now space space' hold
   spares-each hold = record {
     spared = refl;
+    unwritten = λ q none. none;
     room = λ some. omega (arith, some, frees.held);
     tables = λ safe whole. tables-same (file_of g old.tables) (file_of g mid) old.tables.file.header.fields mid.file.header.fields old.tables.l1
         safe.seen.l1 (l1-freed safe whole);
@@ -439,7 +601,7 @@ module _ {S : Type 0} (g : Ghosts S) (old : Qcow2 S g) (mid : Tables S g) (space
   pub freed : FreesPending g old result freed_now
   freed = record {
     keeps = advanced g old mid space space' caches result there there' frees.rests (λ c. 0) (λ c. 0)
-        (if-each (holding_in g old.unspent) (Spares g (WasNotCutOff result) (λ c. 0) old freed_now space space') spares-each)
+        (if-each (holding_in g old.unspent) (Spares g (WasNotCutOff result) (handing (λ c. 0) (λ c. 0)) old freed_now space space') spares-each)
         (λ safe whole. subst (IsL1Of (file_of g mid) mid.file.header.fields) (sym l1) (l1-freed safe whole))
         (λ safe. frees.progress);
     marks = refl;

@@ -32,14 +32,15 @@ use Rattle.qcow2_alloc.specs.Quiet.{Metadata, IsSound, in_memory}
 use Rattle.qcow2_alloc.proofs.Memory.SafeLaws.{clean-memory}
 use Rattle.qcow2_steps.specs.Advancing.{Advances, MayBeLeft}
 use Rattle.qcow2_steps.specs.Values.{own_value}
-use Rattle.qcow2_steps.specs.Words.{GivesWord, IsOfWord}
+use Rattle.qcow2_steps.specs.Data.{IsKeptFor}
+use Rattle.qcow2_steps.specs.Words.{GivesWord, IsOfWord, IsReserved}
 use Rattle.qcow2_alloc.specs.declared.cache.MetadataCaches.{MetadataCaches}
 use Rattle.qcow2_clusters.specs.Naming.{IsNameable, Names, WhyNotNamed, naming}
 use Rattle.qcow2_clusters.specs.Progress.{Progresses}
 use Rattle.qcow2_clusters.specs.declared.space.Space.{Space}
 use Rattle.qcow2_clusters.specs.Rest.{Clusters, IsReady, lent, nothing_cached, resting}
-use Rattle.qcow2_image.specs.Committing.{CommitsUnspent, NamesHost, NamesWith, SpendsUnspent, answer_of, failed_behind_any}
-use Rattle.qcow2_image.specs.Holding.{Holding, IsUncopied, claim_held, copied_to, held_home, held_of, held_with, home_or, homes_with, in_cluster, in_run, place_in, written_to}
+use Rattle.qcow2_image.specs.Committing.{CommitsUnspent, NamesHost, NamesWith, SpendsUnspent, answer_of, failed_behind_any, held_behind, reserved_of}
+use Rattle.qcow2_image.specs.Holding.{Holding, IsOwnAs, IsUncopied, claim_held, copied_to, held_home, held_of, held_with, home_or, homes_with, in_cluster, in_run, place_in, written_to}
 use Rattle.qcow2_image.specs.HeldHomes.{free-homes, held-at, run-from, run-guest}
 use Rattle.qcow2_image.specs.Homes.{cluster-there}
 use Rattle.qcow2_image.proofs.FreshRuns.{uncopied-homeless}
@@ -47,12 +48,18 @@ use Rattle.qcow2_image.specs.ImageLayer.{blank_of, cell_by, cells, home_by, home
 use Rattle.qcow2_image.specs.Rooms.{HasCluster, HasRoom, HoldsIn, IsSafe, is_sound, rest_of}
 use Rattle.qcow2_image.specs.Seen.{IsOfFile, IsSeen, file_of, homes_of, layer_of, memory_of}
 use Rattle.qcow2_image.specs.Unspent.{holding, holding_in}
+use Rattle.qcow2_image.specs.declared.mappings.Reserved.{Reserved}
 use Rattle.qcow2_image.specs.declared.qcow2.PreparedMappingState.{PreparedMappingState}
 use Rattle.qcow2_image.specs.declared.qcow2.Qcow2.{Qcow2}
 use Rattle.qcow2_image.specs.declared.tables.Tables.{Tables}
 use Rattle.qcow2_image.specs.declared.unspent.Unspent.{Unspent}
 use Rattle.qcow2_image.proofs.KeepingDisks.{cell-shown, cell_of, may-left, rest-memory, safe-sound, seen_as}
 use Rattle.qcow2_image.proofs.Steps.{memory-is}
+
+-- What is a guest cluster's own is reserved, or kept for it.
+own-either : (is_kept : Bool) (m : Metadata) (guest host : ℕ) → IsOwnAs is_kept m guest host → IsReserved m host ⊎ IsKeptFor m guest host
+own-either true m guest host mine = inr mine
+own-either false m guest host mine = inl mine
 
 -- numbers with the same quotient and rest
 same-parts : (a b d : ℕ) → a / d ≡ b / d → a % d ≡ b % d → a ≡ b
@@ -155,9 +162,9 @@ module _ {S : Type 0} (g : Ghosts S) (claim : ℕ) (old new : Qcow2 S g)
     sound = safe-sound g old holds.space holds.there safe
 
     able : IsNameable before hold.table hold.guest hold.host
-    able = holds.held.nameable
+    able = record { under = holds.held.under; own = own-either hold.is_kept before hold.guest hold.host holds.held.own }
 
-    with-space : NamesWith g hold.table hold.guest hold.host old.tables holds.space s.named new.tables
+    with-space : NamesWith g (reserved_of g s.spent) hold.guest old.tables holds.space s.named new.tables
     with-space = s.names.known holds.space holds.there (let some = holds.held.some in omega (arith, some), holds.held.reach)
 
     abbrev c : Clusters S
@@ -402,7 +409,7 @@ module _ {S : Type 0} (g : Ghosts S) (claim : ℕ) (old new : Qcow2 S g)
 -- What a commit is by its two calls: the mapping was taken out, and its cluster named.
 pub spends-by : {S : Type 0} (g : Ghosts S) (claim : ℕ) (old mid : Qcow2 S g) (u : Unspent S g)
     → (u.claim ≡ claim) × (old.unspent ≡ Some u) × (mid ≡ record old { unspent = None }) → (named : Result Unit Fault) (tables : Tables S g)
-    → NamesHost g u.table u.guest u.host mid.tables named tables → (new : Qcow2 S g)
+    → NamesHost g (reserved_of g u) u.guest mid.tables named tables → (new : Qcow2 S g)
     → new ≡ record mid { tables = tables; failed = failed_behind_any named mid.failed }
     → (result : Result Unit (Fault × Option (PreparedDataMapping PreparedMappingState))) → result ≡ answer_of named
     → (let file = (g.state mid.tables.file.image).bytes in EachIndex file (λ k. slice_index file k < 256))
@@ -413,8 +420,8 @@ spends-by g claim old mid u taken named tables names new is result answer bytes 
   mine = taken.0;
   bytes = subst (λ (t : Tables _ g). let file = (g.state t.file.image).bytes in EachIndex file (λ k. slice_index file k < 256)) tables-same bytes;
   named = named;
-  names = subst (λ t. NamesHost g u.table u.guest u.host t named new.tables) tables-same
-      (subst (NamesHost g u.table u.guest u.host mid.tables named) (sym (ap (λ (d : Qcow2 _ g). d.tables) is)) names);
+  names = subst (λ t. NamesHost g (reserved_of g u) u.guest t named new.tables) tables-same
+      (subst (NamesHost g (reserved_of g u) u.guest mid.tables named) (sym (ap (λ (d : Qcow2 _ g). d.tables) is)) names);
   answer = answer;
   others = is
       ∙ ap (λ (d : Qcow2 _ g). record d { tables = tables; failed = failed_behind_any named d.failed }) taken.2
@@ -424,12 +431,12 @@ spends-by g claim old mid u taken named tables names new is result answer bytes 
   tables-same = ap (λ (d : Qcow2 _ g). d.tables) taken.2
 
 -- What naming a host cluster is by the call that does it, where words can name the cluster.
-module _ {S : Type 0} (g : Ghosts S) (table guest host : ℕ) (old new : Tables S g) (result : Result Unit Fault) (space : Space)
+module _ {S : Type 0} (g : Ghosts S) (r : Reserved) (guest : ℕ) (old new : Tables S g) (result : Result Unit Fault) (space : Space)
     (caches : MetadataCaches S) (between after : Space) (there : old.space ≡ Some space)
-    (names : Names g.state table guest host (lent old.file caches space) result (lent new.file new.caches between)) (l1 : new.l1 ≡ old.l1)
+    (names : Names g.state r.table guest r.host (lent old.file caches space) result (lent new.file new.caches between)) (l1 : new.l1 ≡ old.l1)
     (there' : new.space ≡ Some after) (allocator : after.allocator ≡ between.allocator)
     (entries : after.to_free.entries ≡ between.to_free.entries)
-    (let_go : OnOk result (after.to_free.held ≡ between.to_free.held - 1)) where
+    (let_go : OnOk result (after.to_free.held ≡ held_behind r.is_kept between.to_free.held)) where
   why-any : (sure : Type 0) (a b : ℕ) (fault : Fault) → WhyNotNamed sure a b fault → WhyNotNamed ⊥ a b fault
   why-any sure a b Memory why = tt
   why-any sure a b Storage why = why
@@ -440,7 +447,7 @@ module _ {S : Type 0} (g : Ghosts S) (table guest host : ℕ) (old new : Tables 
   if-err (Ok done) P Q each is = tt
   if-err (Err fault) P Q each is = each fault is
 
-  pub names-by : NamesHost g table guest host old result new
+  pub names-by : NamesHost g r guest old result new
   names-by = record {
     shape = names.rests.shape;
     later = names.rests.later;
@@ -451,7 +458,7 @@ module _ {S : Type 0} (g : Ghosts S) (table guest host : ℕ) (old new : Tables 
       caches = caches;
       between = between;
       after = after;
-      names = subst (λ x. Names g.state table guest host (lent old.file caches x) result (lent new.file new.caches between))
+      names = subst (λ x. Names g.state r.table guest r.host (lent old.file caches x) result (lent new.file new.caches between))
           (some-same known space (sym is ∙ there)) names;
       there = there';
       allocator = allocator;

@@ -1,5 +1,5 @@
 -- What is held of a guest cluster that has no cluster of its own, whose host cluster has what it shows.
-use Rattle.std.proofs.Common.{◌≡◌, ◌≢◌, ◌⊎◌, inl, inr, sym, subst, ap, refl, arith, ◌∙◌, ℕ, ◌+◌, ◌-◌, ◌*◌, ◌/◌, ◌%◌, ◌<◌, ◌≤◌, ltb, leb, eqb, Bool, true, false, Option, Some, None}
+use Rattle.std.proofs.Common.{◌≡◌, ◌⊎◌, inl, inr, sym, subst, ap, refl, arith, ◌∙◌, ℕ, ◌+◌, ◌-◌, ◌*◌, ◌/◌, ◌%◌, ◌<◌, ◌≤◌, ltb, leb, eqb, Bool, true, false, Option, Some, None}
 use Rattle.std.specs.Prelude.{◌&&◌, IsTrue, if◌then◌else◌, min}
 use Rattle.std.proofs.lemmas.Bool.{and_from, and_parts, cases_Bool, cases_lt, cases_order, eq-eqb, eqb-true, le-leb, both_ways, lt-ltb, ltb-true}
 use Rattle.std.proofs.lemmas.Nat.{div-add-mod', mod_below, pow_pos}
@@ -27,6 +27,7 @@ use Rattle.qcow2_image.specs.Rooms.{HoldsIn, rest_of}
 use Rattle.qcow2_image.specs.Seen.{file_of, homes_of, layer_in, layer_of, memory_of}
 use Rattle.qcow2_image.specs.declared.allocating.Shown.{Shown}
 use Rattle.qcow2_image.specs.declared.allocating.Shown.TheVariants as variant
+use Rattle.qcow2_image.specs.declared.mappings.Reserved.{Reserved}
 use Rattle.qcow2_image.specs.declared.qcow2.Qcow2.{Qcow2}
 
 some-same : (a b : Shown) → Some a ≡ Some b → a ≡ b
@@ -137,7 +138,7 @@ module _ (c offset length n : ℕ) (one : 0 < c) (is : n ≡ min length (c - off
   part-near some p same apart = near-by some p apart.0 same apart.1 apart.2 apart.3
 
 -- An image for which such a run is held, with the layer that it shows then.
-module _ {S : Type 0} (g : Ghosts S) (d : Qcow2 S g) (asked : Asked) (clusters : ℕ × ℕ) (claim : ℕ) (written : ℕ → Bool)
+module _ {S : Type 0} (g : Ghosts S) (d : Qcow2 S g) (asked : Asked) (clusters : Reserved) (claim : ℕ) (written : ℕ → Bool)
     (unwritten : (p : ℕ) → written p ≡ false) (some : 0 < asked.length) (fits : asked.offset + asked.length ≤ d.tables.file.header.fields.size) where
   abbrev h : Fields
   h = d.tables.file.header.fields
@@ -173,16 +174,17 @@ module _ {S : Type 0} (g : Ghosts S) (d : Qcow2 S g) (asked : Asked) (clusters :
   fresh-uncut = part-uncut c asked.offset asked.length run one refl h.size
 
   -- It can be named, and is held.
-  pub fresh-held : (clusters.1 ≢ 0) × IsInReach h.cluster_bits clusters.1 → IsReservedFor g guest clusters.0 clusters.1 d.tables
+  pub fresh-held : IsInReach h.cluster_bits clusters.host → IsReservedFor g guest clusters d.tables
       → IsUncopied (entry (file_of g d.tables) h guest) → HoldsIn g d.tables hold
-  fresh-held named reserved uncopied = record {
+  fresh-held near reserved uncopied = record {
     space = reserved.space;
     there = reserved.there;
     held = record {
-      nameable = reserved.nameable;
+      under = reserved.under;
+      own = reserved.own;
       uncopied = uncopied;
-      some = named.0;
-      reach = named.1;
+      some = reserved.some;
+      reach = near;
       placed = refl;
       long = long;
       first = part-low c asked.offset asked.length run one refl;
@@ -204,11 +206,11 @@ module _ {S : Type 0} (g : Ghosts S) (d : Qcow2 S g) (asked : Asked) (clusters :
     | inr far ↦ rw far refl
   ]
 
-  module _ (named : (clusters.1 ≢ 0) × IsInReach h.cluster_bits clusters.1) (reserved : IsReservedFor g guest clusters.0 clusters.1 d.tables)
+  module _ (near : IsInReach h.cluster_bits clusters.host) (reserved : IsReservedFor g guest clusters d.tables)
       (uncopied : IsUncopied (entry (file_of g d.tables) h guest)) (under : ℕ → Value)
-      (filled : (p : ℕ) → IsInFirst h asked p → IsLeft (first_part h asked) p → IsCopied under (layer_of g d) p (file_of g d.tables (place_in h clusters.1 p))) where
+      (filled : (p : ℕ) → IsInFirst h asked p → IsLeft (first_part h asked) p → IsCopied under (layer_of g d) p (file_of g d.tables (place_in h clusters.host p))) where
     holds : HoldsIn g d.tables hold
-    holds = fresh-held named reserved uncopied
+    holds = fresh-held near reserved uncopied
 
     word : (p : ℕ) → p / c ≡ guest → entry (memory_of g d.tables) h (p / c) ≡ entry (file_of g d.tables) h guest
     word p at = ap (λ (m : Bytes). entry m h (p / c)) (memory_is g d.tables) ∙ ap (entry (file_of g d.tables) h) at
@@ -218,14 +220,14 @@ module _ {S : Type 0} (g : Ghosts S) (d : Qcow2 S g) (asked : Asked) (clusters :
     homeless-at p at = uncopied-homeless d.mode.writable (memory_of g d.tables) h p (subst IsUncopied (sym (word p at)) uncopied)
 
     -- but those of the run are at home where it is held.
-    home-at : (i : ℕ) → i < run → now.home (asked.offset + i) ≡ Some (0, place_in h clusters.1 asked.offset + i)
+    home-at : (i : ℕ) → i < run → now.home (asked.offset + i) ≡ Some (0, place_in h clusters.host asked.offset + i)
     home-at i less =
         let in-run : in_run hold (asked.offset + i) ≡ true = and_from (leb asked.offset (asked.offset + i)) (ltb (asked.offset + i) (asked.offset + run))
         (le-leb asked.offset (asked.offset + i) (omega arith)) (lt-ltb (asked.offset + i) (asked.offset + run) (omega (arith, less))) in
         let at = run-guest (rest_of g d.tables holds.space) hold holds.held (asked.offset + i) in-run in
         let behind : asked.offset + i - asked.offset ≡ i = omega arith in
         ap (λ (o : Option (ℕ × ℕ)). home_or o (held_home hold (asked.offset + i))) (homeless-at (asked.offset + i) at)
-        ∙ rw in-run (ap (λ (n : ℕ). Some (0, place_in h clusters.1 asked.offset + n)) behind)
+        ∙ rw in-run (ap (λ (n : ℕ). Some (0, place_in h clusters.host asked.offset + n)) behind)
 
     -- a place beside the run
     out-of-run : (p : ℕ) → in_run hold p ≡ false → IsOut asked.offset run p
@@ -240,7 +242,7 @@ module _ {S : Type 0} (g : Ghosts S) (d : Qcow2 S g) (asked : Asked) (clusters :
 
     -- What was copied to a place of the run is what that shows,
     inside-at : (p : ℕ) → in_run hold p ≡ true → p < h.size → (over : Bool) → asked.overwrite ≡ over
-        → IsHolding under now asked.offset run over p (inside (if over then None else Some (hold.copied (place_in h clusters.1 p))) None over)
+        → IsHolding under now asked.offset run over p (inside (if over then None else Some (hold.copied (place_in h clusters.host p))) None over)
     inside-at p is on true overwritten = (run-from hold p is, refl, refl)
     inside-at p is on false overwritten =
         let at = run-guest (rest_of g d.tables holds.space) hold holds.held p is in
@@ -248,7 +250,7 @@ module _ {S : Type 0} (g : Ghosts S) (d : Qcow2 S g) (asked : Asked) (clusters :
 
     -- and so is what was copied beside it.
     beside-at : (p : ℕ) → in_run hold p ≡ false → p / c ≡ guest → p < h.size
-        → IsHolding under now asked.offset run asked.overwrite p (beside (hold.copied (place_in h clusters.1 p)))
+        → IsHolding under now asked.offset run asked.overwrite p (beside (hold.copied (place_in h clusters.host p)))
     beside-at p out at on = (
       λ here. both_ways (in_run hold p) out (and_from (leb asked.offset p) (ltb p (asked.offset + run)) (le-leb asked.offset p here.0) (lt-ltb p (asked.offset + run) here.1)),
       filled p (at, on) (λ all. out-of-run p out),
@@ -257,12 +259,12 @@ module _ {S : Type 0} (g : Ghosts S) (d : Qcow2 S g) (asked : Asked) (clusters :
 
     -- what is held of a place, by where it lies
     abbrev held-by : Bool → Bool → ℕ → Held
-    held-by near within p = if near then (if within then inside (if asked.overwrite then None else Some (hold.copied (place_in h clusters.1 p))) None asked.overwrite
-        else beside (hold.copied (place_in h clusters.1 p))) else loose
+    held-by near within p = if near then (if within then inside (if asked.overwrite then None else Some (hold.copied (place_in h clusters.host p))) None asked.overwrite
+        else beside (hold.copied (place_in h clusters.host p))) else loose
 
     held-is : (p : ℕ) (near within : Bool) → in_cluster h hold p ≡ near → in_run hold p ≡ within → now.held p ≡ held-by near within p
-    held-is p near within is is' = λ i. if is i then (if is' i then inside (copied_to h hold p) (if unwritten p i then Some (file_of g d.tables (place_in h clusters.1 p)) else None) asked.overwrite
-        else beside (hold.copied (place_in h clusters.1 p))) else loose
+    held-is p near within is is' = λ i. if is i then (if is' i then inside (copied_to h hold p) (if unwritten p i then Some (file_of g d.tables (place_in h clusters.host p)) else None) asked.overwrite
+        else beside (hold.copied (place_in h clusters.host p))) else loose
 
     holds-at : (p : ℕ) (near within : Bool) → in_cluster h hold p ≡ near → in_run hold p ≡ within
         → IsHolding under now asked.offset run asked.overwrite p (held-by near within p)
@@ -270,7 +272,7 @@ module _ {S : Type 0} (g : Ghosts S) (d : Qcow2 S g) (asked : Asked) (clusters :
     holds-at p true true is is' = inside-at p is' (in-cluster p is).1 asked.overwrite refl
     holds-at p true false is is' = beside-at p is' (in-cluster p is).0 (in-cluster p is).1
 
-    pub fresh-prepared : Prepared under (layer_of g d) now asked (run_at 0 (place_in h clusters.1 asked.offset) run (Some claim))
+    pub fresh-prepared : Prepared under (layer_of g d) now asked (run_at 0 (place_in h clusters.host asked.offset) run (Some claim))
     fresh-prepared = record {
       fixed = refl;
       size = refl;

@@ -34,18 +34,20 @@ use Rattle.qcow2_alloc.specs.Allocating.{MovedTable}
 use Rattle.qcow2_alloc.specs.Going as going
 use Rattle.qcow2_alloc.specs.Memory.{Cached}
 use Rattle.qcow2_alloc.specs.Opening.{IsL1Of}
-use Rattle.qcow2_alloc.specs.Quiet.{IsSound, IsUsed, in_memory}
+use Rattle.qcow2_alloc.specs.Quiet.{IsSound, IsUsed, Metadata, in_memory}
 use Rattle.qcow2_alloc.proofs.Growth.LoadingTable.{opened-sound}
 use Rattle.qcow2_alloc.proofs.Memory.SafeLaws.{clean-memory}
 use Rattle.qcow2_steps.specs.Advancing.{Advances, MayBeLeft}
 use Rattle.qcow2_steps.specs.Values.{memory_value, own_value, own_value_by}
-use Rattle.qcow2_clusters.specs.Naming.{IsNameable}
-use Rattle.qcow2_clusters.specs.Progress.{Progresses, handing}
+use Rattle.qcow2_steps.proofs.AddingUp.{reserved-still}
+use Rattle.qcow2_steps.proofs.HiddenClusters.{kept-used}
+use Rattle.qcow2_clusters.specs.Naming.{IsUnder}
+use Rattle.qcow2_clusters.specs.Progress.{Kind, Progresses}
 use Rattle.qcow2_clusters.specs.Rest.{AreEmpty, nothing_cached}
 use Rattle.qcow2_clusters.specs.declared.space.Space.{Space}
-use Rattle.qcow2_image.specs.Holding.{Holding, IsHeld, IsUncopied, claim_held, held_of, held_with, homes_with, in_cluster, place_in}
+use Rattle.qcow2_image.specs.Holding.{Holding, IsHeld, IsOwnAs, IsUncopied, claim_held, held_of, held_with, homes_with, in_cluster, place_in}
 use Rattle.qcow2_image.specs.ImageLayer.{blank_of, cell_by, cells, home_by, homes, meaning_of, qcow2_fixed}
-use Rattle.qcow2_image.specs.KeepsDisk.{KeepsDisk}
+use Rattle.qcow2_image.specs.KeepsDisk.{KeepsDisk, KeepsDiskWhere}
 use Rattle.qcow2_image.specs.Rooms.{HoldsIn, IsSafe, is_sound, rest_of}
 use Rattle.qcow2_image.specs.Seen.{IsOfFile, IsSeen, file_of, layer_of, memory_of}
 use Rattle.qcow2_image.specs.Steps.{KeepsImage}
@@ -168,15 +170,26 @@ if-both : {A : Type 0} (o : Option A) (P Q R : A → Type 0) → ((a : A) → P 
 if-both None P Q R each p q = tt
 if-both (Some a) P Q R each p q = each a p q
 
--- What is held for a mapping has been kept by a change: it wasn't taken, room is held as there was, and the L2 tables are where they were.
-pub record Spares {S : Type 0} (g : Ghosts S) (ok : Type 0) (taken : ℕ → ℕ) (old new : Qcow2 S g) (space space' : Space) (hold : Holding) : Type 0 where
-  pub spared : taken hold.host ≡ 0
+-- A guest cluster's own cluster is counted for it.
+own-used : (is_kept : Bool) (m : Metadata) (guest host : ℕ) → IsSound m → IsOwnAs is_kept m guest host → IsUsed m host
+own-used true m guest host sound mine = kept-used m guest host sound mine
+own-used false m guest host sound mine = mine.used
+
+-- What is held for a mapping has been kept by a change of this kind: it wasn't taken, nothing was written, room is held as there was, and
+-- the L2 tables are where they were.
+pub record Spares {S : Type 0} (g : Ghosts S) (ok : Type 0) (kind : Kind) (old new : Qcow2 S g) (space space' : Space) (hold : Holding) : Type 0 where
+  pub spared : kind.taken hold.host ≡ 0
+  pub unwritten : (q : ℕ) → kind.written q → ⊥
   pub room : 0 < space.to_free.held → 0 < space'.to_free.held
   pub tables : IsSafe g old → ok → (i : ℕ)
       → l2_table (file_of g new.tables) new.tables.file.header.fields i ≡ l2_table (file_of g old.tables) old.tables.file.header.fields i
 
--- An image of known free space has become another, as a change of its clusters leaves it that gives nothing.
-pub record Advanced {S : Type 0} (g : Ghosts S) (ok : Type 0) (handed taken : ℕ → ℕ) (old new : Qcow2 S g) : Type 0 where
+-- An image of known free space has become another, as a change of its clusters leaves it that gives and sets nothing. Where it was as
+-- `sure` says it was safe.
+pub record Advanced {S : Type 0} (g : Ghosts S) (sure ok : Type 0) (kind : Kind) (old new : Qcow2 S g) : Type 0 where
+  pub safe : sure → IsSafe g old
+  pub none : (p : ℕ) (v : Option Value) → kind.gives p v → ⊥
+  pub unset : (guest : ℕ) → kind.set guest → ⊥
   pub space : Space
   pub space' : Space
   pub there : old.tables.space ≡ Some space
@@ -184,7 +197,7 @@ pub record Advanced {S : Type 0} (g : Ghosts S) (ok : Type 0) (handed taken : �
   pub mode : new.mode ≡ old.mode
   pub number : new.number ≡ old.number
   pub unspent : new.unspent ≡ old.unspent
-  pub spares : IfSome (holding_in g old.unspent) (Spares g ok taken old new space space')
+  pub spares : IfSome (holding_in g old.unspent) (Spares g ok kind old new space space')
   pub shape : (g.state new.tables.file.image).shape ≡ (g.state old.tables.file.image).shape
   pub later : Later (g.state old.tables.file.image) (g.state new.tables.file.image)
   pub header : MovedTable old.tables.file.header new.tables.file.header
@@ -192,11 +205,11 @@ pub record Advanced {S : Type 0} (g : Ghosts S) (ok : Type 0) (handed taken : �
   pub whole : ok → new.failed ≡ old.failed
   pub faults : ok → IsFaultless (g.state old.tables.file.image) (g.state new.tables.file.image)
   pub empty : AreEmpty new.tables.caches
-  pub l1 : IsSafe g old → ok → IsL1Of (file_of g new.tables) new.tables.file.header.fields new.tables.l1
-  pub progress : IsSafe g old → Progresses ok (handing handed taken) (g.state old.tables.file.image) (rest_of g old.tables space)
+  pub l1 : sure → ok → IsL1Of (file_of g new.tables) new.tables.file.header.fields new.tables.l1
+  pub progress : sure → Progresses ok kind (g.state old.tables.file.image) (rest_of g old.tables space)
       (g.state new.tables.file.image) (rest_of g new.tables space')
 
-module _ {S : Type 0} (g : Ghosts S) (ok : Type 0) (handed taken : ℕ → ℕ) (old new : Qcow2 S g) (a : Advanced g ok handed taken old new) where
+module _ {S : Type 0} (g : Ghosts S) (sure ok : Type 0) (kind : Kind) (old new : Qcow2 S g) (a : Advanced g sure ok kind old new) where
   abbrev f : Bytes
   f = file_of g old.tables
 
@@ -215,9 +228,15 @@ module _ {S : Type 0} (g : Ghosts S) (ok : Type 0) (handed taken : ℕ → ℕ) 
   bits-same : h'.cluster_bits ≡ h.cluster_bits
   bits-same = ap (λ (K : Header). K.fields.cluster_bits) a.header.2
 
-  module _ (safe : IsSafe g old) (whole : ok) where
-    advances : Advances (λ p v. ⊥) (λ q. ⊥) (λ guest. ⊥) handed taken (rest_of g old.tables a.space) (rest_of g new.tables a.space')
-    advances = (a.progress safe).holds safe.keeps (safe-sound g old a.space a.there safe) whole
+  module _ (known : sure) (whole : ok) where
+    safe : IsSafe g old
+    safe = a.safe known
+
+    sound-before : IsSound (rest_of g old.tables a.space)
+    sound-before = safe-sound g old a.space a.there safe
+
+    advances : Advances kind.gives kind.written kind.set kind.handed kind.taken (rest_of g old.tables a.space) (rest_of g new.tables a.space')
+    advances = (a.progress known).holds safe.keeps sound-before whole
 
     consistent-now : IsConsistent f' new.tables.file.header
     consistent-now = advances.sound.safe.consistent
@@ -226,7 +245,7 @@ module _ {S : Type 0} (g : Ghosts S) (ok : Type 0) (handed taken : ℕ → ℕ) 
     seen-now = record {
       loads = header-reading f' new.tables.file.header consistent-now.readable.loads;
       inside = consistent-now.readable.data_inside;
-      l1 = a.l1 safe whole;
+      l1 = a.l1 known whole;
       tables = subst (λ (c : Cached). AllByRecursion (IsOfFile f' h') c.tables) (sym a.empty) tt;
     }
 
@@ -236,45 +255,54 @@ module _ {S : Type 0} (g : Ghosts S) (ok : Type 0) (handed taken : ℕ → ℕ) 
         let two = ap (λ b. entry b h guest) (rest-memory g old.tables a.space) in
         elim (advances.words guest) [
           | inl same ↦ sym one ∙ same ∙ two
-          | inr set ↦ absurd set
+          | inr set ↦ absurd (a.unset guest set)
         ]
 
-    -- What is held is held still: its cluster is reserved, its table is there, and its bytes are what they were.
-    module _ (hold : Holding) (holds : HoldsIn g old.tables hold) (spares : Spares g ok taken old new a.space a.space' hold) where
+    -- What is held is held still: its cluster is the guest cluster's own, its table is there, and its bytes are what they were.
+    module _ (hold : Holding) (holds : HoldsIn g old.tables hold) (spares : Spares g ok kind old new a.space a.space' hold) where
       space-is : holds.space ≡ a.space
       space-is = let e : Some holds.space ≡ Some a.space = sym holds.there ∙ a.there in cc e
 
       was : IsHeld (rest_of g old.tables a.space) hold
       was = subst (λ x. IsHeld (rest_of g old.tables x) hold) space-is holds.held
 
+      used : IsUsed (rest_of g old.tables a.space) hold.host
+      used = own-used hold.is_kept (rest_of g old.tables a.space) hold.guest hold.host sound-before was.own
+
       byte-held : (p : ℕ) → in_cluster h hold p ≡ true → f' (place_in h hold.host p) ≡ f (place_in h hold.host p)
       byte-held p inside =
           let c : ℕ = cluster_size h in
           let there : place_in h hold.host p / c ≡ hold.host = div-mul-add hold.host c (p % c) (mod_below p c (pow_pos h.cluster_bits)) in
-          elim (advances.kept (place_in h hold.host p) (subst (IsUsed (rest_of g old.tables a.space)) (sym there) was.nameable.reserved.used)
-          (ap taken there ∙ spares.spared)) [
-            | inl written ↦ absurd written
+          elim (advances.kept (place_in h hold.host p) (subst (IsUsed (rest_of g old.tables a.space)) (sym there) used)
+          (ap kind.taken there ∙ spares.spared)) [
+            | inl written ↦ absurd (spares.unwritten _ written)
             | inr same ↦ same
           ]
 
-      nameable-still : IsNameable (rest_of g new.tables a.space') hold.table hold.guest hold.host
-      nameable-still = record {
-        inside = rw (bits-same, ap (λ (K : Header). K.fields.l1_entries) a.header.2) was.nameable.inside;
-        there = rw bits-same (spares.tables safe whole (hold.guest / words_of_cluster h) ∙ was.nameable.there);
-        some = was.nameable.some;
-        reserved = record {
-          used = advances.used hold.host was.nameable.reserved.used spares.spared;
-          unnamed = omega (arith, advances.names hold.host was.nameable.reserved.used spares.spared, was.nameable.reserved.unnamed);
-          waits = omega (arith, advances.waits hold.host was.nameable.reserved.used spares.spared, was.nameable.reserved.waits);
-        };
+      under-still : IsUnder (rest_of g new.tables a.space') hold.table hold.guest
+      under-still = record {
+        inside = rw (bits-same, ap (λ (K : Header). K.fields.l1_entries) a.header.2) was.under.inside;
+        there = rw bits-same (spares.tables safe whole (hold.guest / words_of_cluster h) ∙ was.under.there);
+        some = was.under.some;
       }
+
+      own-still : (is_kept : Bool) → IsOwnAs is_kept (rest_of g old.tables a.space) hold.guest hold.host
+          → IsOwnAs is_kept (rest_of g new.tables a.space') hold.guest hold.host
+      own-still true mine = record {
+        file = words-same hold.guest ∙ mine.file;
+        memory = ap (λ b. entry b h' hold.guest) (rest-memory g new.tables a.space') ∙ words-same hold.guest ∙ mine.file;
+      }
+      own-still false mine =
+          reserved-still kind.gives kind.written kind.set kind.handed kind.taken (rest_of g old.tables a.space) (rest_of g new.tables a.space') advances
+          hold.host mine spares.spared
 
       held-still : HoldsIn g new.tables hold
       held-still = record {
         space = a.space';
         there = a.there';
         held = record {
-          nameable = nameable-still;
+          under = under-still;
+          own = own-still hold.is_kept was.own;
           uncopied = subst IsUncopied (sym (words-same hold.guest)) was.uncopied;
           some = was.some;
           reach = rw bits-same was.reach;
@@ -286,7 +314,7 @@ module _ {S : Type 0} (g : Ghosts S) (ok : Type 0) (handed taken : ℕ → ℕ) 
           kept = rw (bits-same, size-same) (λ p inside unwritten. byte-held p inside ∙ was.kept p inside unwritten);
           beside = rw (bits-same, size-same) was.beside;
         };
-        room = spares.room (subst (λ (x : Space). 0 < x.to_free.held) space-is holds.room);
+        room = λ none. spares.room (subst (λ (x : Space). 0 < x.to_free.held) space-is (holds.room none));
       }
 
     safe-now : IsSafe g new
@@ -297,7 +325,7 @@ module _ {S : Type 0} (g : Ghosts S) (ok : Type 0) (handed taken : ℕ → ℕ) 
       seen = seen-now;
       sound = subst (λ o. IfSome o (λ x. IsSound (rest_of g new.tables x))) (sym a.there') advances.sound;
       held = subst (λ u. IfSome (holding_in g u) (HoldsIn g new.tables)) (sym a.unspent)
-          (if-both (holding_in g old.unspent) (HoldsIn g old.tables) (Spares g ok taken old new a.space a.space') (HoldsIn g new.tables)
+          (if-both (holding_in g old.unspent) (HoldsIn g old.tables) (Spares g ok kind old new a.space a.space') (HoldsIn g new.tables)
           held-still safe.held a.spares);
       writable = λ some. subst IsTrue (sym (ap (λ (m : OpenMode). m.writable) a.mode)) (safe.writable (subst IsSome a.unspent some));
     }
@@ -305,7 +333,7 @@ module _ {S : Type 0} (g : Ghosts S) (ok : Type 0) (handed taken : ℕ → ℕ) 
     value-same : (p : ℕ) → own_value f' f' h' p ≡ own_value f f h p
     value-same p = elim (advances.memory p) [
       | inl same ↦ sym (rest-value g new.tables a.space' p) ∙ same ∙ rest-value g old.tables a.space p
-      | inr gave ↦ absurd gave
+      | inr gave ↦ absurd (a.none p _ gave)
     ]
 
     cell-same : (blank : Cell) (p : ℕ) → cells blank (memory_of g new.tables) f' h' p ≡ cells blank (memory_of g old.tables) f h p
@@ -334,7 +362,7 @@ module _ {S : Type 0} (g : Ghosts S) (ok : Type 0) (handed taken : ℕ → ℕ) 
     homes-same = λ i. homes_with (holding_in g (a.unspent i)) (fun_ext home-same i)
 
     -- and what is held of each place is what it was.
-    held-of-same : (hold : Holding) (p : ℕ) → HoldsIn g old.tables hold → Spares g ok taken old new a.space a.space' hold
+    held-of-same : (hold : Holding) (p : ℕ) → HoldsIn g old.tables hold → Spares g ok kind old new a.space a.space' hold
         → held_of h' f' hold p ≡ held_of h f hold p
     held-of-same hold p holds spares = rw (bits-same, size-same) (elim (cases_Bool (in_cluster h hold p)) [
       | inl inside ↦ rw inside (rw (byte-held hold holds spares p inside) refl)
@@ -344,7 +372,7 @@ module _ {S : Type 0} (g : Ghosts S) (ok : Type 0) (handed taken : ℕ → ℕ) 
     held-same : (layer_of g new).held ≡ (layer_of g old).held
     held-same = fun_ext (λ p.
         ap (λ u. held_with h' f' (holding_in g u) p) a.unspent ∙ from (holding_in g old.unspent) safe.held a.spares p) where
-          from : (o : Option Holding) → IfSome o (HoldsIn g old.tables) → IfSome o (Spares g ok taken old new a.space a.space') → (p : ℕ)
+          from : (o : Option Holding) → IfSome o (HoldsIn g old.tables) → IfSome o (Spares g ok kind old new a.space a.space') → (p : ℕ)
               → held_with h' f' o p ≡ held_with h f o p
           from None holds spares p = refl
           from (Some hold) holds spares p = held-of-same hold p holds spares
@@ -364,7 +392,7 @@ module _ {S : Type 0} (g : Ghosts S) (ok : Type 0) (handed taken : ℕ → ℕ) 
       unspent = claim_held (holding_in g (a.unspent i));
     }
 
-  pub progress-keeps : KeepsDisk g ok old new
+  pub progress-keeps : KeepsDiskWhere g sure ok old new
   progress-keeps = record {
     mode = a.mode;
     number = a.number;
@@ -376,12 +404,13 @@ module _ {S : Type 0} (g : Ghosts S) (ok : Type 0) (handed taken : ℕ → ℕ) 
     bits = bits-same;
     version = ap (λ (K : Header). K.fields.version) a.header.2;
     faults = a.faults;
-    stops = λ safe below.
+    stops = λ known below.
         let s = g.state old.tables.file.image in
-        let left = may-left g old a.space safe below (λ p v. ⊥) GivesNone (λ p v low gave. absurd gave) in
-        passes_weaker (λ x. (K : Header) × MayBeLeft (λ p v. ⊥) (rest_of g old.tables a.space) (bytes_of x) K)
+        let safe = a.safe known in
+        let left = may-left g old a.space safe below kind.gives GivesNone (λ p v low gave. absurd (a.none p v gave)) in
+        passes_weaker (λ x. (K : Header) × MayBeLeft kind.gives (rest_of g old.tables a.space) (bytes_of x) K)
         (Left below (layer_of g old) s.bytes is_sound h.size h.size GivesNone) s (g.state new.tables.file.image) left
-        ((a.progress safe).passes safe.keeps (safe-sound g old a.space a.there safe));
+        ((a.progress known).passes safe.keeps (safe-sound g old a.space a.there safe));
     safely = safe-now;
     layer = layer-same;
     words = words-same;
@@ -406,9 +435,10 @@ keeps-disk-as g first-ok ok a b from k = record {
   words = λ safe whole. k.words safe (from whole);
 }
 
--- Two such calls, one behind the other: the second is made where the first wasn't cut off.
-module _ {S : Type 0} (g : Ghosts S) (first-ok ok : Type 0) (a b c : Qcow2 S g) (done : first-ok) (first : KeepsDisk g first-ok a b)
-    (second : KeepsDisk g ok b c) where
+-- Two such calls, one behind the other: the second is made where the first wasn't cut off, and where it is as that needs.
+module _ {S : Type 0} (g : Ghosts S) (sure first-sure second-sure first-ok ok : Type 0) (a b c : Qcow2 S g) (done : first-ok)
+    (one : sure → first-sure) (two : sure → second-sure) (first : KeepsDiskWhere g first-sure first-ok a b)
+    (second : KeepsDiskWhere g second-sure ok b c) where
   abbrev s : StorageState
   s = g.state a.tables.file.image
 
@@ -418,19 +448,19 @@ module _ {S : Type 0} (g : Ghosts S) (first-ok ok : Type 0) (a b c : Qcow2 S g) 
   abbrev u : StorageState
   u = g.state c.tables.file.image
 
-  both-stops : IsSafe g a → (below : List Layer) → Passes (Left below (layer_of g a) s.bytes is_sound (layer_of g a).size (layer_of g a).size GivesNone) s u
-  both-stops safe below =
-      let same = first.layer safe done in
+  both-stops : sure → (below : List Layer) → Passes (Left below (layer_of g a) s.bytes is_sound (layer_of g a).size (layer_of g a).size GivesNone) s u
+  both-stops known below =
+      let same = first.layer (one known) done in
       let size : (layer_of g b).size ≡ (layer_of g a).size = ap (λ (l : Layer). l.size) same in
-      let behind = second.stops (first.safely safe done) below in
+      let behind = second.stops (two known) below in
       then_left below is_sound (layer_of g a) (layer_of g b) (layer_of g a).size (layer_of g a).size GivesNone GivesNone s t u
       (first.shape, first.later) (second.shape, second.later) (ap (λ (l : Layer). l.fixed) same) size
       (omega arith) (omega arith) (λ p low. inr (inl (ap (λ (l : Layer). at (l ∷ below) p) same)))
-      (λ p v low gave. absurd gave) (first.stops safe below)
+      (λ p v low gave. absurd gave) (first.stops (one known) below)
       (subst (λ n. Passes (Left below (layer_of g b) t.bytes is_sound n n GivesNone) t u) size behind)
 
-  pub keeps-disk-both : KeepsDisk g ok a c
-  keeps-disk-both = record {
+  pub keeps-disk-then : KeepsDiskWhere g sure ok a c
+  keeps-disk-then = record {
     mode = second.mode ∙ first.mode;
     number = second.number ∙ first.number;
     unspent = second.unspent ∙ first.unspent;
@@ -442,10 +472,16 @@ module _ {S : Type 0} (g : Ghosts S) (first-ok ok : Type 0) (a b c : Qcow2 S g) 
     version = second.version ∙ first.version;
     faults = λ whole. ((second.faults whole).0 ∙ (first.faults done).0, (second.faults whole).1 ∙ (first.faults done).1);
     stops = both-stops;
-    safely = λ safe whole. second.safely (first.safely safe done) whole;
-    layer = λ safe whole. second.layer (first.safely safe done) whole ∙ first.layer safe done;
-    words = λ safe whole guest. second.words (first.safely safe done) whole guest ∙ first.words safe done guest;
+    safely = λ known whole. second.safely (two known) whole;
+    layer = λ known whole. second.layer (two known) whole ∙ first.layer (one known) done;
+    words = λ known whole guest. second.words (two known) whole guest ∙ first.words (one known) done guest;
   }
+
+-- A safe image is safe behind the first.
+pub keeps-disk-both : {S : Type 0} (g : Ghosts S) (first-ok ok : Type 0) (a b c : Qcow2 S g) → first-ok → KeepsDisk g first-ok a b
+    → KeepsDisk g ok b c → KeepsDisk g ok a c
+keeps-disk-both g first-ok ok a b c done first second =
+    keeps-disk-then g (IsSafe g a) (IsSafe g a) (IsSafe g b) first-ok ok a b c done (λ safe. safe) (λ safe. first.safely safe done) first second
 
 -- A call that leaves the file as it was, the header and what is prepared.
 module _ {S : Type 0} (g : Ghosts S) (ok : Type 0) (old new : Qcow2 S g) (kept : Kept (g.state old.tables.file.image) (g.state new.tables.file.image))

@@ -21,6 +21,7 @@ pub mod Mapped
 pub mod Written
 pub mod Preparing
 pub mod KeepingDisks
+pub mod KeptClusters
 pub mod FreshRuns
 pub mod Copying
 pub mod Reserving

@@ -13,15 +13,13 @@ use Rattle.qcow2_types.specs.Consistency.{IsConsistent}
 use Rattle.qcow2_types.specs.Entries.{entry}
 use Rattle.qcow2_types.specs.Frames.{Outside}
 use Rattle.qcow2_types.specs.Header.{Fields, cluster_size}
-use Rattle.qcow2_types.specs.References.{refs}
 use Rattle.qcow2_types.specs.Words.{data_at}
 use Rattle.qcow2_types.proofs.DataSteps.{untouched-keeps}
-use Rattle.qcow2_types.proofs.Either.{refs-file}
-use Rattle.qcow2_alloc.specs.Quiet.{Metadata, IsSound, in_memory, named_at_all}
-use Rattle.qcow2_steps.specs.Data.{WritesBeside}
+use Rattle.qcow2_alloc.specs.Quiet.{Metadata, IsSound}
+use Rattle.qcow2_steps.specs.Data.{IsHidden, KeepsWords, WritesBeside}
 use Rattle.qcow2_steps.proofs.DataRuns.{beside-reserved, beside-words}
-use Rattle.qcow2_image.specs.HeldHomes.{held-at, run-from, run-guest}
-use Rattle.qcow2_image.specs.Holding.{Holding, IsHeld, IsUncopied, Notes, claim_held, copied_to, held_home, held_of, home_or, homes_with, in_cluster, in_run, place_in, written_to}
+use Rattle.qcow2_image.specs.HeldHomes.{held-at, own-hidden, run-from, run-guest}
+use Rattle.qcow2_image.specs.Holding.{Holding, IsHeld, IsOwnAs, IsUncopied, Notes, claim_held, copied_to, held_home, held_of, home_or, homes_with, in_cluster, in_run, place_in, written_to}
 use Rattle.qcow2_image.specs.Homes.{cluster-there, home-of, home-there, mapped, memory_is, within-there}
 use Rattle.qcow2_image.specs.ImageLayer.{home_by, homes}
 use Rattle.qcow2_image.specs.Rooms.{HoldsIn, IsSafe, rest_of}
@@ -29,7 +27,8 @@ use Rattle.qcow2_image.specs.Seen.{file_of, homes_of, layer_of, memory_of}
 use Rattle.qcow2_image.specs.Unspent.{holding_in}
 use Rattle.qcow2_image.specs.declared.qcow2.Qcow2.{Qcow2}
 use Rattle.qcow2_image.specs.declared.unspent.Unspent.{Unspent}
-use Rattle.qcow2_image.proofs.Rewriting.{IsWrittenAt, byte-stays, rewritten-entries, rewritten-kept, unnamed-empty, written-beside}
+use Rattle.qcow2_image.proofs.KeepingDisks.{safe-sound}
+use Rattle.qcow2_image.proofs.Rewriting.{IsWrittenAt, byte-stays, rewritten-entries, rewritten-kept, written-beside}
 
 -- the place of the disk lies in the run, at this place of the file
 pub record IsOfRun (h : Fields) (hold : Holding) (p at : ℕ) : Type 0 where
@@ -44,23 +43,17 @@ IsInRun h (Some hold) p at = IsOfRun h hold p at
 abbrev pub IsWrittenIn : Bytes → Fields → Option Holding → (p at : ℕ) → Type 0
 IsWrittenIn f h hold p at = (home_by h p (mapped f h p) ≡ Some (0, at)) ⊎ ((home_by h p (mapped f h p) ≡ None) × IsInRun h hold p at)
 
--- No word names what is held.
-abbrev pub IsUnnamed : Bytes → Fields → Option Holding → Type 0
-IsUnnamed f h hold = IfSome hold (λ x. refs f h x.host ≡ 0)
+-- No place shows what is held.
+abbrev pub IsUnshown : Bytes → Fields → Option Holding → Type 0
+IsUnshown f h hold = IfSome hold (λ x. IsHidden f h x.host)
 
-pub held-unnamed : (m : Metadata) (hold : Holding) → IsHeld m hold → refs m.file m.header.fields hold.host ≡ 0
-held-unnamed m hold held =
-    let le : refs m.file m.header.fields hold.host ≤ named_at_all m hold.host = refs-file m.file (in_memory m) m.header.fields hold.host in
-    let none = held.nameable.reserved.unnamed in
-    omega (arith, le, none)
-
--- So it is written in a cluster that none names.
-pub written-at : (f : Bytes) (h : Fields) (hold : Option Holding) (p at : ℕ) → IsUnnamed f h hold → IsWrittenIn f h hold p at → IsWrittenAt f h p at
-written-at f h hold p at unnamed (inl home) = inl home
-written-at f h None p at unnamed (inr run) = absurd run.1
-written-at f h (Some hold) p at unnamed (inr run) =
+-- So it is written in a cluster that none shows.
+pub written-at : (f : Bytes) (h : Fields) (hold : Option Holding) (p at : ℕ) → IsUnshown f h hold → IsWrittenIn f h hold p at → IsWrittenAt f h p at
+written-at f h hold p at unshown (inl home) = inl home
+written-at f h None p at unshown (inr run) = absurd run.1
+written-at f h (Some hold) p at unshown (inr run) =
     let there : at / cluster_size h ≡ hold.host = cluster-there h at hold.host p run.1.there in
-    inr (run.0, ap (refs f h) there ∙ unnamed)
+    inr (run.0, subst (IsHidden f h) (sym there) unshown)
 
 -- a home in the run
 held-there : (hold : Holding) (p at : ℕ) → held_home hold p ≡ Some (0, at) → (in_run hold p ≡ true) × (at ≡ hold.place + (p - hold.offset))
@@ -122,11 +115,12 @@ module _ {S : Type 0} (g : Ghosts S) (d : Qcow2 S g) (safe : IsSafe g d) where
     from None is holds home = word None home
     from (Some hold) is holds home = either hold is holds (homes_of g d p) refl home
 
-  pub unnamed-in : IsUnnamed (file_of g d.tables) h (holding_in g d.unspent)
-  unnamed-in = from (holding_in g d.unspent) safe.held where
-    from : (hold : Option Holding) → IfSome hold (HoldsIn g d.tables) → IsUnnamed (file_of g d.tables) h hold
+  pub unshown-in : IsUnshown (file_of g d.tables) h (holding_in g d.unspent)
+  unshown-in = from (holding_in g d.unspent) safe.held where
+    from : (hold : Option Holding) → IfSome hold (HoldsIn g d.tables) → IsUnshown (file_of g d.tables) h hold
     from None holds = tt
-    from (Some hold) holds = held-unnamed (rest_of g d.tables holds.space) hold holds.held
+    from (Some hold) holds = own-hidden hold.is_kept (rest_of g d.tables holds.space) hold.guest hold.host
+        (safe-sound g d holds.space holds.there safe) holds.held.own
 
 -- Where a mapping holds something, what was noted changes neither where places can be written,
 pub noted-homes : (at n : ℕ) (old new : Option Holding) → Notes at n old new → (home : ℕ → Option (ℕ × ℕ)) → homes_with new home ≡ homes_with old home
@@ -183,11 +177,11 @@ module _ (m : Metadata) (sound : IsSound m) (hold : Holding) (held : IsHeld m ho
   was : IsConsistent m.file m.header
   was = sound.safe.consistent
 
-  unnamed : refs m.file fields hold.host ≡ 0
-  unnamed = held-unnamed m hold held
+  unshown : IsHidden m.file fields hold.host
+  unshown = own-hidden hold.is_kept m hold.guest hold.host sound held.own
 
   each-at : (i : ℕ) → i < n → IsWrittenAt m.file fields (guest + i) (place + i)
-  each-at i lt = written-at m.file fields (Some hold) (guest + i) (place + i) unnamed (each i lt)
+  each-at i lt = written-at m.file fields (Some hold) (guest + i) (place + i) unshown (each i lt)
 
   -- The places of the guest cluster;
   cluster-of : (p : ℕ) → in_cluster fields hold p ≡ true → (p / cluster_size fields ≡ hold.guest) × (p < fields.size)
@@ -216,8 +210,7 @@ module _ (m : Metadata) (sound : IsSound m) (hold : Holding) (held : IsHeld m ho
         let found = home-of fields (guest + i) (place + i) (mapped m.file fields (guest + i)) home in
         let one : (place + i) / cluster_size fields ≡ found.0 = cluster-there fields (place + i) found.0 (guest + i) found.2 in
         let two : (place + i) / cluster_size fields ≡ hold.host = cluster-there fields (place + i) hold.host p (sym at) in
-        let none : refs m.file fields found.0 ≡ 0 = ap (refs m.file fields) (sym one ∙ two) ∙ unnamed in
-        unnamed-empty m.file m.header was ((guest + i) / cluster_size fields) found.0 true none found.1
+        unshown.dataless ((guest + i) / cluster_size fields) true (found.1 ∙ ap (λ d. data_at d true) (sym one ∙ two))
     | inr run ↦
         let rows : (guest + i) / cluster_size fields ≡ p / cluster_size fields = run-guest m hold held (guest + i) run.1.inside ∙ sym (cluster-of p is).0 in
         let here : (place + i) % cluster_size fields ≡ (guest + i) % cluster_size fields = within-there fields (place + i) hold.host (guest + i) run.1.there in
@@ -279,12 +272,12 @@ module _ (m : Metadata) (sound : IsSound m) (hold : Holding) (held : IsHeld m ho
         record { apart = run.0; low = run.1; high = run.2; outside = out } in
         let words = beside-words m sound (place / cluster_size fields) ((place + (n - 1)) / cluster_size fields - place / cluster_size fields) place n x writes in
         record {
-          nameable = record {
-            inside = held.nameable.inside;
-            there = (untouched-keeps m.file x m.header was (rewritten-kept m.file m.header was guest place n each-at x out)).places.l1 _ ∙ held.nameable.there;
-            some = held.nameable.some;
-            reserved = beside-reserved m x words hold.host held.nameable.reserved;
+          under = record {
+            inside = held.under.inside;
+            there = (untouched-keeps m.file x m.header was (rewritten-kept m.file m.header was guest place n each-at x out)).places.l1 _ ∙ held.under.there;
+            some = held.under.some;
           };
+          own = own-still words hold.is_kept held.own;
           uncopied = subst IsUncopied (sym (rewritten-entries m.file m.header was guest place n each-at x out hold.guest)) held.uncopied;
           some = held.some;
           reach = held.reach;
@@ -299,6 +292,10 @@ module _ (m : Metadata) (sound : IsSound m) (hold : Holding) (held : IsHeld m ho
           beside = λ p is off. notes p ∙ beside-off p is off;
         }
       where
+        own-still : KeepsWords m x → (is_kept : Bool) → IsOwnAs is_kept m hold.guest hold.host → IsOwnAs is_kept (record m { file = x }) hold.guest hold.host
+        own-still words true mine = record { file = words.file_entries hold.guest ∙ mine.file; memory = words.memory_entries hold.guest ∙ mine.memory }
+        own-still words false mine = beside-reserved m x words hold.host mine
+
         beside-off : (p : ℕ) → in_cluster fields hold p ≡ true → in_run hold p ≡ false → ((nat_le guest p && ltb p (guest + n)) || hold.written p) ≡ false
         beside-off p is off = elim (cases_Bool (nat_le guest p && ltb p (guest + n))) [
           | inr away ↦ rw away (held.beside p is off)

@@ -208,11 +208,11 @@ module _ (R : RattleType) (st : Ghosts R.Denot) (sd : mir.Syntax.Dict) (dd : mir
       guest : asked.offset / cluster_size h ≡ asked.offset / cluster_size h'
       guest = ap (λ (b : ℕ). asked.offset / 2 ^ b) (sym k.bits)
 
-      named : (f.clusters.1 ≡ 0 → ⊥) × IsInReach h'.cluster_bits f.clusters.1
-      named = (f.named.0, subst (λ (b : ℕ). IsInReach b f.clusters.1) (sym k.bits) f.named.1)
+      near : IsInReach h'.cluster_bits f.clusters.host
+      near = subst (λ (b : ℕ). IsInReach b f.clusters.host) (sym k.bits) f.near
 
-      reserved : IsSafe st old → IsReservedFor st (asked.offset / cluster_size h') f.clusters.0 f.clusters.1 middle.tables
-      reserved safe = subst (λ (n : ℕ). IsReservedFor st n f.clusters.0 f.clusters.1 middle.tables) guest (f.reserved safe)
+      reserved : IsSafe st old → IsReservedFor st (asked.offset / cluster_size h') f.clusters middle.tables
+      reserved safe = subst (λ (n : ℕ). IsReservedFor st n f.clusters middle.tables) guest (f.reserved safe)
 
       -- its guest cluster has no cluster of its own, as its first place can't be written
       uncopied-was : IsSafe st old → IsUncopied (entry (file_of st old.tables) h (asked.offset / cluster_size h))
@@ -227,7 +227,7 @@ module _ (R : RattleType) (st : Ghosts R.Denot) (sd : mir.Syntax.Dict) (dd : mir
       abbrev Filled : ℕ → ℕ → Layer → Type 0
       Filled b size layer = (p : ℕ) → (p / 2 ^ b ≡ asked.offset / 2 ^ b) × (p < size)
           → IsLeft (record asked { length = min asked.length (2 ^ b - asked.offset % 2 ^ b) }) p
-          → IsCopied (at (u.under x)) layer p (file_of st middle.tables (f.clusters.1 * 2 ^ b + p % 2 ^ b))
+          → IsCopied (at (u.under x)) layer p (file_of st middle.tables (f.clusters.host * 2 ^ b + p % 2 ^ b))
 
       filled : IsSafe st old → u.sees_under x → Filled h'.cluster_bits h'.size (layer_of st middle)
       filled safe under = subst (λ (b : ℕ). Filled b h'.size (layer_of st middle)) (sym k.bits)
@@ -236,7 +236,7 @@ module _ (R : RattleType) (st : Ghosts R.Denot) (sd : mir.Syntax.Dict) (dd : mir
 
       holds-in : IsSafe st old → HoldsIn st middle.tables (holding st unspent)
       holds-in safe = subst (HoldsIn st middle.tables) (sym holds-now)
-          (fresh-held st middle asked f.clusters unspent.claim (covers unspent.written) f.holds.unwritten some on-disk named (reserved safe) (uncopied safe))
+          (fresh-held st middle asked f.clusters unspent.claim (covers unspent.written) f.holds.unwritten some on-disk near (reserved safe) (uncopied safe))
 
       safe-held : IsSafe st old → IsSafe st held
       safe-held safe = let now = k.safely safe tt in record {
@@ -250,7 +250,7 @@ module _ (R : RattleType) (st : Ghosts R.Denot) (sd : mir.Syntax.Dict) (dd : mir
       }
 
       abbrev answer : Asked → Run
-      answer a = run_at 0 (place_in h' f.clusters.1 asked.offset) a.length (Some unspent.claim)
+      answer a = run_at 0 (place_in h' f.clusters.host asked.offset) a.length (Some unspent.claim)
 
       prepared : IsSafe st old → u.sees_under x → Prepared (at (u.under x)) (layer_of st old) (layer_of st held) asked (answer part)
       prepared safe under =
@@ -258,12 +258,12 @@ module _ (R : RattleType) (st : Ghosts R.Denot) (sd : mir.Syntax.Dict) (dd : mir
           (subst (λ (a : Asked). Prepared (at (u.under x)) (layer_of st middle) (layer_of st held) asked (answer a)) (sym run-same)
           (subst (λ (o : Holding). Prepared (at (u.under x)) (layer_of st middle) (layer_in st middle.tables middle.mode middle.number middle.failed (Some o)) asked
           (answer (first_part h' asked))) (sym holds-now)
-          (fresh-prepared st middle asked f.clusters unspent.claim (covers unspent.written) f.holds.unwritten some on-disk named (reserved safe) (uncopied safe)
+          (fresh-prepared st middle asked f.clusters unspent.claim (covers unspent.written) f.holds.unwritten some on-disk near (reserved safe) (uncopied safe)
           (at (u.under x)) (filled safe under))))
 
       answered : Prepares sees u asked (Ok (record {
         storage = 0;
-        offset = place_in h' f.clusters.1 asked.offset;
+        offset = place_in h' f.clusters.host asked.offset;
         length = run;
         state = Some (record { number = middle.number; claim = unspent.claim });
       })) (old, x) (held, y)
@@ -336,7 +336,7 @@ module _ (R : RattleType) (st : Ghosts R.Denot) (sd : mir.Syntax.Dict) (dd : mir
   fresh-run (Ok mapping) some inside p =
       let f = p.ok.holds in
       let run = fresh-part st old asked p.ok.clusters f.unspent.claim (covers f.unspent.written) f.unwritten some inside in
-      let place : f.unspent.place ≡ place_in p.middle.tables.file.header.fields p.ok.clusters.1 asked.offset = ap (λ (o : Holding). o.place) f.holds in
+      let place : f.unspent.place ≡ place_in p.middle.tables.file.header.fields p.ok.clusters.host asked.offset = ap (λ (o : Holding). o.place) f.holds in
       let length : f.unspent.length ≡ first_run old.tables.file.header.fields asked.offset asked.length = ap (λ (o : Holding). o.length) f.holds in
       let near = f.unspent.near in
       subst (λ (m : PreparedDataMapping PreparedMappingState). IsMappedRun (layer_of st old) asked.offset asked.length m.length × (m.offset + m.length < 2 ^ 64)) (sym f.answer)

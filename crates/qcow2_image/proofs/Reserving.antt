@@ -1,6 +1,6 @@
 -- What reserving a cluster and holding it for a guest cluster leave of an image.
-use Rattle.std.proofs.Common.{◌≡◌, ℕ, ◌+◌, ◌*◌, ◌/◌, ◌%◌, ◌^◌, ◌<◌, refl, ap, sym, subst, ◌∙◌, inl, inr, Bool, List, length, Result, Ok, Err}
-use Rattle.std.specs.Prelude.{⊤, IsSome, Vec, slice_index}
+use Rattle.std.proofs.Common.{◌≡◌, ℕ, ◌+◌, ◌*◌, ◌/◌, ◌%◌, ◌^◌, ◌<◌, refl, ap, sym, subst, ◌∙◌, inl, inr, Bool, List, length, Option, Some, None, Result, Ok, Err}
+use Rattle.std.specs.Prelude.{⊤, IfSome, IsSome, Vec, slice_index}
 use Rattle.std.specs.declared.alloc.Global.{Global}
 use Rattle.std.proofs.lemmas.Nat.{mod_below, pow_pos}
 use Rattle.imago_storage.specs.State.{Rose}
@@ -16,23 +16,27 @@ use Rattle.imago_access.specs.Layer.{Layer, through}
 use Rattle.imago_access.specs.declared.mapping.PreparedDataMapping.{PreparedDataMapping}
 use Rattle.imago_access.specs.declared.seen.SeenBelow.{Ghosts as GhostsBelow}
 use Rattle.imago_access.proofs.Looking.{looked_under_weaker}
-use Rattle.qcow2_types.specs.Entries.{l2_table}
+use Rattle.qcow2_types.specs.Entries.{entry, l2_table}
 use Rattle.qcow2_types.specs.Header.{Fields, Header, cluster_size, words_of_cluster}
-use Rattle.qcow2_types.specs.Words.{is_copied}
+use Rattle.qcow2_types.specs.Words.{damaged, is_copied}
 use Rattle.qcow2_metadata.specs.Places.{IsInReach}
 use Rattle.qcow2_metadata.specs.Tables.{TableValue}
-use Rattle.qcow2_image.specs.Allocating.{EnsuresTable, HasOwnTable, LoadsSpace, StoresContent, WhyNotAllocated, WhyNotReserved, failed_cut}
+use Rattle.qcow2_image.specs.Allocating.{EnsuresTable, HasKept, HasOwnTable, LoadsSpace, PlacesContent, TellsKept, WhyNotAllocated, WhyNotReserved, failed_cut, kept_by}
 use Rattle.qcow2_image.specs.Filling.{IsInFirst, IsLeft, IsNeededFor, MakesContent, NeedsShown, RefusesCopy, WhyNotCopied}
 use Rattle.qcow2_image.specs.Holding.{place_in}
-use Rattle.qcow2_image.specs.KeepsDisk.{KeepsDisk}
+use Rattle.qcow2_image.specs.KeepsDisk.{KeepsDisk, KeepsDiskWhere}
 use Rattle.qcow2_image.specs.Preparing.{HoldsFresh, IsReservedFor, KeepsMapping, LeavesMarked, PreparesFresh, Reserves, first_part}
+use Rattle.qcow2_image.specs.Looking.{WhyNotLooked}
 use Rattle.qcow2_image.specs.Rooms.{IsSafe}
-use Rattle.qcow2_image.specs.Seen.{file_of, layer_of}
+use Rattle.qcow2_image.specs.Seen.{IsSeen, file_of, layer_of}
 use Rattle.qcow2_image.specs.Steps.{KeepsImage}
+use Rattle.qcow2_image.specs.declared.mappings.Reserved.{Reserved}
 use Rattle.qcow2_image.specs.declared.qcow2.PreparedMappingState.{PreparedMappingState}
 use Rattle.qcow2_image.specs.declared.qcow2.Qcow2.{Qcow2}
 use Rattle.qcow2_image.proofs.FileWords.{top-word}
-use Rattle.qcow2_image.proofs.KeepingDisks.{keeps-disk-both, keeps-image-disk}
+use Rattle.qcow2_image.proofs.KeepingDisks.{keeps-disk-both, keeps-disk-same, keeps-disk-then, keeps-image-disk}
+use Rattle.qcow2_image.proofs.KeptClusters.{kept-behind}
+use Rattle.qcow2_image.proofs.Preparing.{never-damaged}
 use Rattle.qcow2_image.proofs.Steps.{keeps-as, keeps-both}
 
 module _ {S : Type 0} (g : Ghosts S) where
@@ -82,42 +86,63 @@ module _ {S : Type 0} (g : Ghosts S) where
   why-behind old mid new Counter k why = λ safe. why (k.safely safe tt)
   why-behind old mid new e k why = absurd why
 
+  -- What holds of each safe image holds of one that is known to keep a cluster, or none, for a guest cluster; also behind a call that kept
+  -- the disk.
+  keeps-known : (ok : Type 0) (guest : ℕ) (kept : Option ℕ) (old new : Qcow2 S g) → KeepsDisk g ok old new → KeepsDiskWhere g (HasKept g guest kept old) ok old new
+  keeps-known ok guest kept old new k =
+      keeps-disk-then g (HasKept g guest kept old) (IsSafe g old) (IsSafe g old) ⊤ ok old old new tt (λ known. known.safe) (λ known. known.safe) (keeps-disk-same g ⊤ old) k
+
+  keeps-then : (ok : Type 0) (guest : ℕ) (kept : Option ℕ) (old mid new : Qcow2 S g) → KeepsDisk g ⊤ old mid → KeepsDiskWhere g (HasKept g guest kept mid) ok mid new
+      → KeepsDiskWhere g (HasKept g guest kept old) ok old new
+  keeps-then ok guest kept old mid new first second =
+      keeps-disk-then g (HasKept g guest kept old) (IsSafe g old) (HasKept g guest kept mid) ⊤ ok old mid new tt (λ known. known.safe)
+      (kept-behind g guest kept old mid first) first second
+
+  which-host : (host : ℕ) (kept : Option ℕ) (P : Type 0) → IfSome kept (λ x. (host ≡ x) × P) → IfSome kept (λ x. host ≡ x)
+  which-host host None P is = tt
+  which-host host (Some x) P is = is.0
+
   -- Reserving a cluster is refused where the free space isn't known,
-  pub reserve-unloaded : (guest : ℕ) (bytes : List ℕ) (old new : Qcow2 S g) (e : Fault) → LoadsSpace g old (Err e) new → Reserves g guest bytes old (Err e) new
-  reserve-unloaded guest bytes old new e l = record {
-    keeps = l.keeps;
+  pub reserve-unloaded : (guest : ℕ) (kept : Option ℕ) (bytes : List ℕ) (old new : Qcow2 S g) (e : Fault) → LoadsSpace g old (Err e) new
+      → Reserves g guest kept bytes old (Err e) new
+  reserve-unloaded guest kept bytes old new e l = record {
+    keeps = keeps-known (IsMild e) guest kept old new l.keeps;
     marked = quiet-marked {T = Unit} old new e l.same;
-    named = tt;
-    reserved = λ safe. tt;
-    own = λ safe. tt;
-    stored = λ safe. tt;
+    near = tt;
+    which = tt;
+    reserved = λ known. tt;
+    own = λ known. tt;
+    stored = λ known. tt;
     cause = why-loaded old new e l.cause l.known_cause;
   }
 
   -- where there is no table,
-  pub reserve-tableless : (guest : ℕ) (bytes : List ℕ) (old mid new : Qcow2 S g) (e : Fault) → LoadsSpace g old (Ok tt) mid → EnsuresTable g guest mid (Err e) new
-      → Reserves g guest bytes old (Err e) new
-  reserve-tableless guest bytes old mid new e l t = record {
-    keeps = keeps-disk-both g ⊤ (IsMild e) old mid new tt l.keeps t.keeps;
+  pub reserve-tableless : (guest : ℕ) (kept : Option ℕ) (bytes : List ℕ) (old mid new : Qcow2 S g) (e : Fault) → LoadsSpace g old (Ok tt) mid
+      → EnsuresTable g guest mid (Err e) new → Reserves g guest kept bytes old (Err e) new
+  reserve-tableless guest kept bytes old mid new e l t = record {
+    keeps = keeps-known (IsMild e) guest kept old new (keeps-disk-both g ⊤ (IsMild e) old mid new tt l.keeps t.keeps);
     marked = cut-marked old new e mid.failed t.marks;
-    named = tt;
-    reserved = λ safe. tt;
-    own = λ safe. tt;
-    stored = λ safe. tt;
+    near = tt;
+    which = tt;
+    reserved = λ known. tt;
+    own = λ known. tt;
+    stored = λ known. tt;
     cause = why-allocated old mid new e l.keeps l.known t.cause;
   }
 
-  -- and where the bytes aren't stored.
-  pub reserve-unstored : (guest table : ℕ) (bytes : List ℕ) (old first mid new : Qcow2 S g) (e : Fault) → LoadsSpace g old (Ok tt) first
-      → EnsuresTable g guest first (Ok table) mid → StoresContent g bytes mid (Err e) new → Reserves g guest bytes old (Err e) new
-  reserve-unstored guest table bytes old first mid new e l t s =
+  -- and where the bytes aren't put anywhere.
+  pub reserve-unplaced : (guest table : ℕ) (kept : Option ℕ) (bytes : List ℕ) (old first mid new : Qcow2 S g) (e : Fault)
+      → LoadsSpace g old (Ok tt) first → EnsuresTable g guest first (Ok table) mid → PlacesContent g guest kept bytes mid (Err e) new
+      → Reserves g guest kept bytes old (Err e) new
+  reserve-unplaced guest table kept bytes old first mid new e l t s =
       let there = keeps-disk-both g ⊤ ⊤ old first mid tt l.keeps t.keeps in record {
-        keeps = keeps-disk-both g ⊤ (IsMild e) old mid new tt there s.keeps;
+        keeps = keeps-then (IsMild e) guest kept old mid new there s.keeps;
         marked = cut-marked old new e mid.failed s.marks;
-        named = tt;
-        reserved = λ safe. tt;
-        own = λ safe. tt;
-        stored = λ safe. tt;
+        near = tt;
+        which = tt;
+        reserved = λ known. tt;
+        own = λ known. tt;
+        stored = λ known. tt;
         cause = why-allocated old mid new e there (t.known l.known) s.cause;
       }
 
@@ -139,39 +164,43 @@ module _ {S : Type 0} (g : Ghosts S) where
       ∙ top-word (file_of g mid.tables) h mid.tables.l1 safe.seen.l1 (guest / words_of_cluster h) inside)
       ∙ own
 
-  -- Else it is reserved.
-  pub reserve-done : (guest table host : ℕ) (bytes : List ℕ) (old first mid new : Qcow2 S g) → LoadsSpace g old (Ok tt) first
-      → EnsuresTable g guest first (Ok table) mid → StoresContent g bytes mid (Ok host) new → Reserves g guest bytes old (Ok (table, host)) new
-  reserve-done guest table host bytes old first mid new l t s =
+  -- Else the guest cluster has it.
+  pub reserve-done : (guest table host : ℕ) (is_kept : Bool) (kept : Option ℕ) (bytes : List ℕ) (old first mid new : Qcow2 S g)
+      → LoadsSpace g old (Ok tt) first → EnsuresTable g guest first (Ok table) mid → PlacesContent g guest kept bytes mid (Ok (host, is_kept)) new
+      → Reserves g guest kept bytes old (Ok (record { table = table; host = host; is_kept = is_kept })) new
+  reserve-done guest table host is_kept kept bytes old first mid new l t s =
       let there = keeps-disk-both g ⊤ ⊤ old first mid tt l.keeps t.keeps in
-      let all = keeps-disk-both g ⊤ ⊤ old mid new tt there s.keeps in record {
+      let all = keeps-then ⊤ guest kept old mid new there s.keeps in record {
         keeps = all;
         marked = tt;
-        named = (s.named.0, subst (λ (b : ℕ). IsInReach b host) there.bits s.named.1);
-        reserved = λ safe.
-            let safe' = l.keeps.safely safe tt in
+        near = subst (λ (b : ℕ). IsInReach b host) there.bits s.near;
+        which = (s.which.0, which-host host kept (new.tables.space ≡ mid.tables.space) s.which.1);
+        reserved = λ known.
+            let safe' = l.keeps.safely known.safe tt in
             let made = t.there safe' l.known in
-            let kept = s.reserved (there.safely safe tt) in
+            let known' = kept-behind g guest kept old mid there known in
+            let own = s.own known' in
             let same : words_of_cluster new.tables.file.header.fields ≡ words_of_cluster mid.tables.file.header.fields = ap (λ (b : ℕ). 2 ^ b / 8) s.keeps.bits in
             let row : guest / words_of_cluster new.tables.file.header.fields ≡ guest / words_of_cluster mid.tables.file.header.fields = ap (λ (n : ℕ). guest / n) same in
             record {
-              space = kept.0;
-              there = kept.1;
-              nameable = record {
+              space = own.0;
+              there = own.1;
+              under = record {
                 inside = subst (λ (n : ℕ). n < new.tables.file.header.fields.l1_entries) (sym row)
-                    (subst (λ (n : ℕ). guest / words_of_cluster mid.tables.file.header.fields < n) (sym s.entries) made.1);
-                there = s.tables (there.safely safe tt) tt (guest / words_of_cluster new.tables.file.header.fields)
+                    (subst (λ (n : ℕ). guest / words_of_cluster mid.tables.file.header.fields < n) (sym s.top.entries) made.1);
+                there = s.top.tables (known', tt) (guest / words_of_cluster new.tables.file.header.fields)
                     ∙ ap (λ (n : ℕ). l2_table (file_of g mid.tables) mid.tables.file.header.fields n) row ∙ made.2
                     ∙ ap (λ (b : ℕ). table * 2 ^ b) (sym s.keeps.bits);
                 some = made.0;
-                reserved = kept.2;
               };
-              room = kept.3;
+              some = own.2;
+              own = own.3;
+              room = own.4;
             };
-        own = λ safe. own-still guest mid new (there.safely safe tt) (all.safely safe tt) s.l1 s.keeps.bits s.entries
-            (t.there (l.keeps.safely safe tt) l.known).1 (t.own (l.keeps.safely safe tt) l.known);
-        stored = λ safe i less.
-            ap (λ (b : ℕ). file_of g new.tables (host * 2 ^ b + i)) (sym there.bits) ∙ s.content (there.safely safe tt) i less;
+        own = λ known. own-still guest mid new (there.safely known.safe tt) (all.safely known tt) s.top.l1 s.keeps.bits s.top.entries
+            (t.there (l.keeps.safely known.safe tt) l.known).1 (t.own (l.keeps.safely known.safe tt) l.known);
+        stored = λ known i less.
+            ap (λ (b : ℕ). file_of g new.tables (host * 2 ^ b + i)) (sym there.bits) ∙ s.content (kept-behind g guest kept old mid there known) i less;
         cause = tt;
       }
 
@@ -186,50 +215,93 @@ module _ {S : Type 0} (g : Ghosts S) where
     err = (refl, quiet-marked {T = Vec ℕ Global} old.0 new.0 e m.keeps, m.err);
   }
 
-  module _ {B : Type 0} (u : GhostsBelow B) (asked : Asked) (guest : ℕ) (content : Vec ℕ Global) (old : Qcow2 S g × B) (mid : Qcow2 S g) (y : B)
-      (m : MakesContent g u (first_part old.0.tables.file.header.fields asked) old (Ok content) (mid, y)) where
+  why-unkept : (old new : Qcow2 S g) (guest : ℕ) (e : Fault) → (IsSeen g old.tables → WhyNotLooked (entry (file_of g old.tables) old.tables.file.header.fields guest ≡ damaged)
+      (g.state old.tables.file.image).faults (g.state new.tables.file.image).faults e)
+      → WhyNotLooked ⊤ (g.state old.tables.file.image).faults (g.state new.tables.file.image).faults e → WhyNotReserved g old new e
+  why-unkept old new guest Memory known why = tt
+  why-unkept old new guest Storage known why = why
+  why-unkept old new guest DamagedTable known why = λ safe. never-damaged (file_of g old.tables) old.tables.file.header safe.consistent guest (known safe.seen)
+  why-unkept old new guest e known why = absurd why
+
+  module _ {B : Type 0} (u : GhostsBelow B) (asked : Asked) (guest : ℕ) (content : Vec ℕ Global) (old : Qcow2 S g × B) (first : Qcow2 S g) (y : B)
+      (m : MakesContent g u (first_part old.0.tables.file.header.fields asked) old (Ok content) (first, y)) where
+    made : KeepsDisk g ⊤ old.0 first
+    made = keeps-image-disk {T = Vec ℕ Global} g old.0 first (Ok content) m.keeps
+
+    -- where it isn't known what the guest cluster keeps,
+    pub fresh-untold : (new : Qcow2 S g) (e : Fault) → TellsKept g guest first (Err e) new → PreparesFresh g u asked old (Err e) (new, y)
+    fresh-untold new e t = record {
+      middle = new;
+      keeps = keeps-disk-both g ⊤ (IsMild e) old.0 first new tt made (keeps-image-disk {T = Option ℕ} g first new (Err e) t.keeps);
+      below = looked_under_weaker u ⊤ (IsMild e) old.1 y (λ mild. tt) m.below;
+      ok = tt;
+      err = (
+        refl,
+        marked-behind {T = Vec ℕ Global} old.0 first new content e m.keeps (quiet-marked {T = Option ℕ} first new e t.keeps),
+        inl (why-behind old.0 first new e made (why-unkept first new guest e t.known_cause t.cause)),
+      );
+    }
+
+  module _ {B : Type 0} (u : GhostsBelow B) (asked : Asked) (guest : ℕ) (content : Vec ℕ Global) (old : Qcow2 S g × B) (first : Qcow2 S g) (y : B)
+      (m : MakesContent g u (first_part old.0.tables.file.header.fields asked) old (Ok content) (first, y))
+      (kept : Option ℕ) (mid : Qcow2 S g) (t : TellsKept g guest first (Ok kept) mid) where
     abbrev h : Fields
     h = old.0.tables.file.header.fields
 
+    told : KeepsDisk g ⊤ first mid
+    told = keeps-image-disk {T = Option ℕ} g first mid (Ok kept) t.keeps
+
     looked : KeepsDisk g ⊤ old.0 mid
-    looked = keeps-image-disk {T = Vec ℕ Global} g old.0 mid (Ok content) m.keeps
+    looked = keeps-disk-both g ⊤ ⊤ old.0 first mid tt (made u asked guest content old first y m) told
+
+    known-there : IsSafe g old.0 → HasKept g guest kept mid
+    known-there safe =
+        let there = (made u asked guest content old first y m).safely safe tt in
+        record { safe = looked.safely safe tt; is = t.kept there.seen ∙ ap kept_by (sym (told.words there tt guest)) }
+
+    keeps-reserved : (ok : Type 0) (new : Qcow2 S g) → KeepsDiskWhere g (HasKept g guest kept mid) ok mid new → KeepsDisk g ok old.0 new
+    keeps-reserved ok new k =
+        keeps-disk-then g (IsSafe g old.0) (IsSafe g old.0) (HasKept g guest kept mid) ⊤ ok old.0 mid new tt (λ safe. safe) known-there looked k
 
     -- and where no cluster is reserved.
-    pub fresh-unreserved : (new : Qcow2 S g) (e : Fault) → Reserves g guest content.items mid (Err e) new → PreparesFresh g u asked old (Err e) (new, y)
+    pub fresh-unreserved : (new : Qcow2 S g) (e : Fault) → Reserves g guest kept content.items mid (Err e) new → PreparesFresh g u asked old (Err e) (new, y)
     fresh-unreserved new e r = record {
       middle = new;
-      keeps = keeps-disk-both g ⊤ (IsMild e) old.0 mid new tt looked r.keeps;
+      keeps = keeps-reserved (IsMild e) new r.keeps;
       below = looked_under_weaker u ⊤ (IsMild e) old.1 y (λ mild. tt) m.below;
       ok = tt;
-      err = (refl, marked-behind {T = Vec ℕ Global} old.0 mid new content e m.keeps r.marked, inl (why-behind old.0 mid new e looked r.cause));
+      err = (
+        refl,
+        marked-behind {T = Vec ℕ Global} old.0 first new content e m.keeps (marked-behind {T = Option ℕ} first mid new kept e t.keeps r.marked),
+        inl (why-behind old.0 mid new e looked r.cause),
+      );
     }
 
     -- Else it is prepared.
-    module _ (is : guest ≡ asked.offset / cluster_size h) (clusters : ℕ × ℕ) (middle : Qcow2 S g) (r : Reserves g guest content.items mid (Ok clusters) middle) where
+    module _ (is : guest ≡ asked.offset / cluster_size h) (clusters : Reserved) (middle : Qcow2 S g) (r : Reserves g guest kept content.items mid (Ok clusters) middle) where
       bits : mid.tables.file.header.fields.cluster_bits ≡ h.cluster_bits
       bits = looked.bits
 
       some : 0 < cluster_size h
       some = pow_pos h.cluster_bits
 
-      stored : IsSafe g old.0 → (p : ℕ) → file_of g middle.tables (place_in h clusters.1 p) ≡ slice_index content.items (p % cluster_size h)
+      stored : IsSafe g old.0 → (p : ℕ) → file_of g middle.tables (place_in h clusters.host p) ≡ slice_index content.items (p % cluster_size h)
       stored safe p =
           let inside : p % cluster_size h < length content.items = subst (λ (n : ℕ). p % cluster_size h < n) (sym m.ok.long) (mod_below p (cluster_size h) some) in
-          ap (λ (b : ℕ). file_of g middle.tables (clusters.1 * 2 ^ b + p % cluster_size h)) (sym bits)
-          ∙ r.stored (looked.safely safe tt) (p % cluster_size h) inside
+          ap (λ (b : ℕ). file_of g middle.tables (clusters.host * 2 ^ b + p % cluster_size h)) (sym bits)
+          ∙ r.stored (known-there safe) (p % cluster_size h) inside
 
       pub fresh-done : (mapping : PreparedDataMapping PreparedMappingState) (new : Qcow2 S g) → KeepsMapping g (first_part h asked) clusters middle mapping new
           → PreparesFresh g u asked old (Ok mapping) (new, y)
       fresh-done mapping new holds = record {
         middle = middle;
-        keeps = keeps-disk-both g ⊤ ⊤ old.0 mid middle tt looked r.keeps;
+        keeps = keeps-reserved ⊤ middle r.keeps;
         below = m.below;
         ok = record {
           clusters = clusters;
           holds = holds;
-          named = (r.named.0, subst (λ (b : ℕ). IsInReach b clusters.1) bits r.named.1);
-          reserved = λ safe. subst (λ (n : ℕ). IsReservedFor g n clusters.0 clusters.1 middle.tables) is
-              (r.reserved (looked.safely safe tt));
+          near = subst (λ (b : ℕ). IsInReach b clusters.host) bits r.near;
+          reserved = λ safe. subst (λ (n : ℕ). IsReservedFor g n clusters middle.tables) is (r.reserved (known-there safe));
           filled = λ safe under p first left. subst (λ (b : ℕ). IsCopied (at (u.under old.1)) (layer_of g old.0) p b) (sym (stored safe p))
               (m.ok.shows safe under p first left);
         };
@@ -255,13 +327,13 @@ module _ {S : Type 0} (g : Ghosts S) where
     holds-behind middle new mapping f = record {
       clusters = f.clusters;
       holds = subst (λ (h : Fields). KeepsMapping g (first_part h asked) f.clusters middle mapping new) fields f.holds;
-      named = (f.named.0, subst (λ (h : Fields). IsInReach h.cluster_bits f.clusters.1) fields f.named.1);
-      reserved = λ safe. subst (λ (h : Fields). IsReservedFor g (asked.offset / cluster_size h) f.clusters.0 f.clusters.1 middle.tables) fields
+      near = subst (λ (h : Fields). IsInReach h.cluster_bits f.clusters.host) fields f.near;
+      reserved = λ safe. subst (λ (h : Fields). IsReservedFor g (asked.offset / cluster_size h) f.clusters middle.tables) fields
           (f.reserved (looked-on.safely safe tt));
       filled = λ safe under. subst (λ (l : Layer). (p : ℕ) → IsInFirst was asked p → IsLeft (first_part was asked) p
-          → IsCopied (at (u.under x)) l p (file_of g middle.tables (place_in was f.clusters.1 p))) (looked-on.layer safe tt)
+          → IsCopied (at (u.under x)) l p (file_of g middle.tables (place_in was f.clusters.host p))) (looked-on.layer safe tt)
           (subst (λ (h : Fields). (p : ℕ) → IsInFirst h asked p → IsLeft (first_part h asked) p
-          → IsCopied (at (u.under x)) (layer_of g mid) p (file_of g middle.tables (place_in h f.clusters.1 p))) fields
+          → IsCopied (at (u.under x)) (layer_of g mid) p (file_of g middle.tables (place_in h f.clusters.host p))) fields
           (f.filled (looked-on.safely safe tt) under));
     }
 

@@ -12,34 +12,24 @@ use Rattle.qcow2_types.specs.Words.{Mapping, unmapped, data_at, zeroes, packed, 
 use Rattle.qcow2_types.specs.Header.{Fields, Header, cluster_size, words_of_cluster}
 use Rattle.qcow2_types.specs.Entries.{entry, l2_table, l1_table_sound}
 use Rattle.qcow2_types.specs.Counts.{block_at}
-use Rattle.qcow2_types.specs.References.{structure, meets, refs}
+use Rattle.qcow2_types.specs.References.{structure, meets}
 use Rattle.qcow2_types.specs.Consistency.{IsConsistent}
 use Rattle.qcow2_types.specs.Frames.{Outside, Kept, nothing}
 use Rattle.qcow2_types.proofs.Consistent.{some-words, consistent-shaped}
 use Rattle.qcow2_types.proofs.Frames.{word-same}
 use Rattle.qcow2_types.proofs.Shows.{guest-kept, entries-same}
-use Rattle.qcow2_types.proofs.DataSteps.{data-named, untouched-keeps, untouched-consistent, run-written}
+use Rattle.qcow2_types.proofs.DataSteps.{untouched-keeps, untouched-consistent, run-written}
 use Rattle.qcow2_metadata.specs.Tables.{words_in}
+use Rattle.qcow2_steps.specs.Data.{IsHidden}
 use Rattle.qcow2_metadata.proofs.TableFacts.{words_same}
 use Rattle.qcow2_image.specs.Holding.{place_in}
 use Rattle.qcow2_image.specs.ImageLayer.{cell_by, home_by}
 use Rattle.qcow2_image.specs.Homes.{mapped, home-of, cluster-there, data-apart-from-structure, one-place}
 
--- A place of the disk is written at a place of the file: where its word says, or where its word says none, in a cluster that none names.
+-- A place of the disk is written at a place of the file: where its word says, or where its word says none, in a cluster that none shows.
 abbrev pub IsWrittenAt : Bytes → Fields → (p at : ℕ) → Type 0
 IsWrittenAt f h p at =
-    (home_by h p (mapped f h p) ≡ Some (0, at)) ⊎ ((home_by h p (mapped f h p) ≡ None) × (refs f h (at / cluster_size h) ≡ 0))
-
--- A cluster that none names holds no table, block or header,
-unnamed-apart : (f : Bytes) (h : Fields) (c : ℕ) → refs f h c ≡ 0 → structure f h (meets h c) ≡ 0
-unfolding refs
-unnamed-apart f h c none = omega (arith, none)
-
--- and no data.
-pub unnamed-empty : (f : Bytes) (H : Header) → IsConsistent f H → (guest c : ℕ) (copied : Bool) → refs f H.fields c ≡ 0
-    → entry f H.fields guest ≡ data_at c copied → ⊥
-unfolding refs
-unnamed-empty f H was guest c copied none is = let some = data-named f H was guest c copied is in omega (arith, none, some)
+    (home_by h p (mapped f h p) ≡ Some (0, at)) ⊎ ((home_by h p (mapped f h p) ≡ None) × IsHidden f h (at / cluster_size h))
 
 module _ (f : Bytes) (H : Header) (was : IsConsistent f H) where
   abbrev h : Fields
@@ -58,7 +48,7 @@ module _ (f : Bytes) (H : Header) (was : IsConsistent f H) where
           let found = home-of h (guest + i) (place + i) (mapped f h (guest + i)) home in
           let cluster : (place + i) / cluster_size h ≡ found.0 = cluster-there h (place + i) found.0 (guest + i) found.2 in
           ap (λ c. structure f h (meets h c)) cluster ∙ data-apart-from-structure f H was ((guest + i) / cluster_size h) found.0 found.1
-      | inr held ↦ unnamed-apart f h ((place + i) / cluster_size h) held.1
+      | inr held ↦ held.1.apart
     ]
 
     -- Nor does a cluster from its first to its last: a byte of it lies in each.
@@ -164,7 +154,7 @@ module _ (f : Bytes) (H : Header) (was : IsConsistent f H) where
           ]
       | inr held ↦
           let cluster : (place + i) / cluster_size h ≡ d = cluster-there h (place + i) d p (sym at) in
-          unnamed-empty f H was (p / cluster_size h) d mark (ap (refs f h) (sym cluster) ∙ held.1) is
+          held.1.dataless (p / cluster_size h) mark (is ∙ ap (λ c. data_at c mark) (sym cluster))
     ])
 
     -- So such a place says what it did,

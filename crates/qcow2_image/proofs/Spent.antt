@@ -1,5 +1,5 @@
 -- Commits and cancels of prepared mappings in the words of the driver.
-use Rattle.std.proofs.Common.{◌≡◌, ◌≢◌, ℕ, ◌+◌, ◌-◌, ◌≤◌, refl, arith, ap, sym, subst, ◌∙◌, inl, inr, Bool, false, [], ◌∷◌, ◌++◌, Option, Some, None, Result, Ok, Err}
+use Rattle.std.proofs.Common.{◌≡◌, ◌≢◌, ℕ, ◌+◌, ◌-◌, ◌≤◌, refl, arith, ap, sym, subst, ◌∙◌, inl, inr, Bool, false, true, [], ◌∷◌, ◌++◌, Option, Some, None, Result, Ok, Err}
 use Rattle.std.proofs.Math.Nat.{le_refl}
 use Rattle.std.proofs.lemmas.Bool.{cases_Bool, cases_eq, ne_eqb}
 use Rattle.std.specs.Prelude.{IsTrue, IsSome, IfSome, IfErr, ◌==◌}
@@ -31,7 +31,7 @@ use Rattle.qcow2_steps.proofs.Steps.{put-off-advances}
 use Rattle.qcow2_clusters.specs.Naming.{TakesNone, WhyNotNamed}
 use Rattle.qcow2_clusters.specs.declared.space.Space.{Space}
 use Rattle.qcow2_image.specs.Committing.{CancelsUnspent, CommitsUnspent, DropsUnspent, GivesBack, SpendsUnspent, answer_of, failed_behind_any}
-use Rattle.qcow2_image.specs.Holding.{Holding, claim_held}
+use Rattle.qcow2_image.specs.Holding.{Holding, IsOwnAs, claim_held}
 use Rattle.qcow2_image.specs.ImageLayer.{blank_of, cells, homes, qcow2_fixed}
 use Rattle.qcow2_image.specs.Rooms.{HasRoom, HoldsIn, IsSafe, IsVacant, IsZeroed, ReadsNone, Sees, rest_of}
 use Rattle.qcow2_image.specs.Seen.{IsSeen, file_of, homes_of, layer_of, memory_of}
@@ -254,7 +254,7 @@ module _ (R : RattleType) (st : Ghosts R.Denot) (sd : mir.Syntax.Dict) (dd : mir
 -- What a cancel is by its two calls: the mapping was taken out, and its cluster given back.
 pub drops-by : {S : Type 0} (g : Ghosts S) (claim : ℕ) (old mid : Qcow2 S g) (u : Unspent S g)
     → (u.claim ≡ claim) × (old.unspent ≡ Some u) × (mid ≡ record old { unspent = None }) → (space : Option Space)
-    → GivesBack u.host mid.tables.space space → (new : Qcow2 S g) → new ≡ record mid { tables = new.tables }
+    → GivesBack u.is_kept u.host mid.tables.space space → (new : Qcow2 S g) → new ≡ record mid { tables = new.tables }
     → new.tables.file ≡ mid.tables.file → new.tables.l1 ≡ mid.tables.l1 → new.tables.caches ≡ mid.tables.caches → new.tables.space ≡ space
     → CancelsUnspent g claim old new
 drops-by g claim old mid u taken space gives new is file l1 caches known = inr (record {
@@ -262,7 +262,7 @@ drops-by g claim old mid u taken space gives new is file l1 caches known = inr (
   there = taken.1;
   mine = taken.0;
   space = space;
-  given = subst (λ o. GivesBack u.host o space) (ap (λ (t : Tables _ g). t.space) tables-same) gives;
+  given = subst (λ o. GivesBack u.is_kept u.host o space) (ap (λ (t : Tables _ g). t.space) tables-same) gives;
   file = file ∙ ap (λ (t : Tables _ g). t.file) tables-same;
   l1 = l1 ∙ ap (λ (t : Tables _ g). t.l1) tables-same;
   caches = caches ∙ ap (λ (t : Tables _ g). t.caches) tables-same;
@@ -342,18 +342,21 @@ module _ {S : Type 0} (g : Ghosts S) (claim : ℕ) (old new : Qcow2 S g) (s : Dr
     tables = rw (file-same, fields-same, s.caches) seen.tables;
   }
 
-  -- Its cluster waits to be freed then.
+  -- Its cluster waits to be freed then, or stays kept.
   sound-still : HoldsIn g old.tables hold → ((space : Space) → old.tables.space ≡ Some space → IsSound (rest_of g old.tables space))
       → IfSome new.tables.space (λ space. IsSound (rest_of g new.tables space))
   sound-still holds sound =
       subst (λ o. IfSome o (λ space. IsSound (rest_of g new.tables space))) (sym s.known)
-      (from s.space (subst (λ o. GivesBack hold.host o s.space) holds.there s.given)) where
-        from : (o : Option Space) → GivesBack hold.host (Some holds.space) o → IfSome o (λ space. IsSound (rest_of g new.tables space))
-        from o (inl none) = absurd (let room = holds.room in let no = none.0 in omega (arith, room, no))
-        from o (inr given) = subst (λ o. IfSome o (λ space. IsSound (rest_of g new.tables space))) (sym given.1)
+      (from hold.is_kept refl s.space (subst (λ o. GivesBack hold.is_kept hold.host o s.space) holds.there s.given)) where
+        from : (is_kept : Bool) → hold.is_kept ≡ is_kept → (o : Option Space) → GivesBack is_kept hold.host (Some holds.space) o
+            → IfSome o (λ space. IsSound (rest_of g new.tables space))
+        from true is o same = subst (λ o. IfSome o (λ space. IsSound (rest_of g new.tables space))) (sym same)
+            (subst IsSound (sym (rest-same holds.space)) (sound holds.space holds.there))
+        from false is o (inl none) = absurd (let room = holds.room is in let no = none.0 in omega (arith, room, no))
+        from false is o (inr given) = subst (λ o. IfSome o (λ space. IsSound (rest_of g new.tables space))) (sym given.1)
             (subst IsSound (sym (rest-same (with_waiting holds.space hold.host)))
             (put-off-sound (rest_of g old.tables holds.space) hold.host (rest-memory g old.tables holds.space) (sound holds.space holds.there)
-            holds.held.nameable.reserved))
+            (subst (λ b. IsOwnAs b (rest_of g old.tables holds.space) hold.guest hold.host) is holds.held.own)))
 
   safe-still : (was now : Bool) → now ≡ false → IsSafe g (record old { failed = was }) → IsSafe g (record new { failed = now })
   safe-still was now runs safe = record {

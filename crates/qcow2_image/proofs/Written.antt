@@ -58,7 +58,7 @@ use Rattle.qcow2_image.specs.Steps.{KeepsImage}
 use Rattle.qcow2_image.specs.contracts.qcow2.Qcow2Seen.TheImpl.{ghosts}
 use Rattle.imago_access.specs.declared.seen.Seen.{Ghosts as SeenGhosts}
 use Rattle.qcow2_image.specs.declared.qcow2.PreparedMappingState.{PreparedMappingState}
-use Rattle.qcow2_image.proofs.Noted.{IsWrittenIn, held-beside, held-range, held-still, noted-claim, noted-homes, unnamed-in, written-at, written-in}
+use Rattle.qcow2_image.proofs.Noted.{IsWrittenIn, held-beside, held-range, held-still, noted-claim, noted-homes, unshown-in, written-at, written-in}
 use Rattle.qcow2_image.proofs.Rewriting.{IsWrittenAt, written-beside, rewritten-kept, rewritten-consistent, rewritten-entries, rewritten-others, rewritten-range, kept-l1-words, kept-l2-words, kept-l1-sound}
 
 -- What a call leaves of each stop, of a storage of which nothing but the count of faults was another before.
@@ -329,7 +329,7 @@ module _ (R : RattleType) (st : Ghosts R.Denot) (sd : mir.Syntax.Dict) (dd : mir
   in-of safe i lt = written-in st old safe (guest + i) (place + i) (yes safe.seen i lt)
 
   each-of : IsSafe st old → (i : ℕ) → i < length bytes → IsWrittenAt (file_of st old.tables) H.fields (guest + i) (place + i)
-  each-of safe i lt = written-at (file_of st old.tables) H.fields hold (guest + i) (place + i) (unnamed-in st old safe) (in-of safe i lt).1
+  each-of safe i lt = written-at (file_of st old.tables) H.fields hold (guest + i) (place + i) (unshown-in st old safe) (in-of safe i lt).1
 
   -- Each stop shows what the disk did, or bytes that are written.
   pub stops-written : IsSafe st old → (below : List Layer) → KeepsStops sees below (GivesBytes guest bytes) old new

@@ -1,5 +1,5 @@
 -- How clusters are allocated for guest clusters that have none of their own.
-use Rattle.std.specs.Prelude.{◌≡◌, ◌≢◌, ⊤, ℕ, ◌+◌, ◌*◌, ◌/◌, ◌<◌, ◌==◌, Bool, true, false, not, List, slice_index, length, Option, Some, None, IsSome, Result, Ok, Err, IfOk, IfErr, OnOk, OnErr}
+use Rattle.std.specs.Prelude.{◌≡◌, ◌≢◌, ⊤, ℕ, ◌+◌, ◌*◌, ◌/◌, ◌<◌, ◌==◌, Bool, true, false, not, List, slice_index, length, Option, Some, None, IsSome, IfSome, is_some, Result, Ok, Err, IfOk, IfErr, OnOk, OnErr}
 use Rattle.imago_storage.specs.State.{Rose}
 use Rattle.imago_storage.specs.Calls.{Cause}
 use Rattle.imago_storage.specs.declared.fault.Fault.{Fault}
@@ -15,8 +15,8 @@ use Rattle.qcow2_types.specs.Words.{Mapping, damaged, data_at, is_copied, packed
 use Rattle.qcow2_types.specs.Words as words
 use Rattle.qcow2_metadata.specs.Places.{IsInReach}
 use Rattle.qcow2_steps.specs.Words.{IsReserved}
-use Rattle.qcow2_image.specs.Holding.{place_in}
-use Rattle.qcow2_image.specs.KeepsDisk.{KeepsDisk}
+use Rattle.qcow2_image.specs.Holding.{IsOwnAs, place_in}
+use Rattle.qcow2_image.specs.KeepsDisk.{KeepsDisk, KeepsDiskWhere}
 use Rattle.qcow2_image.specs.Looking.{WhyNotLooked}
 use Rattle.qcow2_image.specs.Rooms.{IsSafe, IsUntouched, rest_of}
 use Rattle.qcow2_image.specs.Seen.{IsSeen, file_of}
@@ -70,6 +70,27 @@ pub record TellsShown {S : Type 0} (g : Ghosts S) (guest : ℕ) (old : Qcow2 S g
       (entry (file_of g old.tables) old.tables.file.header.fields guest ≡ damaged)
       (g.state old.tables.file.image).faults (g.state new.tables.file.image).faults)
 
+-- the cluster that a guest cluster keeps for its zeroes that is mapped so, as copied
+abbrev pub kept_by : Mapping → Option ℕ
+kept_by (zeroes (Some cluster) true) = Some cluster
+kept_by mapping = None
+
+-- It is told by a lookup alone.
+pub record TellsKept {S : Type 0} (g : Ghosts S) (guest : ℕ) (old : Qcow2 S g) (result : Result (Option ℕ) Fault)
+    (new : Qcow2 S g) : Type 0 where
+  pub keeps : KeepsImage g old result new
+  pub reach : IfOk result (λ o. IfSome o (IsInReach old.tables.file.header.fields.cluster_bits))
+  pub kept : IsSeen g old.tables → IfOk result (λ o. o ≡ kept_by (entry (file_of g old.tables) old.tables.file.header.fields guest))
+  pub cause : IfErr result (WhyNotLooked ⊤ (g.state old.tables.file.image).faults (g.state new.tables.file.image).faults)
+  pub known_cause : IsSeen g old.tables → IfErr result (WhyNotLooked
+      (entry (file_of g old.tables) old.tables.file.header.fields guest ≡ damaged)
+      (g.state old.tables.file.image).faults (g.state new.tables.file.image).faults)
+
+-- A safe image of which a guest cluster keeps this cluster for its zeroes, as copied, or none.
+pub record HasKept {S : Type 0} (g : Ghosts S) (guest : ℕ) (kept : Option ℕ) (d : Qcow2 S g) : Type 0 where
+  pub safe : IsSafe g d
+  pub is : kept ≡ kept_by (entry (file_of g d.tables) d.tables.file.header.fields guest)
+
 -- Why clusters can't be reserved: in a safe image for want of memory, by a storage that failed, or since there is no place left.
 abbrev pub WhyNotReserved : {S : Type 0} (g : Ghosts S) → Qcow2 S g → Qcow2 S g → Fault → Type 0
 WhyNotReserved g old new Memory = ⊤
@@ -115,21 +136,51 @@ pub record EnsuresTable {S : Type 0} (g : Ghosts S) (guest : ℕ) (old : Qcow2 S
   pub own : IsSafe g old → IsSome old.tables.space → IfOk result (λ t. HasOwnTable g guest new.tables)
   pub cause : IfErr result (WhyNotAllocated g old new)
 
--- Bytes are stored in a cluster that was free: it is reserved then, and can be named; and the L1 table stays, and the L2 tables where they
--- are.
+-- The L1 table stays, and the L2 tables where they are.
+pub record KeepsTop {S : Type 0} (g : Ghosts S) (sure : Type 0) (old new : Qcow2 S g) : Type 0 where
+  pub l1 : new.tables.l1 ≡ old.tables.l1
+  pub entries : new.tables.file.header.fields.l1_entries ≡ old.tables.file.header.fields.l1_entries
+  pub tables : sure → (i : ℕ)
+      → l2_table (file_of g new.tables) new.tables.file.header.fields i ≡ l2_table (file_of g old.tables) old.tables.file.header.fields i
+
+-- Bytes are stored in a cluster that was free: it is reserved then, and can be named.
 pub record StoresContent {S : Type 0} (g : Ghosts S) (bytes : List ℕ) (old : Qcow2 S g) (result : Result ℕ Fault) (new : Qcow2 S g)
     : Type 0 where
   pub keeps : KeepsDisk g (WasNotCutOff result) old new
   pub marks : new.failed ≡ failed_cut result old.failed
-  pub l1 : new.tables.l1 ≡ old.tables.l1
-  pub entries : new.tables.file.header.fields.l1_entries ≡ old.tables.file.header.fields.l1_entries
+  pub top : KeepsTop g (IsSafe g old × WasNotCutOff result) old new
   pub named : IfOk result (λ x. (x ≢ 0) × IsInReach old.tables.file.header.fields.cluster_bits x)
-  pub tables : IsSafe g old → WasNotCutOff result → (i : ℕ)
-      → l2_table (file_of g new.tables) new.tables.file.header.fields i ≡ l2_table (file_of g old.tables) old.tables.file.header.fields i
   pub reserved : IsSafe g old → IfOk result (λ x. (space : Space) × (new.tables.space ≡ Some space)
       × IsReserved (rest_of g new.tables space) x × (0 < space.to_free.held))
   pub content : IsSafe g old → IfOk result (λ x. (i : ℕ) → i < length bytes
       → file_of g new.tables (x * cluster_size old.tables.file.header.fields + i) ≡ slice_index bytes i)
+  pub cause : IfErr result (WhyNotAllocated g old new)
+
+-- Bytes are written to the cluster that a guest cluster keeps for its zeroes: it keeps that still, and what is free stays so.
+pub record FillsContent {S : Type 0} (g : Ghosts S) (guest host : ℕ) (bytes : List ℕ) (old : Qcow2 S g) (result : Result Unit Fault)
+    (new : Qcow2 S g) : Type 0 where
+  pub keeps : KeepsDiskWhere g (HasKept g guest (Some host) old) (WasNotCutOff result) old new
+  pub marks : new.failed ≡ failed_cut result old.failed
+  pub top : KeepsTop g (HasKept g guest (Some host) old × WasNotCutOff result) old new
+  pub space : new.tables.space ≡ old.tables.space
+  pub known : OnOk result (IsSome new.tables.space)
+  pub content : HasKept g guest (Some host) old → OnOk result ((i : ℕ) → i < length bytes
+      → file_of g new.tables (host * cluster_size old.tables.file.header.fields + i) ≡ slice_index bytes i)
+  pub cause : IfErr result (WhyNotAllocated g old new)
+
+-- The content of a guest cluster is put in the cluster that it keeps for its zeroes, or else in one that was free, which is reserved then.
+-- What is answered is that cluster, and whether it was kept.
+pub record PlacesContent {S : Type 0} (g : Ghosts S) (guest : ℕ) (kept : Option ℕ) (bytes : List ℕ) (old : Qcow2 S g)
+    (result : Result (ℕ × Bool) Fault) (new : Qcow2 S g) : Type 0 where
+  pub keeps : KeepsDiskWhere g (HasKept g guest kept old) (WasNotCutOff result) old new
+  pub marks : new.failed ≡ failed_cut result old.failed
+  pub top : KeepsTop g (HasKept g guest kept old × WasNotCutOff result) old new
+  pub near : IfOk result (λ r. IsInReach old.tables.file.header.fields.cluster_bits r.0)
+  pub which : IfOk result (λ r. (r.1 ≡ is_some kept) × IfSome kept (λ host. (r.0 ≡ host) × (new.tables.space ≡ old.tables.space)))
+  pub own : HasKept g guest kept old → IfOk result (λ r. (space : Space) × (new.tables.space ≡ Some space) × (r.0 ≢ 0)
+      × IsOwnAs r.1 (rest_of g new.tables space) guest r.0 × (r.1 ≡ false → 0 < space.to_free.held))
+  pub content : HasKept g guest kept old → IfOk result (λ r. (i : ℕ) → i < length bytes
+      → file_of g new.tables (r.0 * cluster_size old.tables.file.header.fields + i) ≡ slice_index bytes i)
   pub cause : IfErr result (WhyNotAllocated g old new)
 
 -- Why what waits can't be freed.

@@ -12,6 +12,7 @@ use Rattle.qcow2_clusters.specs.Rest.{lent}
 use Rattle.qcow2_clusters.specs.declared.space.Space.{Space}
 use Rattle.qcow2_image.specs.Holding.{claim_held}
 use Rattle.qcow2_image.specs.Unspent.{holding_in}
+use Rattle.qcow2_image.specs.declared.mappings.Reserved.{Reserved}
 use Rattle.qcow2_image.specs.declared.qcow2.PreparedMappingState.{PreparedMappingState}
 use Rattle.qcow2_image.specs.declared.qcow2.Qcow2.{Qcow2}
 use Rattle.qcow2_image.specs.declared.tables.Tables.{Tables}
@@ -26,30 +27,39 @@ TakesUnspent g claim old (Some u) new = (u.claim ≡ claim) × (old.unspent ≡ 
 abbrev pub IsNamable : (cluster_bits cluster : ℕ) → Type 0
 IsNamable cluster_bits cluster = (0 < cluster) × IsInReach cluster_bits cluster
 
--- What naming a cluster did to the free space, by what it is then: but for the room for an entry, which isn't held any more where the
--- cluster is named, that is it.
-pub record NamesWith {S : Type 0} (g : Ghosts S) (table guest host : ℕ) (old : Tables S g) (space : Space) (result : Result Unit Fault)
+-- the room for entries that is held once a cluster is named: less by one, unless that was kept
+abbrev pub held_behind : Bool → ℕ → ℕ
+held_behind true held = held
+held_behind false held = held - 1
+
+-- What naming a cluster did to the free space, by what it is then: but for the room for an entry, which isn't held any more where a
+-- cluster that wasn't kept is named, that is it.
+pub record NamesWith {S : Type 0} (g : Ghosts S) (r : Reserved) (guest : ℕ) (old : Tables S g) (space : Space) (result : Result Unit Fault)
     (new : Tables S g) : Type 0 where
   pub caches : MetadataCaches S
   pub between : Space
   pub after : Space
-  pub names : Names g.state table guest host (lent old.file caches space) result (lent new.file new.caches between)
+  pub names : Names g.state r.table guest r.host (lent old.file caches space) result (lent new.file new.caches between)
   pub there : new.space ≡ Some after
   pub allocator : after.allocator ≡ between.allocator
   pub entries : after.to_free.entries ≡ between.to_free.entries
-  pub let_go : OnOk result (after.to_free.held ≡ between.to_free.held - 1)
+  pub let_go : OnOk result (after.to_free.held ≡ held_behind r.is_kept between.to_free.held)
 
 -- A guest cluster comes to name a host cluster, as far as that may be done: where free space is known, and words can name it.
-pub record NamesHost {S : Type 0} (g : Ghosts S) (table guest host : ℕ) (old : Tables S g) (result : Result Unit Fault) (new : Tables S g)
-    : Type 0 where
+pub record NamesHost {S : Type 0} (g : Ghosts S) (r : Reserved) (guest : ℕ) (old : Tables S g) (result : Result Unit Fault)
+    (new : Tables S g) : Type 0 where
   pub shape : (g.state new.file.image).shape ≡ (g.state old.file.image).shape
   pub later : Later (g.state old.file.image) (g.state new.file.image)
   pub faults : WasNotCutOff result → IsFaultless (g.state old.file.image) (g.state new.file.image)
   pub header : new.file.header ≡ old.file.header
   pub l1 : new.l1 ≡ old.l1
-  pub known : (space : Space) → old.space ≡ Some space → IsNamable old.file.header.fields.cluster_bits host
-      → NamesWith g table guest host old space result new
+  pub known : (space : Space) → old.space ≡ Some space → IsNamable old.file.header.fields.cluster_bits r.host
+      → NamesWith g r guest old space result new
   pub cause : IfErr result (WhyNotNamed ⊥ (g.state old.file.image).faults (g.state new.file.image).faults)
+
+-- the clusters of a prepared mapping
+abbrev pub reserved_of : {S : Type 0} (g : Ghosts S) → Unspent S g → Reserved
+reserved_of g u = record { table = u.table; host = u.host; is_kept = u.is_kept }
 
 -- what a commit answers, by what naming did: a refusal has spent the mapping
 abbrev pub answer_of : Result Unit Fault → Result Unit (Fault × Option (PreparedDataMapping PreparedMappingState))
@@ -69,7 +79,7 @@ pub record SpendsUnspent {S : Type 0} (g : Ghosts S) (claim : ℕ) (old : Qcow2 
   pub mine : spent.claim ≡ claim
   pub bytes : let file = (g.state old.tables.file.image).bytes in EachIndex file (λ k. slice_index file k < 256)
   pub named : Result Unit Fault
-  pub names : NamesHost g spent.table spent.guest spent.host old.tables named new.tables
+  pub names : NamesHost g (reserved_of g spent) spent.guest old.tables named new.tables
   pub answer : result ≡ answer_of named
   pub others : new ≡ record old { tables = new.tables; unspent = None; failed = failed_behind_any named old.failed }
 
@@ -79,15 +89,17 @@ abbrev pub CommitsUnspent : {S : Type 0} (g : Ghosts S) → ℕ → Qcow2 S g
 CommitsUnspent g claim old result new =
     ((claim_held (holding_in g old.unspent) ≢ Some claim) × (result ≡ Ok tt) × (new ≡ old)) ⊎ SpendsUnspent g claim old result new
 
--- A host cluster waits to be freed then, where room is held for that, and else it leaks.
-abbrev pub GivesBack : ℕ → Option Space → Option Space → Type 0
-GivesBack host None new = new ≡ None
-GivesBack host (Some space) new = ((space.to_free.held ≡ 0) × (new ≡ Some space)) ⊎ ((0 < space.to_free.held) × (new ≡ Some (record space {
-  to_free = record {
-    entries = space.to_free.entries ++ record { first = host; count = 1; metadata = false } ∷ [];
-    held = space.to_free.held - 1;
-  };
-})))
+-- A host cluster that wasn't kept waits to be freed then, where room is held for that, and else it leaks.
+abbrev pub GivesBack : (is_kept : Bool) → ℕ → Option Space → Option Space → Type 0
+GivesBack true host old new = new ≡ old
+GivesBack false host None new = new ≡ None
+GivesBack false host (Some space) new = ((space.to_free.held ≡ 0) × (new ≡ Some space))
+    ⊎ ((0 < space.to_free.held) × (new ≡ Some (record space {
+      to_free = record {
+        entries = space.to_free.entries ++ record { first = host; count = 1; metadata = false } ∷ [];
+        held = space.to_free.held - 1;
+      };
+    })))
 
 -- The prepared mapping is given up.
 pub record DropsUnspent {S : Type 0} (g : Ghosts S) (claim : ℕ) (old new : Qcow2 S g) : Type 0 where
@@ -95,7 +107,7 @@ pub record DropsUnspent {S : Type 0} (g : Ghosts S) (claim : ℕ) (old new : Qco
   pub there : old.unspent ≡ Some spent
   pub mine : spent.claim ≡ claim
   pub space : Option Space
-  pub given : GivesBack spent.host old.tables.space space
+  pub given : GivesBack spent.is_kept spent.host old.tables.space space
   pub file : new.tables.file ≡ old.tables.file
   pub l1 : new.tables.l1 ≡ old.tables.l1
   pub caches : new.tables.caches ≡ old.tables.caches

@@ -7,17 +7,23 @@ use Rattle.imago_storage.specs.declared.storage.Storage.{Ghosts}
 use Rattle.imago_access.specs.Layer.{loose}
 use Rattle.qcow2_types.specs.Bytes.{Bytes}
 use Rattle.qcow2_types.specs.Header.{Fields, cluster_size}
-use Rattle.qcow2_types.specs.References.{refs}
 use Rattle.qcow2_types.specs.Words.{data_at}
-use Rattle.qcow2_types.proofs.Either.{refs-file}
-use Rattle.qcow2_alloc.specs.Quiet.{Metadata, in_memory, named_at_all}
-use Rattle.qcow2_image.specs.Holding.{Holding, IsHeld, claim_held, held_home, held_with, home_or, homes_with, in_run, place_in}
-use Rattle.qcow2_image.specs.Homes.{cluster-there, data-once, home-of, home-there, homeless, housed, mapped, memory_is, words-home}
+use Rattle.qcow2_alloc.specs.Quiet.{Metadata, IsSound}
+use Rattle.qcow2_steps.specs.Data.{IsHidden}
+use Rattle.qcow2_steps.proofs.HiddenClusters.{kept-hidden, reserved-hidden}
+use Rattle.qcow2_image.specs.Holding.{Holding, IsHeld, IsOwnAs, claim_held, held_home, held_with, home_or, homes_with, in_run, place_in}
+use Rattle.qcow2_image.specs.Homes.{cluster-there, home-of, home-there, homeless, housed, mapped, memory_is, words-home}
 use Rattle.qcow2_image.specs.Rooms.{HoldsIn, IsSafe, IsVacant, IsZeroed, HasRoom, rest_of}
 use Rattle.qcow2_image.specs.Seen.{file_of, homes_of, layer_of, memory_of}
 use Rattle.qcow2_image.specs.Unspent.{holding_in}
 use Rattle.qcow2_image.specs.declared.qcow2.Qcow2.{Qcow2}
 use Rattle.qcow2_image.specs.declared.unspent.Unspent.{Unspent}
+
+-- No place shows a guest cluster's own host cluster that it doesn't name as its data.
+pub own-hidden : (is_kept : Bool) (m : Metadata) (guest host : ℕ) → IsSound m → IsOwnAs is_kept m guest host
+    → IsHidden m.file m.header.fields host
+own-hidden true m guest host sound own = (kept-hidden m guest host sound own).0
+own-hidden false m guest host sound own = (reserved-hidden m host sound own).0
 
 -- Where nothing is prepared nothing is held,
 pub none-held : (hold : Option Holding) → claim_held hold ≡ None → hold ≡ None
@@ -94,14 +100,10 @@ module _ {S : Type 0} (g : Ghosts S) (d : Qcow2 S g) (safe : IsSafe g d) where
   h = d.tables.file.header.fields
 
   module _ (hold : Holding) (holds : HoldsIn g d.tables hold) where
-    -- What is held for it no word names,
-    unnamed : refs (file_of g d.tables) h hold.host ≡ 0
-    unnamed =
-        let m = rest_of g d.tables holds.space in
-        let le : refs m.file m.header.fields hold.host ≤ named_at_all m hold.host =
-        refs-file m.file (in_memory m) m.header.fields hold.host in
-        let none = holds.held.nameable.reserved.unnamed in
-        Prim.omega (arith, le, none)
+    -- No place shows what is held for it,
+    hidden : IsHidden (file_of g d.tables) h hold.host
+    hidden = own-hidden hold.is_kept (rest_of g d.tables holds.space) hold.guest hold.host
+        (subst (λ o. IfSome o (λ space. IsSound (rest_of g d.tables space))) holds.there safe.sound) holds.held.own
 
     -- so that no place has its home there by its word.
     elsewhere : (p q at : ℕ) → homes_of g d p ≡ Some (0, at) → at ≡ place_in h hold.host q → ⊥
@@ -111,9 +113,7 @@ module _ {S : Type 0} (g : Ghosts S) (d : Qcow2 S g) (safe : IsSafe g d) where
         let same : found.0 ≡ hold.host = sym (cluster-there h at found.0 p found.2) ∙ cluster-there h at hold.host q there in
         let word : mapped (file_of g d.tables) h p ≡ data_at found.0 true =
         subst (λ (m : Bytes). mapped m h p ≡ data_at found.0 true) (memory_is g d.tables) found.1 in
-        let once = data-once (file_of g d.tables) d.tables.file.header safe.consistent (p / cluster_size h) found.0 word in
-        let none : refs (file_of g d.tables) h found.0 ≡ 0 = ap (refs (file_of g d.tables) h) same ∙ unnamed in
-        Prim.omega (arith, once, none)
+        hidden.dataless (p / cluster_size h) true (word ∙ ap (λ c. data_at c true) same)
 
   -- No two places are written at one place of the file: both by their words,
   module _ (p q : ℕ) (at : ℕ × ℕ) where

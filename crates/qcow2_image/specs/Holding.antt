@@ -1,4 +1,5 @@
--- What a prepared mapping holds of an image that was opened for writing: a run of one guest cluster, for which a host cluster is reserved.
+-- What a prepared mapping holds of an image that was opened for writing: a run of one guest cluster, for which a host cluster is reserved,
+-- or which kept one for its zeroes.
 use Rattle.std.specs.Prelude.{◌≡◌, ◌≢◌, ⊤, ℕ, ◌+◌, ◌-◌, ◌*◌, ◌/◌, ◌%◌, ◌<◌, ◌≤◌, Bool, true, false, Option, Some, None, if◌then◌else◌, min, ltb, nat_le, ◌==◌, ◌&&◌, ◌||◌}
 use Rattle.imago_access.specs.Layer.{Held, loose, beside, inside}
 use Rattle.qcow2_types.specs.Bytes.{Bytes}
@@ -7,11 +8,13 @@ use Rattle.qcow2_types.specs.Header.{Fields, cluster_size}
 use Rattle.qcow2_types.specs.Words.{Mapping, data_at}
 use Rattle.qcow2_metadata.specs.Places.{IsInReach}
 use Rattle.qcow2_alloc.specs.Quiet.{Metadata}
-use Rattle.qcow2_clusters.specs.Naming.{IsNameable}
+use Rattle.qcow2_steps.specs.Data.{IsKeptFor}
+use Rattle.qcow2_steps.specs.Words.{IsReserved}
+use Rattle.qcow2_clusters.specs.Naming.{IsUnder}
 
 -- The mapping with this claim: its run in bytes, and where that is in the file; its guest cluster and the cluster of the L2 table over
--- that, the host cluster, whether all of the run is going to be written, the file as it was when all was copied, and what was written
--- since.
+-- that, the host cluster, and whether the guest cluster kept that for its zeroes; whether all of the run is going to be written, the file
+-- as it was when all was copied, and what was written since.
 pub record Holding : Type 0 where
   pub claim : ℕ
   pub offset : ℕ
@@ -20,6 +23,7 @@ pub record Holding : Type 0 where
   pub guest : ℕ
   pub table : ℕ
   pub host : ℕ
+  pub is_kept : Bool
   pub overwrite : Bool
   pub copied : Bytes
   pub written : ℕ → Bool
@@ -78,10 +82,16 @@ abbrev pub IsUncopied : Mapping → Type 0
 IsUncopied (data_at cluster true) = ⊥
 IsUncopied mapping = ⊤
 
--- Of an image at rest: what the mapping names is reserved and can be named, the guest cluster isn't written elsewhere, the run lies in it,
--- and what wasn't written has the bytes that were copied.
+-- Of an image at rest, a host cluster is kept for a guest cluster's zeroes, as copied, or else it is reserved.
+abbrev pub IsOwnAs : (is_kept : Bool) → Metadata → (guest host : ℕ) → Type 0
+IsOwnAs true m guest host = IsKeptFor m guest host
+IsOwnAs false m guest host = IsReserved m host
+
+-- Of an image at rest: the host cluster is the guest cluster's own, and can be named; the guest cluster isn't written elsewhere, the run
+-- lies in it, and what wasn't written has the bytes that were copied.
 pub record IsHeld (m : Metadata) (hold : Holding) : Type 0 where
-  pub nameable : IsNameable m hold.table hold.guest hold.host
+  pub under : IsUnder m hold.table hold.guest
+  pub own : IsOwnAs hold.is_kept m hold.guest hold.host
   pub uncopied : IsUncopied (entry m.file m.header.fields hold.guest)
   pub some : hold.host ≢ 0
   pub reach : IsInReach m.header.fields.cluster_bits hold.host

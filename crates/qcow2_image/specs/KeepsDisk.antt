@@ -11,8 +11,8 @@ use Rattle.qcow2_image.specs.Seen.{file_of, layer_of}
 use Rattle.qcow2_image.specs.declared.qcow2.Qcow2.{Qcow2}
 
 -- An image that has become another: the disk is what it was, each word means what it did, and what is prepared stays. Each stop shows what
--- the disk did. It wasn't cut off where `ok` holds, and is safe then.
-pub record KeepsDisk {S : Type 0} (g : Ghosts S) (ok : Type 0) (old new : Qcow2 S g) : Type 0 where
+-- the disk did. It wasn't cut off where `ok` holds, and is safe then. Of its disk that holds where it was as `sure` says.
+pub record KeepsDiskWhere {S : Type 0} (g : Ghosts S) (sure ok : Type 0) (old new : Qcow2 S g) : Type 0 where
   pub mode : new.mode ≡ old.mode
   pub number : new.number ≡ old.number
   pub unspent : new.unspent ≡ old.unspent
@@ -23,10 +23,14 @@ pub record KeepsDisk {S : Type 0} (g : Ghosts S) (ok : Type 0) (old new : Qcow2 
   pub bits : new.tables.file.header.fields.cluster_bits ≡ old.tables.file.header.fields.cluster_bits
   pub version : new.tables.file.header.fields.version ≡ old.tables.file.header.fields.version
   pub faults : ok → IsFaultless (g.state old.tables.file.image) (g.state new.tables.file.image)
-  pub stops : IsSafe g old → (below : List Layer)
+  pub stops : sure → (below : List Layer)
       → Passes (Left below (layer_of g old) (g.state old.tables.file.image).bytes is_sound (layer_of g old).size (layer_of g old).size
       GivesNone) (g.state old.tables.file.image) (g.state new.tables.file.image)
-  pub safely : IsSafe g old → ok → IsSafe g new
-  pub layer : IsSafe g old → ok → layer_of g new ≡ layer_of g old
-  pub words : IsSafe g old → ok → (guest : ℕ)
+  pub safely : sure → ok → IsSafe g new
+  pub layer : sure → ok → layer_of g new ≡ layer_of g old
+  pub words : sure → ok → (guest : ℕ)
       → entry (file_of g new.tables) new.tables.file.header.fields guest ≡ entry (file_of g old.tables) old.tables.file.header.fields guest
+
+-- The same of each image that was safe.
+abbrev pub KeepsDisk : {S : Type 0} (g : Ghosts S) (ok : Type 0) → Qcow2 S g → Qcow2 S g → Type 0
+KeepsDisk g ok old new = KeepsDiskWhere g (IsSafe g old) ok old new

@@ -1,5 +1,5 @@
 -- How a mapping is prepared for a guest cluster that has no host cluster of its own.
-use Rattle.std.specs.Prelude.{◌≡◌, ◌≢◌, ◌⊎◌, ⊤, ℕ, ◌+◌, ◌-◌, ◌*◌, ◌/◌, ◌%◌, ◌<◌, min, Bool, false, List, length, slice_index, Some, IsTrue, Result, Err, IfOk, IfErr}
+use Rattle.std.specs.Prelude.{◌≡◌, ◌≢◌, ◌⊎◌, ⊤, ℕ, ◌+◌, ◌-◌, ◌*◌, ◌/◌, ◌%◌, ◌<◌, min, Bool, false, List, length, slice_index, Option, Some, IsTrue, IfSome, is_some, Result, Err, IfOk, IfErr}
 use Rattle.imago_storage.specs.declared.fault.Fault.{Fault}
 use Rattle.imago_storage.specs.declared.fault.Fault.TheVariants.{Memory, Storage}
 use Rattle.imago_storage.specs.declared.storage.Storage.{Ghosts}
@@ -11,16 +11,17 @@ use Rattle.imago_access.specs.declared.seen.SeenBelow.{Ghosts as GhostsBelow}
 use Rattle.imago_access.specs.declared.mapping.PreparedDataMapping.{PreparedDataMapping}
 use Rattle.qcow2_types.specs.Header.{Fields, cluster_size}
 use Rattle.qcow2_metadata.specs.Places.{IsInReach}
-use Rattle.qcow2_clusters.specs.Naming.{IsNameable}
+use Rattle.qcow2_clusters.specs.Naming.{IsUnder}
 use Rattle.qcow2_clusters.specs.declared.space.Space.{Space}
-use Rattle.qcow2_image.specs.Allocating.{HasOwnTable, WhyNotReserved}
+use Rattle.qcow2_image.specs.Allocating.{HasKept, HasOwnTable, WhyNotReserved}
 use Rattle.qcow2_image.specs.Filling.{IsInFirst, IsLeft, RefusesCopy}
-use Rattle.qcow2_image.specs.Holding.{Holding, place_in}
-use Rattle.qcow2_image.specs.KeepsDisk.{KeepsDisk}
+use Rattle.qcow2_image.specs.Holding.{Holding, IsOwnAs, place_in}
+use Rattle.qcow2_image.specs.KeepsDisk.{KeepsDisk, KeepsDiskWhere}
 use Rattle.qcow2_image.specs.Rooms.{IsSafe, rest_of}
 use Rattle.qcow2_image.specs.Seen.{file_of, layer_of}
 use Rattle.qcow2_image.specs.Steps.{KeepsImage}
 use Rattle.qcow2_image.specs.Unspent.{covers, holding}
+use Rattle.qcow2_image.specs.declared.mappings.Reserved.{Reserved}
 use Rattle.qcow2_image.specs.declared.qcow2.PreparedMappingState.{PreparedMappingState}
 use Rattle.qcow2_image.specs.declared.qcow2.Qcow2.{Qcow2}
 use Rattle.qcow2_image.specs.declared.tables.Tables.{Tables}
@@ -36,42 +37,48 @@ LeavesMarked g old new Storage = IsTrue new.failed
 LeavesMarked g old new Memory = IsTrue new.failed ⊎ KeepsImage {T = Unit} g old (Err Memory) new
 LeavesMarked g old new fault = ⊤
 
--- A host cluster is reserved that a guest cluster can come to name, in its L2 table, and there is room on the list of clusters to free.
-pub record IsReservedFor {S : Type 0} (g : Ghosts S) (guest table host : ℕ) (t : Tables S g) : Type 0 where
+-- A guest cluster can come to name a host cluster in its L2 table: it keeps that for its zeroes, or that is reserved, and there is room on
+-- the list of clusters to free.
+pub record IsReservedFor {S : Type 0} (g : Ghosts S) (guest : ℕ) (r : Reserved) (t : Tables S g) : Type 0 where
   pub space : Space
   pub there : t.space ≡ Some space
-  pub nameable : IsNameable (rest_of g t space) table guest host
-  pub room : 0 < space.to_free.held
+  pub under : IsUnder (rest_of g t space) r.table guest
+  pub own : IsOwnAs r.is_kept (rest_of g t space) guest r.host
+  pub some : r.host ≢ 0
+  pub room : r.is_kept ≡ false → 0 < space.to_free.held
 
--- A host cluster is reserved for a guest cluster, with this content, under an L2 table that nothing else names; the disk stays as it was.
-pub record Reserves {S : Type 0} (g : Ghosts S) (guest : ℕ) (content : List ℕ) (old : Qcow2 S g) (result : Result (ℕ × ℕ) Fault)
-    (new : Qcow2 S g) : Type 0 where
-  pub keeps : KeepsDisk g (WasNotCutOff result) old new
+-- A guest cluster has a host cluster for this content, under an L2 table that nothing else names: the one that it keeps for its zeroes, or
+-- else one that is reserved for it. The disk stays as it was.
+pub record Reserves {S : Type 0} (g : Ghosts S) (guest : ℕ) (kept : Option ℕ) (content : List ℕ) (old : Qcow2 S g)
+    (result : Result Reserved Fault) (new : Qcow2 S g) : Type 0 where
+  pub keeps : KeepsDiskWhere g (HasKept g guest kept old) (WasNotCutOff result) old new
   pub marked : IfErr result (LeavesMarked g old new)
-  pub named : IfOk result (λ r. (r.1 ≢ 0) × IsInReach old.tables.file.header.fields.cluster_bits r.1)
-  pub reserved : IsSafe g old → IfOk result (λ r. IsReservedFor g guest r.0 r.1 new.tables)
-  pub own : IsSafe g old → IfOk result (λ r. HasOwnTable g guest new.tables)
-  pub stored : IsSafe g old → IfOk result (λ r. (i : ℕ) → i < length content
-      → file_of g new.tables (r.1 * cluster_size old.tables.file.header.fields + i) ≡ slice_index content i)
+  pub near : IfOk result (λ r. IsInReach old.tables.file.header.fields.cluster_bits r.host)
+  pub which : IfOk result (λ r. (r.is_kept ≡ is_some kept) × IfSome kept (λ host. r.host ≡ host))
+  pub reserved : HasKept g guest kept old → IfOk result (λ r. IsReservedFor g guest r new.tables)
+  pub own : HasKept g guest kept old → IfOk result (λ r. HasOwnTable g guest new.tables)
+  pub stored : HasKept g guest kept old → IfOk result (λ r. (i : ℕ) → i < length content
+      → file_of g new.tables (r.host * cluster_size old.tables.file.header.fields + i) ≡ slice_index content i)
   pub cause : IfErr result (WhyNotReserved g old new)
 
--- What a mapping holds for a run, of these two clusters, that of the L2 table and the host cluster.
-abbrev pub held_run : {S : Type 0} (g : Ghosts S) → Asked → ℕ × ℕ → Qcow2 S g → ℕ → (ℕ → Bool) → Holding
+-- What a mapping holds for a run, of the clusters that are reserved for it.
+abbrev pub held_run : {S : Type 0} (g : Ghosts S) → Asked → Reserved → Qcow2 S g → ℕ → (ℕ → Bool) → Holding
 held_run g asked r d claim written = let h = d.tables.file.header.fields in record {
   claim = claim;
   offset = asked.offset;
   length = asked.length;
-  place = place_in h r.1 asked.offset;
+  place = place_in h r.host asked.offset;
   guest = asked.offset / cluster_size h;
-  table = r.0;
-  host = r.1;
+  table = r.table;
+  host = r.host;
+  is_kept = r.is_kept;
   overwrite = asked.overwrite;
   copied = file_of g d.tables;
   written = written;
 }
 
 -- What was reserved is kept as the mapping that is prepared, with another claim than the last one, and nothing was written to it yet.
-pub record KeepsMapping {S : Type 0} (g : Ghosts S) (asked : Asked) (r : ℕ × ℕ) (old : Qcow2 S g)
+pub record KeepsMapping {S : Type 0} (g : Ghosts S) (asked : Asked) (r : Reserved) (old : Qcow2 S g)
     (mapping : PreparedDataMapping PreparedMappingState) (new : Qcow2 S g) : Type 0 where
   pub unspent : Unspent S g
   pub now : new ≡ record old { claims = unspent.claim; unspent = Some unspent }
@@ -80,7 +87,7 @@ pub record KeepsMapping {S : Type 0} (g : Ghosts S) (asked : Asked) (r : ℕ × 
   pub unwritten : (p : ℕ) → covers unspent.written p ≡ false
   pub answer : mapping ≡ record {
     storage = 0;
-    offset = place_in old.tables.file.header.fields r.1 asked.offset;
+    offset = place_in old.tables.file.header.fields r.host asked.offset;
     length = asked.length;
     state = Some (record { number = old.number; claim = unspent.claim });
   }
@@ -93,14 +100,14 @@ first_part h asked = record asked { length = first_run h asked.offset asked.leng
 -- places show is in the host cluster that is held for it.
 pub record HoldsFresh {S B : Type 0} (g : Ghosts S) (u : GhostsBelow B) (asked : Asked) (old : Qcow2 S g × B) (middle : Qcow2 S g)
     (mapping : PreparedDataMapping PreparedMappingState) (new : Qcow2 S g) : Type 0 where
-  pub clusters : ℕ × ℕ
+  pub clusters : Reserved
   pub holds : KeepsMapping g (first_part old.0.tables.file.header.fields asked) clusters middle mapping new
-  pub named : (clusters.1 ≢ 0) × IsInReach old.0.tables.file.header.fields.cluster_bits clusters.1
+  pub near : IsInReach old.0.tables.file.header.fields.cluster_bits clusters.host
   pub reserved : IsSafe g old.0
-      → IsReservedFor g (asked.offset / cluster_size old.0.tables.file.header.fields) clusters.0 clusters.1 middle.tables
+      → IsReservedFor g (asked.offset / cluster_size old.0.tables.file.header.fields) clusters middle.tables
   pub filled : IsSafe g old.0 → u.sees_under old.1 → let h = old.0.tables.file.header.fields in
       (p : ℕ) → IsInFirst h asked p → IsLeft (first_part h asked) p
-      → IsCopied (at (u.under old.1)) (layer_of g old.0) p (file_of g middle.tables (place_in h clusters.1 p))
+      → IsCopied (at (u.under old.1)) (layer_of g old.0) p (file_of g middle.tables (place_in h clusters.host p))
 
 -- A mapping is prepared so, or refused, by the image or by the layers below: before it is held the image has become another, with the same
 -- disk.

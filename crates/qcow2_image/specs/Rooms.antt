@@ -78,12 +78,12 @@ clusters_of g t space = lent t.file t.caches space
 abbrev pub rest_of : {S : Type 0} (g : Ghosts S) → Tables S g → Space → Metadata
 rest_of g t space = resting g.state (clusters_of g t space)
 
--- What a mapping holds of an image can be named, and there is room on the list of clusters to free in case it never is.
+-- What a mapping holds of an image can be named. Unless it was kept, there is room on the list of clusters to free in case it never is.
 pub record HoldsIn {S : Type 0} (g : Ghosts S) (t : Tables S g) (hold : Holding) : Type 0 where
   pub space : Space
   pub there : t.space ≡ Some space
   pub held : IsHeld (rest_of g t space) hold
-  pub room : 0 < space.to_free.held
+  pub room : hold.is_kept ≡ false → 0 < space.to_free.held
 
 -- An image that has not failed, and whose file is a consistent image and keeps what is written. Its free space is sound, if it is known,
 -- and so is what a mapping holds.

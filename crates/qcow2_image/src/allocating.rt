@@ -1,7 +1,8 @@
 // Clusters are allocated for guest clusters that have none of their own.
-ghost use Rattle.std.specs.Prelude.{◌≡◌, ◌<◌, ◌+◌, ◌*◌, ◌^◌, ℕ, false, None, Some, length, IsTrue};
+ghost use Rattle.std.specs.Prelude.{◌≡◌, ◌<◌, ◌+◌, ◌*◌, ◌^◌, ℕ, false, None, Some, length, IfSome, IsTrue};
 ghost use Rattle.qcow2_types.specs.Header.{cluster_size};
-ghost use Rattle.qcow2_image.specs.Allocating.{EnsuresTable, FlushesFreed, FreesPending, IsShownInReach, LoadsSpace, StoresContent, TellsShown, failed_cut, shown_of, waits_in};
+ghost use Rattle.qcow2_image.specs.Allocating.{EnsuresTable, FillsContent, FlushesFreed, FreesPending, IsShownInReach, LoadsSpace, PlacesContent, StoresContent, TellsKept, TellsShown, failed_cut, kept_by, shown_of, waits_in};
+ghost use Rattle.qcow2_metadata.specs.Places.{IsInReach};
 ghost use Rattle.qcow2_metadata.specs.MappingView.{IsNamed, mapping_seen};
 ghost use Rattle.qcow2_clusters.specs.MakingTables.{CopiesTable, MakesTable};
 ghost use Rattle.qcow2_clusters.specs.Rest.{AreEmpty, HasEntries, lent};
@@ -11,7 +12,7 @@ use crate::qcow2::Qcow2;
 use crate::reloading::drop_cached;
 use imago_storage::{Fault, Storage};
 use qcow2_alloc::{ImageFile, MetadataCaches};
-use qcow2_clusters::{Space, copy_table, free_waiting, make_table, store};
+use qcow2_clusters::{Space, copy_table, fill, free_waiting, make_table, store};
 use qcow2_metadata::{L1Table, L2Mapping, Table};
 use qcow2_types::{GuestCluster, HostCluster};
 use std::alloc::Global;
@@ -35,6 +36,20 @@ fn shown_through(mapping: L2Mapping, backing: bool) -> Shown
         L2Mapping::Backing { .. } | L2Mapping::Zero { .. } => Shown::Zeroes,
         L2Mapping::Compressed { .. } => Shown::Barred,
         L2Mapping::DataFile { host_cluster, .. } => Shown::Data(host_cluster),
+    }
+}
+
+// The host cluster that a guest cluster keeps for its zeroes that is mapped so, if it does, as copied.
+fn kept_through(mapping: L2Mapping) -> Option<HostCluster>
+    ensures kept { result ≡ kept_by (mapping_seen mapping) }
+    ensures reach { (cluster_bits : ℕ) → IsNamed cluster_bits mapping → IfSome result (IsInReach cluster_bits) }
+{
+    match mapping {
+        L2Mapping::Zero {
+            host_cluster,
+            copied: true,
+        } => host_cluster,
+        _ => None,
     }
 }
 
@@ -84,6 +99,22 @@ impl<S: Storage> Qcow2<S> {
         prove!(self.tables.file.header.cluster_bits() >= 9);
         match look_up(&mut self.tables, guest, 1) {
             Ok((mapping, _count)) => Ok(shown_through(mapping, self.mode.backing)),
+            Err(fault) => {
+                self.mark(fault);
+                Err(fault)
+            }
+        }
+    }
+
+    // The host cluster that a guest cluster keeps for its zeroes, if it does, as copied.
+    pub(crate) fn kept_at(&mut self, guest: GuestCluster) -> Result<Option<HostCluster>, Fault>
+        requires fits { let bits = self.old.tables.file.header.fields.cluster_bits in (guest + 1) * 2 ^ bits < 2 ^ 64 + 2 ^ bits }
+        requires runs { self.old.failed ≡ false }
+        ensures { TellsKept S.Storage guest self.old result self.new }
+    {
+        prove!(self.tables.file.header.cluster_bits() >= 9);
+        match look_up(&mut self.tables, guest, 1) {
+            Ok((mapping, _count)) => Ok(kept_through(mapping)),
             Err(fault) => {
                 self.mark(fault);
                 Err(fault)
@@ -170,6 +201,51 @@ impl<S: Storage> Qcow2<S> {
             content,
         );
         self.settle_change(stored)
+    }
+
+    // Writes the content of a guest cluster to the host cluster that it keeps for its zeroes.
+    fn fill_content(
+        &mut self,
+        alloc: Global,
+        host: HostCluster,
+        content: &[u8],
+    ) -> Result<(), Fault>
+        requires whole { length content.now ≡ cluster_size self.old.tables.file.header.fields }
+        requires near { IsInReach self.old.tables.file.header.fields.cluster_bits host }
+        requires free { self.old.unspent ≡ None }
+        ensures { (guest : ℕ) → FillsContent S.Storage guest host content.now self.old result self.new }
+    {
+        if self.tables.space.is_none() {
+            return Err(Fault::DamagedTable);
+        }
+        let _dropped = drop_cached(&mut self.tables.caches);
+        let filled = fill(alloc, &mut self.tables.file, host, content);
+        self.settle_change(filled)
+    }
+
+    // Puts the content of a guest cluster in the host cluster that it keeps for its zeroes, if it does, or else in one that was free.
+    // Answers that cluster, and whether it was kept.
+    pub(crate) fn place_content(
+        &mut self,
+        alloc: Global,
+        kept: Option<HostCluster>,
+        content: &[u8],
+    ) -> Result<(HostCluster, bool), Fault>
+        requires whole { length content.now ≡ cluster_size self.old.tables.file.header.fields }
+        requires near { IfSome kept (λ host. IsInReach self.old.tables.file.header.fields.cluster_bits host) }
+        requires free { self.old.unspent ≡ None }
+        ensures { (guest : ℕ) → PlacesContent S.Storage guest kept content.now self.old result self.new }
+    {
+        match kept {
+            Some(host) => match self.fill_content(alloc, host, content) {
+                Ok(()) => Ok((host, true)),
+                Err(fault) => Err(fault),
+            },
+            None => match self.store_content(alloc, content) {
+                Ok(host) => Ok((host, false)),
+                Err(fault) => Err(fault),
+            },
+        }
     }
 
     // Whether something waits to be freed.

@@ -1,7 +1,8 @@
 // Prepared mappings are committed or given up.
 ghost use Rattle.std.specs.Prelude.{◌≡◌, ◌≤◌, ◌-◌, ◌↔◌, IsTrue};
-ghost use Rattle.qcow2_image.specs.Committing.{CancelsUnspent, CommitsUnspent, GivesBack, IsNamable, NamesHost, TakesUnspent};
+ghost use Rattle.qcow2_image.specs.Committing.{CancelsUnspent, CommitsUnspent, GivesBack, IsNamable, NamesHost, TakesUnspent, held_behind};
 
+use crate::mappings::Reserved;
 use crate::qcow2::{PreparedMappingState, Qcow2};
 use crate::reloading::drop_cached;
 use crate::tables::Tables;
@@ -22,26 +23,25 @@ fn is_nameable(cluster: HostCluster, cluster_bits: u32) -> bool
     cluster.0 > 0 && cluster.0 <= MAX_OFFSET >> cluster_bits
 }
 
-// Lets the room for one entry go, where any is held.
-fn let_go(to_free: &mut ClustersToFreeList)
+// Lets the room for one entry go, where any is held. For a cluster that was kept none is.
+fn let_go(to_free: &mut ClustersToFreeList, is_kept: bool)
     ensures entries { to_free.new.entries ≡ to_free.old.entries }
-    ensures held { to_free.new.held ≡ to_free.old.held - 1 }
+    ensures held { to_free.new.held ≡ held_behind is_kept to_free.old.held }
 {
-    if to_free.held() > 0 {
+    if !is_kept && to_free.held() > 0 {
         to_free.release();
     }
 }
 
-// Has a guest cluster name a host cluster that is reserved for it, in its L2 table, which is in this cluster.
+// Has a guest cluster name the host cluster that is reserved for it, or that it kept for its zeroes, in its L2 table.
 fn name_host<S: Storage>(
     tables: &mut Tables<S>,
-    table: HostCluster,
+    clusters: Reserved,
     guest: GuestCluster,
-    host: HostCluster,
 ) -> Result<(), Fault>
-    ensures { NamesHost S.Storage table guest host tables.old result tables.new }
+    ensures { NamesHost S.Storage clusters guest tables.old result tables.new }
 {
-    if !is_nameable(host, tables.file.header.cluster_bits()) {
+    if !is_nameable(clusters.host, tables.file.header.cluster_bits()) {
         return Err(Fault::DamagedTable);
     }
     let Some(mut space) = tables.space.take() else {
@@ -52,13 +52,13 @@ fn name_host<S: Storage>(
         &mut tables.file,
         &mut tables.caches,
         &mut space,
-        table,
+        clusters.table,
         guest,
-        host,
+        clusters.host,
     );
     match named {
         Ok(()) => {
-            let_go(&mut space.to_free);
+            let_go(&mut space.to_free, clusters.is_kept);
             tables.space = Some(space);
             Ok(())
         }
@@ -69,10 +69,13 @@ fn name_host<S: Storage>(
     }
 }
 
-// Puts a host cluster that nothing is going to name among what waits to be freed, where room is held for that.
-fn give_back(space: &mut Option<Space>, host: HostCluster)
-    ensures { GivesBack host space.old space.new }
+// Puts a host cluster that nothing is going to name among what waits to be freed, where room is held for that. One that was kept stays so.
+fn give_back(space: &mut Option<Space>, host: HostCluster, is_kept: bool)
+    ensures { GivesBack is_kept host space.old space.new }
 {
+    if is_kept {
+        return;
+    }
     let Some(space) = space else {
         return;
     };
@@ -111,7 +114,12 @@ impl<S: Storage> Qcow2<S> {
         };
         // Its contract bounds the bytes.
         let _bytes = self.tables.file.image.size();
-        match name_host(&mut self.tables, unspent.table, unspent.guest, unspent.host) {
+        let clusters = Reserved {
+            table: unspent.table,
+            host: unspent.host,
+            is_kept: unspent.is_kept,
+        };
+        match name_host(&mut self.tables, clusters, unspent.guest) {
             Ok(()) => Ok(()),
             Err(fault) => {
                 self.failed = true;
@@ -120,12 +128,12 @@ impl<S: Storage> Qcow2<S> {
         }
     }
 
-    // Gives a prepared mapping up: its host cluster waits to be freed then.
+    // Gives a prepared mapping up: its host cluster waits to be freed then, unless the guest cluster keeps it for its zeroes.
     pub(crate) fn cancel_unspent(&mut self, state: PreparedMappingState)
         ensures { CancelsUnspent S.Storage state.claim self.old self.new }
     {
         if let Some(unspent) = self.take_unspent(state) {
-            give_back(&mut self.tables.space, unspent.host);
+            give_back(&mut self.tables.space, unspent.host, unspent.is_kept);
         }
     }
 }

@@ -1,5 +1,5 @@
-// Mappings are prepared for guest clusters that have no host cluster of their own.
-ghost use Rattle.std.specs.Prelude.{◌≡◌, ◌<◌, ◌≤◌, ◌+◌, ◌-◌, ◌%◌, false, None, length};
+// Mappings are prepared for guest clusters whose data is in no host cluster of their own.
+ghost use Rattle.std.specs.Prelude.{◌≡◌, ◌<◌, ◌≤◌, ◌+◌, ◌-◌, ◌%◌, false, None, length, IfSome};
 ghost use Rattle.imago_access.specs.Changes.{asking};
 ghost use Rattle.qcow2_types.specs.Header.{cluster_size};
 ghost use Rattle.qcow2_metadata.specs.Places.{IsInReach};
@@ -13,6 +13,15 @@ use qcow2_types::{GuestCluster, GuestOffset, HostCluster};
 use std::alloc::Global;
 use std::snapshot::Snapshot;
 
+// What a guest cluster is to be written in: a host cluster, with the cluster of the L2 table over it. Either the guest cluster kept it for
+// its zeroes, or it is reserved.
+#[derive(Clone, Copy)]
+pub(crate) struct Reserved {
+    pub(crate) table: HostCluster,
+    pub(crate) host: HostCluster,
+    pub(crate) is_kept: bool,
+}
+
 impl<S: Storage> Qcow2<S> {
     // How much of a range lies in its first guest cluster.
     fn first_run(&self, offset: u64, length: u64) -> u64
@@ -22,16 +31,19 @@ impl<S: Storage> Qcow2<S> {
         length.min(GuestOffset(offset).remaining_in_cluster(cluster_bits))
     }
 
-    // Reserves a host cluster for a guest cluster, with this content, under an L2 table.
+    // Has a host cluster for a guest cluster, with this content, under an L2 table: the one that it keeps for its zeroes, if it does, or
+    // else one that is reserved.
     fn reserve(
         &mut self,
         alloc: Global,
         guest: GuestCluster,
+        kept: Option<HostCluster>,
         content: &[u8],
-    ) -> Result<(HostCluster, HostCluster), Fault>
+    ) -> Result<Reserved, Fault>
         requires whole { length content.now ≡ cluster_size self.old.tables.file.header.fields }
+        requires near { IfSome kept (λ host. IsInReach self.old.tables.file.header.fields.cluster_bits host) }
         requires free { self.old.unspent ≡ None }
-        ensures { Reserves S.Storage guest content.now self.old result self.new }
+        ensures { Reserves S.Storage guest kept content.now self.old result self.new }
     {
         match self.load_space(alloc) {
             Ok(()) => {}
@@ -41,14 +53,21 @@ impl<S: Storage> Qcow2<S> {
             Ok(table) => table,
             Err(fault) => return Err(fault),
         };
-        match self.store_content(alloc, content) {
-            Ok(host) => Ok((table, host)),
+        match self.place_content(alloc, kept, content) {
+            Ok(placed) => {
+                let (host, is_kept) = placed;
+                Ok(Reserved {
+                    table,
+                    host,
+                    is_kept,
+                })
+            }
             Err(fault) => Err(fault),
         }
     }
 
-    // Prepares a mapping of what lies in the first guest cluster of a range, which has no cluster of its own: a host cluster is reserved
-    // for it, and has what is shown there.
+    // Prepares a mapping of what lies in the first guest cluster of a range, whose data is in no cluster of its own: the host cluster that
+    // it keeps for its zeroes, or one that is reserved for it, has what is shown there.
     pub(crate) fn prepare_fresh<B: ReadBelow>(
         &mut self,
         alloc: Global,
@@ -71,25 +90,33 @@ impl<S: Storage> Qcow2<S> {
             Ok(content) => content,
             Err(fault) => return Err(fault),
         };
-        match self.reserve(alloc, guest, &content) {
+        let kept = match self.kept_at(guest) {
+            Ok(kept) => kept,
+            Err(fault) => return Err(fault),
+        };
+        match self.reserve(alloc, guest, kept, &content) {
             Ok(clusters) => Ok(self.hold(clusters, offset, run, overwrite)),
             Err(fault) => Err(fault),
         }
     }
 
-    // Keeps what was reserved, a table's cluster and a host cluster, as the mapping that is prepared.
+    // Keeps what was reserved as the mapping that is prepared.
     fn hold(
         &mut self,
-        clusters: (HostCluster, HostCluster),
+        clusters: Reserved,
         offset: u64,
         length: u64,
         overwrite: bool,
     ) -> PreparedDataMapping<PreparedMappingState>
-        requires reach { IsInReach self.old.tables.file.header.fields.cluster_bits clusters.1 }
+        requires reach { IsInReach self.old.tables.file.header.fields.cluster_bits clusters.host }
         requires row { let c = cluster_size self.old.tables.file.header.fields in length ≤ c - offset % c }
         ensures { KeepsMapping S.Storage (asking offset length overwrite) clusters self.old result self.new }
     {
-        let (table, host) = clusters;
+        let Reserved {
+            table,
+            host,
+            is_kept,
+        } = clusters;
         let cluster_bits = self.tables.file.header.cluster_bits();
         let guest = GuestOffset(offset);
         let place = host.relative_offset(guest, cluster_bits).0;
@@ -102,6 +129,7 @@ impl<S: Storage> Qcow2<S> {
             guest: guest.cluster(cluster_bits),
             table,
             host,
+            is_kept,
             overwrite,
             copied: Snapshot::of(&self.tables.file.image),
             written: Writes::none(),

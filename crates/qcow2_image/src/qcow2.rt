@@ -64,6 +64,8 @@ impl PreparedMappingState {
 /// with what the guest cluster shows, which is copied from the layers below where they do, or from data that isn't marked as copied, as
 /// others may share it (copy on write), then written, and named by the L2 entry as the mapping is committed. What the entry named before,
 /// for data, for zeroes or compressed, and what was reserved and is given up, waits for the next allocation or flush, which counts it down.
+/// A cluster that is kept for zeroes, and marked as copied, is filled and written in the place of one that is allocated, and stays kept
+/// where that is given up.
 /// A compressed cluster is written only as a whole. Zeroing and discards are declined (a chain writes zeroes then, where it may), and the
 /// size stays.
 #[derive(Drop)]

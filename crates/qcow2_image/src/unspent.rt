@@ -14,7 +14,8 @@ pub struct Writes {
 }
 
 /// A prepared mapping: its run in bytes, and where that is in the file, its guest cluster with the cluster of the L2 table over it, and the
-/// host cluster that is reserved for it. For contracts it keeps the file as it was when the guest cluster's content was there.
+/// host cluster that is reserved for it, or that it kept for its zeroes. For contracts it keeps the file as it was when the guest cluster's
+/// content was there.
 #[derive(Drop)]
 pub struct Unspent<S: Storage> {
     pub(crate) claim: u64,
@@ -24,6 +25,7 @@ pub struct Unspent<S: Storage> {
     pub(crate) guest: GuestCluster,
     pub(crate) table: HostCluster,
     pub(crate) host: HostCluster,
+    pub(crate) is_kept: bool,
     pub(crate) overwrite: bool,
     pub(crate) copied: Snapshot<S>,
     pub(crate) written: Writes,
