@@ -3,8 +3,8 @@ pub mod Settled
 pub mod Resting
 pub mod Ending
 pub mod FreeingWaiting
-pub mod AllocatingOne
-pub mod StoringOne
+pub mod AllocatingRuns
+pub mod StoringRuns
 pub mod StoringSettled
 pub mod FillingKept
 pub mod LoneTables

@@ -1,27 +1,32 @@
--- What was stored is settled.
-use Rattle.std.proofs.Common.{◌≡◌, ℕ, ◌+◌, ◌*◌, ◌<◌, ◌≤◌, refl, arith, ap, sym, subst, ◌∙◌, inl, inr, List, length, Result, Ok, Err}
+-- What was stored in clusters in a row is settled.
+use Rattle.std.proofs.Common.{◌≡◌, ℕ, ◌+◌, ◌-◌, ◌*◌, ◌/◌, ◌%◌, ◌<◌, ◌≤◌, refl, arith, ap, sym, subst, ◌∙◌, inl, inr, List, length, Result, Ok, Err}
 use Rattle.std.specs.Prelude.{IfOk, OnOk, slice_index}
+use Rattle.std.proofs.Math.Nat.{add-mul, div-lt_iff_lt-mul, div-mul-le_self, mod-eq-sub-div-mul}
+use Rattle.std.proofs.lemmas.Nat.{mod_below, pow_pos}
 use Rattle.imago_storage.specs.State.{StorageState}
 use Rattle.imago_storage.specs.declared.fault.Fault.{Fault}
 use Rattle.imago_storage.specs.declared.fault.Fault.TheVariants.{DamagedTable, Memory, Storage}
 use Rattle.imago_storage.proofs.Composing.{keeps_on, rose_behind}
 use Rattle.qcow2_types.specs.Frames.{Same}
 use Rattle.qcow2_types.specs.Header.{Header, cluster_size}
+use Rattle.qcow2_metadata.specs.Places.{IsInReach}
 use Rattle.qcow2_alloc.specs.declared.cache.MetadataCaches.{MetadataCaches}
 use Rattle.qcow2_alloc.specs.declared.file.ImageFile.{ImageFile}
 use Rattle.qcow2_alloc.specs.Allocators.{table_of}
 use Rattle.qcow2_alloc.specs.Caches.{cached_in}
 use Rattle.qcow2_alloc.specs.Going.{AreBlocksInReach, AreTablesInReach, IsMild, WasNotCutOff}
+use Rattle.qcow2_alloc.specs.MakingRoom.{run_of}
 use Rattle.qcow2_alloc.specs.Quiet.{IsQuiet, IsSound, Quietly}
+use Rattle.qcow2_alloc.proofs.Freeing.Listed.{covers-one}
 use Rattle.qcow2_alloc.proofs.Memory.SafeLaws.{safe-reach}
 use Rattle.qcow2_alloc.proofs.Quiet.QuietGiven.{quietly-given}
-use Rattle.qcow2_steps.specs.Words.{IsReserved}
 use Rattle.qcow2_steps.proofs.AddingUp.{reserved-still}
 use Rattle.qcow2_steps.proofs.Steps.{quiet-advances}
 use Rattle.qcow2_clusters.specs.Rest.{Clusters, IsReady, changed, lent, resting, storage}
 use Rattle.qcow2_clusters.specs.Settling.{Settles, WhyNotSettled}
-use Rattle.qcow2_clusters.specs.Storing.{Stores, StoresUnsettled, WhyNotAllocated, handed_by, held_by}
-use Rattle.qcow2_clusters.proofs.Adding.{quiet-progresses}
+use Rattle.qcow2_clusters.specs.Storing.{AreReserved, Stores, StoresRun, StoresRunUnsettled, WhyNotAllocated, handed_by, held_by, run_handed_by}
+use Rattle.qcow2_clusters.proofs.Adding.{progresses-weaker, quiet-progresses, wider-handing}
+use Rattle.qcow2_clusters.specs.Progress.{handing}
 use Rattle.qcow2_clusters.proofs.Ending.{quiet-halted, settled-cases, settled-cause, settled-faultless, settled-if-ok, settled-quietly}
 use Rattle.qcow2_clusters.proofs.Resting.{l1-kept}
 
@@ -39,8 +44,8 @@ mild-reach reach mid after Storage why near mild = mild
 mild-reach reach mid after DamagedTable why near mild = why near
 mild-reach reach mid after _ why near mild = why
 
-module _ {S : Type 0} (state : S → StorageState) (content : List ℕ) (c : Clusters S) (long : length content ≡ cluster_size c.file.header.fields) (was : Result ℕ Fault) (mid : Clusters S)
-    (stored : StoresUnsettled state content c was mid) (result : Result ℕ Fault) (after : ImageFile S) (new : MetadataCaches S) (settles : Settles state was mid.file mid.caches result after new)
+module _ {S : Type 0} (state : S → StorageState) (n : ℕ) (content : List ℕ) (c : Clusters S) (long : length content ≤ n * cluster_size c.file.header.fields) (was : Result ℕ Fault) (mid : Clusters S)
+    (stored : StoresRunUnsettled state n content c was mid) (result : Result ℕ Fault) (after : ImageFile S) (new : MetadataCaches S) (settles : Settles state was mid.file mid.caches result after new)
     (held : ℕ) where
   abbrev c' : Clusters S
   c' = lent after new (record { allocator = mid.space.allocator; to_free = record { entries = mid.space.to_free.entries; held = held } })
@@ -52,19 +57,19 @@ module _ {S : Type 0} (state : S → StorageState) (content : List ℕ) (c : Clu
   in-reach ready whole = safe-reach (changed state mid).file mid.file.header (cached_in mid.caches) mid.caches.order (stored.quiet.holds ready.keeps ready.sound whole).0.safe
 
   -- The image stays as it was to the disk, with what was handed out,
-  as-was : Quietly (WasNotCutOff result) (handed_by was) (λ _. 0) (storage state c) (resting state c) (storage state c') (resting state c')
+  as-was : Quietly (WasNotCutOff result) (run_handed_by n was) (λ _. 0) (storage state c) (resting state c) (storage state c') (resting state c')
   as-was =
-      settled-quietly state was mid.file mid.caches result after new settles (table_of mid.space.allocator) mid.space.to_free.entries (storage state c) (resting state c) (handed_by was) stored.quiet
+      settled-quietly state was mid.file mid.caches result after new settles (table_of mid.space.allocator) mid.space.to_free.entries (storage state c) (resting state c) (run_handed_by n was) stored.quiet
 
   -- which is nothing where it is refused.
-  all-quietly : Quietly (WasNotCutOff result) (handed_by result) (λ _. 0) (storage state c) (resting state c) (storage state c') (resting state c')
+  all-quietly : Quietly (WasNotCutOff result) (run_handed_by n result) (λ _. 0) (storage state c) (resting state c) (storage state c') (resting state c')
   all-quietly = elim (settled-cases state was mid.file mid.caches result after new settles) [
     | inl same ↦
-        subst (λ (r : Result ℕ Fault). Quietly (WasNotCutOff result) (handed_by r) (λ _. 0) (storage state c) (resting state c) (storage state c') (resting state c')) (sym same) as-was
+        subst (λ (r : Result ℕ Fault). Quietly (WasNotCutOff result) (run_handed_by n r) (λ _. 0) (storage state c) (resting state c) (storage state c') (resting state c')) (sym same) as-was
     | inr refused ↦
-        subst (λ (r : Result ℕ Fault). Quietly (WasNotCutOff r) (handed_by r) (λ _. 0) (storage state c) (resting state c) (storage state c') (resting state c')) (sym refused.2)
+        subst (λ (r : Result ℕ Fault). Quietly (WasNotCutOff r) (run_handed_by n r) (λ _. 0) (storage state c) (resting state c) (storage state c') (resting state c')) (sym refused.2)
         (quietly-given (IsMild refused.1) (λ _. 0) (λ _. 0) (storage state c) (resting state c) (storage state c') (resting state c') as-was.shape as-was.later (λ keeps sound.
-        quiet-halted (WasNotCutOff result) (IsMild refused.1) (handed_by was) (λ _. 0) (λ _. 0) (λ _. 0) (storage state c) (resting state c) (storage state c') (resting state c') (resting state c')
+        quiet-halted (WasNotCutOff result) (IsMild refused.1) (run_handed_by n was) (λ _. 0) (λ _. 0) (λ _. 0) (storage state c) (resting state c) (storage state c') (resting state c') (resting state c')
         (λ mild. mild-reach Reach (storage state mid).faults (storage state c').faults refused.1 refused.3 (in-reach (record { keeps = keeps; sound = sound }) refused.0) mild) as-was))
   ]
 
@@ -88,13 +93,13 @@ module _ {S : Type 0} (state : S → StorageState) (content : List ℕ) (c : Clu
     step : IsSound (resting state c') × IsQuiet (λ _. 0) (λ _. 0) (changed state mid) (resting state c')
     step = (settles.quiet (table_of mid.space.allocator) mid.space.to_free.entries).holds (keeps_on (storage state c) (storage state mid) stored.quiet.shape ready.keeps) sound done
 
-    reserved : IsReserved (changed state mid) x
-    reserved = subst (λ (r : Result ℕ Fault). IfOk r (IsReserved (changed state mid))) before (stored.reserved ready)
+    reserved : AreReserved n (changed state mid) x
+    reserved = subst (λ (r : Result ℕ Fault). IfOk r (AreReserved n (changed state mid))) before (stored.reserved ready)
 
-    reserved-there : IsReserved (resting state c') x
-    reserved-there =
+    reserved-there : AreReserved n (resting state c') x
+    reserved-there d from to =
         reserved-still (λ p v. ⊥) (λ q. ⊥) (λ guest. ⊥) (λ _. 0) (λ _. 0) (changed state mid) (resting state c')
-        (quiet-advances (changed state mid) (resting state c') (λ _. 0) (λ _. 0) sound step.0 step.1 (λ k some. refl)) x reserved refl
+        (quiet-advances (changed state mid) (resting state c') (λ _. 0) (λ _. 0) sound step.0 step.1 (λ k some. refl)) d (reserved d from to) refl
 
     bytes : (i : ℕ) → i < length content → (changed state mid).file (x * cluster_size c.file.header.fields + i) ≡ slice_index content i
     bytes = subst (λ (r : Result ℕ Fault). IfOk r (λ x. (i : ℕ) → i < length content → (changed state mid).file (x * cluster_size c.file.header.fields + i) ≡ slice_index content i)) before (stored.stored ready)
@@ -102,13 +107,25 @@ module _ {S : Type 0} (state : S → StorageState) (content : List ℕ) (c : Clu
     size : cluster_size mid.file.header.fields ≡ cluster_size c.file.header.fields
     size = ap (λ (H : Header). cluster_size H.fields) stored.header.2
 
-    kept : Same (changed state mid).file (resting state c').file (x * cluster_size c.file.header.fields) (cluster_size c.file.header.fields)
-    kept = subst (λ n. Same (changed state mid).file (resting state c').file (x * n) n) size (step.1.kept x reserved.used refl)
+    kept : (d : ℕ) → x ≤ d → d < x + n
+        → Same (changed state mid).file (resting state c').file (d * cluster_size c.file.header.fields) (cluster_size c.file.header.fields)
+    kept d from to = subst (λ k. Same (changed state mid).file (resting state c').file (d * k) k) size (step.1.kept d (reserved d from to).used refl)
 
+    -- Byte i of them is in cluster x + i / size.
     bytes-there : (i : ℕ) → i < length content → (resting state c').file (x * cluster_size c.file.header.fields + i) ≡ slice_index content i
-    bytes-there i lt = kept i (omega (arith, lt, long)) ∙ bytes i lt
+    bytes-there i lt =
+        let s : ℕ = cluster_size c.file.header.fields in
+        let some : 0 < cluster_size c.file.header.fields = pow_pos c.file.header.fields.cluster_bits in
+        let row : i / s * s ≤ i = div-mul-le_self i s in
+        let inside : i / s < n = (div-lt_iff_lt-mul some).1 (omega (arith, lt, long)) in
+        let rest : i % s ≡ i - i / s * s = mod-eq-sub-div-mul i s in
+        let whole : (x + i / s) * s ≡ x * s + i / s * s = add-mul x (i / s) s in
+        let at : (x + i / s) * s + i % s ≡ x * s + i = omega (arith, row, rest, whole) in
+        subst (λ p. (resting state c').file p ≡ (changed state mid).file p) at
+        (kept (x + i / s) (omega arith) (omega (arith, inside)) (i % s) (mod_below i s some))
+        ∙ bytes i lt
 
-  reserved-if : (r : Result ℕ Fault) → result ≡ r → IsReady state c → IfOk r (IsReserved (resting state c'))
+  reserved-if : (r : Result ℕ Fault) → result ≡ r → IsReady state c → IfOk r (AreReserved n (resting state c'))
   reserved-if (Ok x) is ready = reserved-there x is ready
   reserved-if (Err fault) is ready = tt
 
@@ -117,9 +134,9 @@ module _ {S : Type 0} (state : S → StorageState) (content : List ℕ) (c : Clu
   bytes-if (Ok x) is ready = bytes-there x is ready
   bytes-if (Err fault) is ready = tt
 
-  pub stored-settled : held ≡ held_by result c.space.to_free.held → Stores state content c result c'
-  stored-settled room = record {
-    progress = quiet-progresses (WasNotCutOff result) (handed_by result) (λ _. 0) (storage state c) (resting state c) (storage state c') (resting state c') (λ sound k some. refl) all-quietly;
+  pub run-settled : held ≡ held_by result c.space.to_free.held → StoresRun state n content c result c'
+  run-settled room = record {
+    progress = quiet-progresses (WasNotCutOff result) (run_handed_by n result) (λ _. 0) (storage state c) (resting state c) (storage state c') (resting state c') (λ sound k some. refl) all-quietly;
     rests = record {
       empty = settles.empty;
       room = record { tables = settles.room.tables ∙ stored.room.tables; blocks = settles.room.blocks ∙ stored.room.blocks };
@@ -129,7 +146,7 @@ module _ {S : Type 0} (state : S → StorageState) (content : List ℕ) (c : Clu
       faults = settled-faultless state was mid.file mid.caches result after new settles (storage state c) stored.faults;
     };
     held = room;
-    l1 = l1-kept state c result c' (handed_by result) (λ _. 0) all-quietly;
+    l1 = l1-kept state c result c' (run_handed_by n result) (λ _. 0) all-quietly;
     named = settled-if-ok state was mid.file mid.caches result after new settles _ stored.named;
     reserved = reserved-if result refl;
     stored = bytes-if result refl;
@@ -141,3 +158,29 @@ module _ {S : Type 0} (state : S → StorageState) (content : List ℕ) (c : Clu
 pub held-refused : (fault : Fault) (r : Result ℕ Fault) (held : ℕ) → OnOk r (r ≡ Err fault) → held_by r held ≡ held
 held-refused fault (Ok x) held is = absurd (cc is)
 held-refused fault (Err _) held is = refl
+
+-- A run of one cluster is that one.
+pub one-stored : {S : Type 0} (state : S → StorageState) (content : List ℕ) (c : Clusters S) (result : Result ℕ Fault) (c' : Clusters S)
+    → StoresRun state 1 content c result c' → Stores state content c result c'
+one-stored state content c (Ok x) c' run = record {
+  progress = progresses-weaker (WasNotCutOff {T = ℕ} (Ok x)) (WasNotCutOff {T = ℕ} (Ok x)) (handing (run_handed_by 1 (Ok x)) (λ _. 0)) (handing (handed_by (Ok x)) (λ _. 0))
+      (storage state c) (resting state c) (storage state c') (resting state c') (wider-handing (run_handed_by 1 (Ok x)) (λ _. 0) (handing (handed_by (Ok x)) (λ _. 0)))
+      (λ whole. whole) (λ d. sym (covers-one d (run_of x 1) refl)) (λ d. refl) run.progress;
+  rests = run.rests;
+  held = run.held;
+  l1 = run.l1;
+  named = (run.named.0, subst (λ n. IsInReach c.file.header.fields.cluster_bits n) (let same : x + (1 - 1) ≡ x = omega arith in same) run.named.1);
+  reserved = λ ready. run.reserved ready x (omega arith) (omega arith);
+  stored = run.stored;
+  cause = run.cause;
+}
+one-stored state content c (Err fault) c' run = record {
+  progress = run.progress;
+  rests = run.rests;
+  held = run.held;
+  l1 = run.l1;
+  named = tt;
+  reserved = λ ready. tt;
+  stored = run.stored;
+  cause = run.cause;
+}

@@ -1,5 +1,5 @@
 -- How bytes are stored in a cluster that was free.
-use Rattle.std.specs.Prelude.{◌≡◌, ◌≢◌, ⊤, ◌+◌, ◌*◌, ◌<◌, ℕ, List, length, slice_index, Result, Ok, Err, IfOk, IfErr}
+use Rattle.std.specs.Prelude.{◌≡◌, ◌≢◌, ⊤, ◌+◌, ◌-◌, ◌*◌, ◌<◌, ◌≤◌, ℕ, List, length, slice_index, Result, Ok, Err, IfOk, IfErr}
 use Rattle.imago_storage.specs.State.{StorageState, Rose}
 use Rattle.imago_storage.specs.Calls.{IsFaultless, Later}
 use Rattle.imago_storage.specs.declared.fault.Fault.{Fault}
@@ -8,8 +8,10 @@ use Rattle.qcow2_types.specs.Header.{cluster_size}
 use Rattle.qcow2_metadata.specs.Places.{IsInReach}
 use Rattle.qcow2_alloc.specs.Allocating.{MovedTable}
 use Rattle.qcow2_alloc.specs.Caches.{HasRoomOf}
+use Rattle.qcow2_alloc.specs.FreeList.{covers}
 use Rattle.qcow2_alloc.specs.Going.{WasNotCutOff}
-use Rattle.qcow2_alloc.specs.Quiet.{Quietly, one_at}
+use Rattle.qcow2_alloc.specs.MakingRoom.{run_of}
+use Rattle.qcow2_alloc.specs.Quiet.{Metadata, Quietly, one_at}
 use Rattle.qcow2_steps.specs.Words.{IsReserved}
 use Rattle.qcow2_clusters.specs.Progress.{Progresses, handing}
 use Rattle.qcow2_clusters.specs.Rest.{Clusters, AreEmpty, IsReady, KeepsL1, changed, resting, storage}
@@ -44,23 +46,46 @@ pub record Rests {S T : Type 0} (state : S → StorageState) (c : Clusters S) (r
   pub later : Later (storage state c) (storage state c')
   pub faults : WasNotCutOff result → IsFaultless (storage state c) (storage state c')
 
--- The same before that is settled: what is modified waits to be written.
-pub record StoresUnsettled {S : Type 0} (state : S → StorageState) (content : List ℕ) (c : Clusters S) (result : Result ℕ Fault)
-    (c' : Clusters S) : Type 0 where
-  pub quiet : Quietly (WasNotCutOff result) (handed_by result) (λ _. 0) (storage state c) (resting state c) (storage state c')
+-- what a call hands out that answers the first of n clusters in a row
+abbrev pub run_handed_by : ℕ → Result ℕ Fault → ℕ → ℕ
+run_handed_by n (Ok first) c = covers c (run_of first n)
+run_handed_by n (Err fault) c = 0
+
+-- Each of n clusters in a row is reserved.
+abbrev pub AreReserved : ℕ → Metadata → ℕ → Type 0
+AreReserved n m first = (d : ℕ) → first ≤ d → d < first + n → IsReserved m d
+
+-- Bytes are written to n clusters in a row that were free, and what is modified for that waits to be written.
+pub record StoresRunUnsettled {S : Type 0} (state : S → StorageState) (n : ℕ) (content : List ℕ) (c : Clusters S)
+    (result : Result ℕ Fault) (c' : Clusters S) : Type 0 where
+  pub quiet : Quietly (WasNotCutOff result) (run_handed_by n result) (λ _. 0) (storage state c) (resting state c) (storage state c')
       (changed state c')
   pub unpinned : AreUnpinned c'.caches
   pub room : HasRoomOf c.caches c'.caches
   pub header : MovedTable c.file.header c'.file.header
   pub faults : WasNotCutOff result → IsFaultless (storage state c) (storage state c')
   pub held : c'.space.to_free.held ≡ held_by result c.space.to_free.held
-  pub named : IfOk result (λ x. (x ≢ 0) × IsInReach c.file.header.fields.cluster_bits x)
-  pub reserved : IsReady state c → IfOk result (IsReserved (changed state c'))
+  pub named : IfOk result (λ x. (x ≢ 0) × IsInReach c.file.header.fields.cluster_bits (x + (n - 1)))
+  pub reserved : IsReady state c → IfOk result (AreReserved n (changed state c'))
   pub stored : IsReady state c → IfOk result (λ x. (i : ℕ) → i < length content
       → (changed state c').file (x * cluster_size c.file.header.fields + i) ≡ slice_index content i)
   pub cause : IfErr result (WhyNotAllocated (IsReady state c) (storage state c).faults (storage state c').faults)
 
--- Bytes are stored in a cluster that was free, and that is reserved then: nothing names it, and the disk stays as it was.
+-- The same once that is settled: they are reserved, nothing names them, and the disk stays as it was.
+pub record StoresRun {S : Type 0} (state : S → StorageState) (n : ℕ) (content : List ℕ) (c : Clusters S) (result : Result ℕ Fault)
+    (c' : Clusters S) : Type 0 where
+  pub progress : Progresses (WasNotCutOff result) (handing (run_handed_by n result) (λ _. 0)) (storage state c)
+      (resting state c) (storage state c') (resting state c')
+  pub rests : Rests state c result c'
+  pub held : c'.space.to_free.held ≡ held_by result c.space.to_free.held
+  pub l1 : KeepsL1 state c result c'
+  pub named : IfOk result (λ x. (x ≢ 0) × IsInReach c.file.header.fields.cluster_bits (x + (n - 1)))
+  pub reserved : IsReady state c → IfOk result (AreReserved n (resting state c'))
+  pub stored : IsReady state c → IfOk result (λ x. (i : ℕ) → i < length content
+      → (resting state c').file (x * cluster_size c.file.header.fields + i) ≡ slice_index content i)
+  pub cause : IfErr result (WhyNotAllocated (IsReady state c) (storage state c).faults (storage state c').faults)
+
+-- The same of one cluster.
 pub record Stores {S : Type 0} (state : S → StorageState) (content : List ℕ) (c : Clusters S) (result : Result ℕ Fault)
     (c' : Clusters S) : Type 0 where
   pub progress : Progresses (WasNotCutOff result) (handing (handed_by result) (λ _. 0)) (storage state c)

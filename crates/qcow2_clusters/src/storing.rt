@@ -1,10 +1,11 @@
 // Bytes are stored in clusters that were free.
-ghost use Rattle.std.specs.Prelude.{◌≡◌, ◌*◌, length};
+ghost use Rattle.std.specs.Prelude.{◌≡◌, ◌≤◌, ◌<◌, ◌*◌, ℕ, List, OnOk, length};
 ghost use Rattle.imago_storage.specs.Through.{Put};
 ghost use Rattle.qcow2_types.specs.Header.{cluster_size};
 ghost use Rattle.qcow2_metadata.specs.Places.{IsInReach};
-ghost use Rattle.qcow2_clusters.specs.Rest.{AreEmpty, HasEntries, lent};
-ghost use Rattle.qcow2_clusters.specs.Storing.{Stores, StoresUnsettled};
+ghost use Rattle.qcow2_clusters.specs.Rest.{AreEmpty, Clusters, HasEntries, lent};
+ghost use Rattle.qcow2_clusters.specs.Settling.{AreUnpinned};
+ghost use Rattle.qcow2_clusters.specs.Storing.{Stores, StoresRun, StoresRunUnsettled};
 
 use crate::settling::settle;
 use crate::space::Space;
@@ -40,7 +41,7 @@ fn allocate_and_write<S: Storage>(
     requires rest { AreEmpty caches.old }
     requires room { HasEntries caches.old }
     requires whole { length content.now ≡ cluster_size file.old.header.fields }
-    ensures { StoresUnsettled S.state content.now (lent file.old caches.old space.old) result (lent file.new caches.new space.new) }
+    ensures { StoresRunUnsettled S.state 1 content.now (lent file.old caches.old space.old) result (lent file.new caches.new space.new) }
 {
     match space
         .allocator
@@ -61,6 +62,32 @@ fn allocate_and_write<S: Storage>(
     }
 }
 
+// Ends what was stored so: what is modified is written, and then nothing is cached. Where that is refused no room is held.
+pub(crate) fn settle_stored<S: Storage>(
+    file: &mut ImageFile<S>,
+    caches: &mut MetadataCaches<S>,
+    space: &mut Space,
+    stored: Result<HostCluster, Fault>,
+) -> Result<HostCluster, Fault>
+    requires loose { AreUnpinned caches.old }
+    requires held { OnOk stored (0 < space.old.to_free.held) }
+    ensures stores { (n : ℕ) (content : List ℕ) (c : Clusters S) → length content ≤ n * cluster_size c.file.header.fields
+        → StoresRunUnsettled S.state n content c stored (lent file.old caches.old space.old)
+        → StoresRun S.state n content c result (lent file.new caches.new space.new) }
+    ensures same { OnOk result (result ≡ stored) }
+{
+    match stored {
+        Ok(cluster) => match settle(file, caches, Ok(cluster)) {
+            Ok(cluster) => Ok(cluster),
+            Err(fault) => {
+                space.to_free.release();
+                Err(fault)
+            }
+        },
+        Err(fault) => settle(file, caches, Err(fault)),
+    }
+}
+
 /// Stores the content of a guest cluster in a host cluster that was free, which nothing names yet. Room is held for it then on the list of
 /// clusters to free, as `ClustersToFreeList::hold` does. Nothing may be cached before, and nothing is then.
 ///
@@ -78,14 +105,6 @@ pub fn store<S: Storage>(
     requires whole { length content.now ≡ cluster_size file.old.header.fields }
     ensures { Stores S.state content.now (lent file.old caches.old space.old) result (lent file.new caches.new space.new) }
 {
-    match allocate_and_write(alloc, file, caches, space, content) {
-        Ok(cluster) => match settle(file, caches, Ok(cluster)) {
-            Ok(cluster) => Ok(cluster),
-            Err(fault) => {
-                space.to_free.release();
-                Err(fault)
-            }
-        },
-        Err(fault) => settle(file, caches, Err(fault)),
-    }
+    let stored = allocate_and_write(alloc, file, caches, space, content);
+    settle_stored(file, caches, space, stored)
 }

@@ -1,5 +1,5 @@
--- A cluster is allocated from rest.
-use Rattle.std.proofs.Common.{◌≡◌, ◌≢◌, ℕ, ◌+◌, ◌-◌, refl, arith, ap, subst, Result, Ok, Err, Bool, List, false}
+-- Clusters in a row are allocated from rest.
+use Rattle.std.proofs.Common.{◌≡◌, ◌≢◌, ℕ, ◌+◌, ◌-◌, ◌<◌, ◌≤◌, refl, arith, ap, sym, subst, Result, Ok, Err, Bool, List, false}
 use Rattle.std.specs.Prelude.{⊤}
 use Rattle.imago_storage.specs.State.{StorageState}
 use Rattle.imago_storage.specs.declared.fault.Fault.{Fault}
@@ -14,17 +14,17 @@ use Rattle.qcow2_alloc.specs.Crowding.{IsCrowded}
 use Rattle.qcow2_alloc.specs.Freeing.{IsLoose}
 use Rattle.qcow2_alloc.specs.Going.{IsMild, WasNotCutOff}
 use Rattle.qcow2_alloc.specs.HandingOut.{AllocatesClusters}
-use Rattle.qcow2_alloc.specs.Quiet.{IsUsed, Quietly, counted, one_at}
+use Rattle.qcow2_alloc.specs.MakingRoom.{run_of}
+use Rattle.qcow2_alloc.specs.FreeList.{covers}
+use Rattle.qcow2_alloc.specs.Quiet.{IsUsed, Quietly, counted}
 use Rattle.qcow2_alloc.specs.ReadyingRuns.{IsRunTold}
 use Rattle.qcow2_alloc.specs.ReadyingRuns.{handed_by as handed_out}
 use Rattle.qcow2_alloc.specs.State.{IsKept, WhereKept}
-use Rattle.qcow2_alloc.proofs.Freeing.Listed.{covers-one}
 use Rattle.qcow2_alloc.proofs.Handing.HandedOut.{unnamed-used}
 use Rattle.qcow2_alloc.proofs.Quiet.QuietThen.{quietly-otherwise, used-then}
-use Rattle.qcow2_steps.specs.Words.{IsReserved}
 use Rattle.qcow2_clusters.specs.Rest.{AreEmpty, Clusters, HasEntries, IsReady, changed, resting, storage}
 use Rattle.qcow2_clusters.specs.Settling.{AreUnpinned}
-use Rattle.qcow2_clusters.specs.Storing.{StoresUnsettled, WhyNotAllocated}
+use Rattle.qcow2_clusters.specs.Storing.{AreReserved, StoresRunUnsettled, WhyNotAllocated}
 use Rattle.qcow2_clusters.proofs.Ending.{begun, begun-then, ready-kept}
 use Rattle.qcow2_clusters.proofs.Resting.{begun-quiet, empty-loose, loose-unpinned}
 
@@ -45,45 +45,45 @@ why-full : (sound : Type 0) (loose : Bool → Type 0) (full : ℕ → Type 0) �
 why-full sound loose full room before after fault is why =
     subst (λ (f : Fault). WhyNotHandedOut sound loose full before after f) is why (false, (λ e. absurd (cc e)), room)
 
-module _ {S : Type 0} (state : S → StorageState) (c : Clusters S) (empty : AreEmpty c.caches) (room : HasEntries c.caches) (mark : ℕ) (mid : Clusters S) (mark' : ℕ) where
+module _ {S : Type 0} (state : S → StorageState) (c : Clusters S) (empty : AreEmpty c.caches) (room : HasEntries c.caches) (mark n : ℕ) (mid : Clusters S) (mark' : ℕ) where
   loose : IsLoose (table_of c.space.allocator) c.caches false
   loose = empty-loose (table_of c.space.allocator) c.caches empty room
 
-  module _ (result : Result FreeEntry Fault) (a : AllocatesClusters state mark 1 false (begun c) result (begun mid) mark') where
+  module _ (result : Result FreeEntry Fault) (a : AllocatesClusters state mark n false (begun c) result (begun mid) mark') where
     -- Nothing is pinned then,
-    pub one-unpinned : AreUnpinned mid.caches
-    one-unpinned = loose-unpinned (table_of mid.space.allocator) c.caches mid.caches empty a.shape.room (a.shape.loose false loose)
+    pub run-unpinned : AreUnpinned mid.caches
+    run-unpinned = loose-unpinned (table_of mid.space.allocator) c.caches mid.caches empty a.shape.room (a.shape.loose false loose)
 
     -- there is as much room, and clusters are as large.
-    pub one-room : HasRoomOf c.caches mid.caches
-    one-room = record { tables = a.shape.room.tables; blocks = a.shape.room.blocks }
+    pub run-room : HasRoomOf c.caches mid.caches
+    run-room = record { tables = a.shape.room.tables; blocks = a.shape.room.blocks }
 
-    pub one-size : cluster_size mid.file.header.fields ≡ cluster_size c.file.header.fields
-    one-size = ap (λ (H : Header). cluster_size H.fields) a.shape.moved.2
+    pub run-size : cluster_size mid.file.header.fields ≡ cluster_size c.file.header.fields
+    run-size = ap (λ (H : Header). cluster_size H.fields) a.shape.moved.2
 
-    pub one-bits : mid.file.header.fields.cluster_bits ≡ c.file.header.fields.cluster_bits
-    one-bits = ap (λ (H : Header). H.fields.cluster_bits) a.shape.moved.2
+    pub run-bits : mid.file.header.fields.cluster_bits ≡ c.file.header.fields.cluster_bits
+    run-bits = ap (λ (H : Header). H.fields.cluster_bits) a.shape.moved.2
 
     handed-quietly : Quietly (WasNotCutOff result) (handed_out result a.leaked) (λ _. 0) (storage state c) (resting state c) (storage state mid) (changed state mid)
     handed-quietly = begun-then state c empty (WasNotCutOff result) (handed_out result a.leaked) (storage state mid) (changed state mid) a.quiet
 
   -- Where it was refused nothing was handed out.
-  module _ (fault : Fault) (a : AllocatesClusters state mark 1 false (begun c) (Err fault) (begun mid) mark') where
+  module _ (fault : Fault) (a : AllocatesClusters state mark n false (begun c) (Err fault) (begun mid) mark') where
     never-full : fault ≡ CacheFull → ⊥
     never-full is =
         why-full (IsKept state (begun c)) (IsLoose (table_of c.space.allocator) c.caches)
-        (λ number. WhereKept state (begun c) (IsCrowded a.mid a.mid_mark 1 × IsRunTold (changed state mid) a.mid_mark 1 number)) loose
+        (λ number. WhereKept state (begun c) (IsCrowded a.mid a.mid_mark n × IsRunTold (changed state mid) a.mid_mark n number)) loose
         (storage state c).faults (storage state mid).faults fault is a.cause
 
     leaked-none : (k : ℕ) → a.leaked k ≡ 0
     leaked-none = a.leaks.none (λ e. never-full (cc e))
 
-    pub one-refused : (content : List ℕ) → mid.space.to_free.held ≡ c.space.to_free.held → StoresUnsettled state content c (Err fault) mid
-    one-refused content held = record {
+    pub run-refused : (content : List ℕ) → mid.space.to_free.held ≡ c.space.to_free.held → StoresRunUnsettled state n content c (Err fault) mid
+    run-refused content held = record {
       quiet = quietly-otherwise (IsMild fault) a.leaked (λ _. 0) (λ _. 0) (λ _. 0) (storage state c) (resting state c) (storage state mid) (changed state mid)
           (λ sound k. let none = leaked-none k in omega (arith, none)) (λ sound k used none. refl) (handed-quietly (Err fault) a);
-      unpinned = one-unpinned (Err fault) a;
-      room = one-room (Err fault) a;
+      unpinned = run-unpinned (Err fault) a;
+      room = run-room (Err fault) a;
       header = a.shape.moved;
       faults = a.faults;
       held = held;
@@ -91,42 +91,42 @@ module _ {S : Type 0} (state : S → StorageState) (c : Clusters S) (empty : Are
       reserved = λ ready. tt;
       stored = λ ready. tt;
       cause = why-allocated (IsKept state (begun c)) (IsReady state c) (IsLoose (table_of c.space.allocator) c.caches)
-          (λ number. WhereKept state (begun c) (IsCrowded a.mid a.mid_mark 1 × IsRunTold (changed state mid) a.mid_mark 1 number)) (ready-kept state c empty) loose
+          (λ number. WhereKept state (begun c) (IsCrowded a.mid a.mid_mark n × IsRunTold (changed state mid) a.mid_mark n number)) (ready-kept state c empty) loose
           (storage state c).faults (storage state mid).faults fault a.cause;
     }
 
-  -- Else a cluster was:
-  module _ (entry : FreeEntry) (a : AllocatesClusters state mark 1 false (begun c) (Ok entry) (begun mid) mark') where
-    -- this one,
-    pub one-quietly : Quietly ⊤ (one_at entry.first) (λ _. 0) (storage state c) (resting state c) (storage state mid) (changed state mid)
-    one-quietly =
-        quietly-otherwise ⊤ (handed_out (Ok entry) a.leaked) (λ _. 0) (one_at entry.first) (λ _. 0) (storage state c) (resting state c) (storage state mid) (changed state mid)
-        (λ sound k. let one = covers-one k entry a.run.0 in omega (arith, one)) (λ sound k used none. refl) (handed-quietly (Ok entry) a)
+  -- Else clusters were:
+  module _ (entry : FreeEntry) (a : AllocatesClusters state mark n false (begun c) (Ok entry) (begun mid) mark') where
+    -- these,
+    covers-run : (d : ℕ) → covers d (run_of entry.first n) ≡ covers d entry
+    covers-run d = rw (sym a.run.0) refl
+
+    pub run-quietly-handed : Quietly ⊤ (λ d. covers d (run_of entry.first n)) (λ _. 0) (storage state c) (resting state c) (storage state mid) (changed state mid)
+    run-quietly-handed =
+        quietly-otherwise ⊤ (handed_out (Ok entry) a.leaked) (λ _. 0) (λ d. covers d (run_of entry.first n)) (λ _. 0) (storage state c) (resting state c) (storage state mid) (changed state mid)
+        (λ sound d. let same = covers-run d in omega (arith, same)) (λ sound d used none. refl) (handed-quietly (Ok entry) a)
 
     -- which words can name,
-    pub one-named : (entry.first ≢ 0) × IsInReach c.file.header.fields.cluster_bits entry.first
-    one-named =
-        let there = a.run.2 (omega arith) in
-        let same : entry.first + (1 - 1) ≡ entry.first = omega arith in
-        (there.0, subst (λ n. IsInReach c.file.header.fields.cluster_bits n) same there.1)
+    pub run-named : 0 < n → (entry.first ≢ 0) × IsInReach c.file.header.fields.cluster_bits (entry.first + (n - 1))
+    run-named some = a.run.2 some
 
-    -- which wasn't used,
-    pub one-unused : IsReady state c → IsUsed (resting state c) entry.first → ⊥
-    one-unused ready used =
+    -- which weren't used,
+    pub run-unused : IsReady state c → (d : ℕ) → entry.first ≤ d → d < entry.first + n → IsUsed (resting state c) d → ⊥
+    run-unused ready d from to used =
         let kept = ready-kept state c empty ready in
         let first = begun-quiet (changed state c) empty ready.sound in
         let freed = a.freed kept.0 kept.1 tt in
-        let here = used-then (resting state c) (changed state c) (λ _. 0) (λ _. 0) first.1 ready.sound first.0 entry.first used refl in
-        let there = used-then (changed state c) a.mid (λ _. 0) (λ _. 0) freed.quiet first.0 freed.sound entry.first here refl in
-        let zero : counted a.mid entry.first ≡ 0 = a.fresh kept.0 kept.1 entry.first (omega arith) (omega arith) in
+        let here = used-then (resting state c) (changed state c) (λ _. 0) (λ _. 0) first.1 ready.sound first.0 d used refl in
+        let there = used-then (changed state c) a.mid (λ _. 0) (λ _. 0) freed.quiet first.0 freed.sound d here refl in
+        let zero : counted a.mid d ≡ 0 = a.fresh kept.0 kept.1 d from to in
         let more = there.taken in
         omega (arith, zero, more)
 
-    -- and is reserved now.
-    pub one-reserved : IsReady state c → IsReserved (changed state mid) entry.first
-    one-reserved ready =
+    -- and are reserved now.
+    pub run-reserved : IsReady state c → AreReserved n (changed state mid) entry.first
+    run-reserved ready d from to =
         let kept = ready-kept state c empty ready in
-        let none = a.unnamed kept.0 kept.1 entry.first (omega arith) (let one = a.run.0 in omega (arith, one)) in
-        let once : counted (changed state mid) entry.first ≡ 1 = (a.taken kept.0 kept.1).once entry.first (omega arith) (omega arith) in
+        let none = a.unnamed kept.0 kept.1 d from (let long = a.run.0 in omega (arith, long, to)) in
+        let once : counted (changed state mid) d ≡ 1 = (a.taken kept.0 kept.1).once d from to in
         let free = none.1 in
-        record { used = unnamed-used (changed state mid) entry.first (omega (arith, once, free)) none.0; unnamed = none.0; waits = none.1 }
+        record { used = unnamed-used (changed state mid) d (omega (arith, once, free)) none.0; unnamed = none.0; waits = none.1 }

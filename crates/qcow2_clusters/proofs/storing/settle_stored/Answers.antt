@@ -1,0 +1,43 @@
+use Rattle.std.proofs.Common.{◌≡◌, ℕ, ◌-◌, arith, ap, refl, sym, subst, ◌∙◌, List, Ok, Err, Result}
+use Rattle.imago_storage.specs.declared.fault.Fault.{Fault}
+use Rattle.qcow2_types.specs.Pending.{FreeEntry}
+use Rattle.qcow2_alloc.specs.FreeList.{FreeList}
+use Rattle.qcow2_clusters.specs.Rest.{lent}
+use Rattle.qcow2_clusters.specs.Storing.{StoresRun, StoresRunUnsettled}
+use Rattle.qcow2_clusters.proofs.StoringSettled.{held-refused, run-settled}
+use Rattle.qcow2_clusters.proofs.storing.settle_stored.Goals as goal
+
+abbrev room_for : List FreeEntry → ℕ → FreeList
+room_for entries held = record { entries = entries; held = held }
+
+pub returns-in-Ok-settle-clause-stores : goal.returns-in-Ok-settle-clause-stores
+returns-in-Ok-settle-clause-stores g c = λ n content first long un.
+    let state = g.S.Storage.state in
+    let mid = lent c.args.file.now c.args.caches.now c.args.space.now in
+    let was = subst (λ (r : Result ℕ Fault). StoresRunUnsettled state n content first r mid) c.in-Ok.is un in
+    run-settled state n content first long (Ok c.in-Ok.cluster) mid was (Ok c.in-Ok-settle.cluster) c.settle.new.file c.settle.new.caches
+    c.in-Ok-settle.ensures c.args.space.now.to_free.held was.held
+
+pub returns-in-Err-settle-clause-stores : goal.returns-in-Err-settle-clause-stores
+returns-in-Err-settle-clause-stores g c = λ n content first long un.
+    let state = g.S.Storage.state in
+    let space = c.args.space.now in
+    let mid = lent c.args.file.now c.args.caches.now space in
+    let fault = c.in-Err-settle.fault in
+    let was = subst (λ (r : Result ℕ Fault). StoresRunUnsettled state n content first r mid) c.in-Ok.is un in
+    let held : space.to_free.held - 1 ≡ first.space.to_free.held = (let more = was.held in omega (arith, more)) in
+    let left : c.release.new.self ≡ room_for space.to_free.entries first.space.to_free.held =
+    c.release.ensures ∙ ap (λ (k : ℕ). room_for space.to_free.entries k) held in
+    subst (λ (l : FreeList). StoresRun state n content first (Err fault) (lent c.settle.new.file c.settle.new.caches (record { allocator = space.allocator; to_free = l }))) (sym left)
+    (run-settled state n content first long (Ok c.in-Ok.cluster) mid was (Err fault) c.settle.new.file c.settle.new.caches c.in-Err-settle.ensures
+    first.space.to_free.held refl)
+
+pub returns-in-Err-clause-stores : goal.returns-in-Err-clause-stores
+returns-in-Err-clause-stores g c = λ n content first long un.
+    let state = g.S.Storage.state in
+    let mid = lent c.args.file.now c.args.caches.now c.args.space.now in
+    let fault = c.in-Err.fault in
+    let settled = c.settle-in-Err in
+    let was = subst (λ (r : Result ℕ Fault). StoresRunUnsettled state n content first r mid) c.in-Err.is un in
+    run-settled state n content first long (Err fault) mid was settled.result settled.new.file settled.new.caches settled.ensures
+    c.args.space.now.to_free.held (was.held ∙ sym (held-refused fault settled.result first.space.to_free.held settled.ensures.ok))
