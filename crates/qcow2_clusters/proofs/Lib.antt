@@ -13,3 +13,5 @@ pub mod NamedAtRest
 pub mod NamingTables
 pub mod MakingTables
 pub mod CopyingTables
+pub mod LongerTables
+pub mod LengtheningL1

@@ -35,10 +35,10 @@ use Rattle.qcow2_clusters.proofs.Adding.{AdvancesBy, IsWider, LeftBy, progresses
 use Rattle.qcow2_clusters.proofs.NamingTables.{IsReplacement, bytes-mean, from-zero, l1-moved, l1-same, l1-table, naming_word, replaced-advances, replaced-copied, replaced-entered, replaced-named, replaced-unnamed, resting-memory, slots-kept}
 
 -- By one request the image comes to be what its file then makes it.
-module _ (m : Metadata) (kind : Kind) (at : ℕ) (bytes : List ℕ) (some : 0 < length bytes) (old new : StorageState) (is_in : IsIn old m)
-    (advances : IsSound m → AdvancesBy kind m (record m { file = splice m.file at bytes })) where
+module _ (m : Metadata) (kind : Kind) (at : ℕ) (bytes : List ℕ) (some : 0 < length bytes) (old new : StorageState) (is_in : IsIn old m) (H' : Header)
+    (advances : IsSound m → AdvancesBy kind m (record m { file = splice m.file at bytes; header = H' })) where
   once-answer : (result : Result Unit Fault) → PutAtOnce old new at bytes result
-      → Progresses (result ≡ Ok tt) kind old m new (record m { file = bytes_of new.bytes })
+      → Progresses (result ≡ Ok tt) kind old m new (record m { file = bytes_of new.bytes; header = H' })
   once-answer (Ok done) put = record {
     shape = put.put.shape;
     later = put.put.later;
@@ -48,14 +48,14 @@ module _ (m : Metadata) (kind : Kind) (at : ℕ) (bytes : List ℕ) (some : 0 < 
           (sym (put.put.answer.in_step same (tells_on old new put.put.shape tells) (keeps_on old new put.put.shape keeps')))
           (left keeps' sound)),
     );
-    holds = λ keeps sound done. subst (λ (x : Bytes). AdvancesBy kind m (record m { file = x })) (sym (is keeps)) (advances sound);
+    holds = λ keeps sound done. subst (λ (x : Bytes). AdvancesBy kind m (record m { file = x; header = H' })) (sym (is keeps)) (advances sound);
   }
     where
       is : IsTrue old.shape.keeps → bytes_of new.bytes ≡ splice m.file at bytes
       is keeps = at-once-file m at bytes old new is_in (Ok done) put keeps refl
 
       left : IsTrue old.shape.keeps → IsSound m → LeftBy kind m new.bytes
-      left keeps sound = (m.header, subst (λ (x : Bytes). MayBeLeft kind.gives m x m.header) (sym (is keeps)) (advances sound).file)
+      left keeps sound = (H', subst (λ (x : Bytes). MayBeLeft kind.gives m x H') (sym (is keeps)) (advances sound).file)
   once-answer (Err fault) put = record {
     shape = put.put.shape;
     later = put.put.later;
@@ -67,7 +67,7 @@ module _ (m : Metadata) (kind : Kind) (at : ℕ) (bytes : List ℕ) (some : 0 < 
   }
 
   pub once-progresses : (result : Result Unit Fault) → PutAtOnce old new at bytes result
-      → Progresses (result ≡ Ok tt) kind old m new (record m { file = bytes_of new.bytes })
+      → Progresses (result ≡ Ok tt) kind old m new (record m { file = bytes_of new.bytes; header = H' })
   once-progresses = once-answer
 
 -- The L1 table of a sound image begins with a cluster that words can name.
@@ -366,7 +366,7 @@ module _ {S : Type 0} (state : S → StorageState) (content : List ℕ) (l1 : Ta
   progress given = subst Done (sym resting-is)
       (progresses-then-given (answer ≡ Ok tt) (WasNotCutOff {T = ℕ} (Ok t)) one two (storage state c) (resting state c)
       (storage state c1) m1 (storage state c2) m2 tt stores.progress put.put.shape put.put.later
-      (λ keeps sound step. once-progresses m1 two at bytes (omega arith) (storage state c1) (storage state c2) refl
+      (λ keeps sound step. once-progresses m1 two at bytes (omega arith) (storage state c1) (storage state c2) refl m1.header
       (λ sound1. replaced-advances m1 i t sound1 (replacement record { keeps = keeps; sound = sound } given)) answer put))
 
   -- The word is named by the file and in memory.

@@ -58,7 +58,7 @@ l1-moved f H H' offset clusters l1 moved of =
     record { layout = there.layout; words = there.words; sound = there.sound }
 
 -- A sound L1 table is sound by its words.
-l1-sound : (f : Bytes) (h : Fields) → IsTrue (tables_sound f h) → IsTrue (l1_table_sound f h)
+pub l1-sound : (f : Bytes) (h : Fields) → IsTrue (tables_sound f h) → IsTrue (l1_table_sound f h)
 unfolding l1_table_sound
 l1-sound f h sound = all-below-holds h.l1_entries (λ i. l1_word_sound h.cluster_bits (word f h.l1_offset i)) (sound-words f h sound).l1
 

@@ -6,3 +6,4 @@ pub mod Filling
 pub mod Naming
 pub mod Freeing
 pub mod MakingTables
+pub mod Lengthening

@@ -6,6 +6,7 @@
 
 mod filling;
 mod freeing;
+mod lengthening;
 mod making_tables;
 mod naming;
 mod settling;
@@ -14,6 +15,7 @@ mod storing;
 
 pub use filling::fill;
 pub use freeing::free_waiting;
+pub use lengthening::lengthen_l1;
 pub use making_tables::{copy_table, make_table};
 pub use naming::name;
 pub use space::Space;

@@ -17,7 +17,7 @@ use std::alloc::Global;
 
 // Has the L1 table in memory stand where the header says that it does, so that its words can be written there. It refuses with
 // `Fault::DamagedTable` where the table is of another image, or no cluster that words can name begins there, and changes nothing then.
-fn place_l1(l1: &mut L1Table, header: &Header) -> Result<(), Fault>
+pub(crate) fn place_l1(l1: &mut L1Table, header: &Header) -> Result<(), Fault>
     ensures { PlacesL1 header.now.fields l1.old result l1.new }
 {
     let bits = header.cluster_bits();

@@ -1,0 +1,231 @@
+-- The header of an image at rest names a longer L1 table that was stored.
+use Rattle.std.proofs.Common.{◌≡◌, ◌≢◌, ℕ, ◌+◌, ◌-◌, ◌*◌, ◌/◌, ◌^◌, ◌<◌, ◌≤◌, refl, arith, ap, sym, subst, ◌∙◌, inl, inr, length, List, [], ◌∷◌, Option, Some, None, Ok, true}
+use Rattle.std.specs.Prelude.{◌==◌, ◌&&◌, if◌then◌else◌, nat_lt, replicate, slice_index}
+use Rattle.std.proofs.Math.ListN.{get_or-append}
+use Rattle.std.proofs.Math.Path.{fun_ext}
+use Rattle.std.proofs.Math.Pow.{pow_mono}
+use Rattle.std.proofs.Math.Nat.{div-mul-le_self, lt-div-mul-add, mul-div_cancel, mul-le-mul_right}
+use Rattle.std.proofs.lemmas.Bool.{cases_lt, ne_eqb}
+use Rattle.std.proofs.lemmas.Bool.Decides.{nat_tests}
+use Rattle.std.proofs.lemmas.List.{ext_get_or, get_or-append_right, get_or-replicate, length-append, length-replicate}
+use Rattle.std.proofs.lemmas.Nat.{pow_pos}
+use Rattle.qcow2_types.specs.Bytes.{Bytes, bytes_of, splice, word}
+use Rattle.qcow2_types.specs.Counts.{count}
+use Rattle.qcow2_types.specs.Frames.{Outside}
+use Rattle.qcow2_types.specs.Header.{Fields, Header, cluster_size, first_fault, header_of, layout_of, rules_of_size}
+use Rattle.qcow2_types.specs.HeaderBytes.{first_bytes}
+use Rattle.qcow2_types.specs.HeaderSwitch.{OnlyPlaces}
+use Rattle.qcow2_types.specs.Pending.{FreeEntry}
+use Rattle.qcow2_types.specs.References.{meets}
+use Rattle.qcow2_types.specs.Switched.{with_l1_table}
+use Rattle.qcow2_types.specs.TableBytes.{AreFit, table_bytes}
+use Rattle.qcow2_types.proofs.Consistent.{consistent-shaped}
+use Rattle.qcow2_types.proofs.Frames.{splice-is-outside}
+use Rattle.qcow2_types.proofs.HeaderSwitch.{first-fields-fit, length-first_bytes, name-behind, switch-header}
+use Rattle.qcow2_types.proofs.Over.{words-length, words-read}
+use Rattle.qcow2_types.proofs.Splices.{be-same}
+use Rattle.qcow2_metadata.specs.Places.{place_of}
+use Rattle.qcow2_metadata.specs.Tables.{TableValue, padded, table_place, words_in}
+use Rattle.qcow2_metadata.proofs.TableFacts.{words_at, words_long}
+use Rattle.qcow2_alloc.specs.FreeList.{covers}
+use Rattle.qcow2_alloc.specs.MakingRoom.{run_of}
+use Rattle.qcow2_alloc.specs.Opening.{IsL1Of}
+use Rattle.qcow2_alloc.specs.Quiet.{Metadata, IsSound, named_at_all, waiting}
+use Rattle.qcow2_steps.specs.LongerL1.{IsReadyL1Table, NamesL1Table, new_l1, old_l1, with_longer_l1}
+use Rattle.qcow2_steps.proofs.LongerL1.{longer-advances, old-unnamed}
+use Rattle.qcow2_clusters.specs.Lengthening.{clusters_for, l1_run, naming_l1}
+use Rattle.qcow2_clusters.specs.Progress.{handing}
+use Rattle.qcow2_clusters.specs.Rest.{nothing_cached}
+use Rattle.qcow2_clusters.specs.Storing.{AreReserved}
+use Rattle.qcow2_clusters.proofs.Adding.{AdvancesBy}
+use Rattle.qcow2_clusters.proofs.NamingTables.{l1-long, l1-sound, l1-word, resting-memory}
+
+-- The clusters of a table that has a cluster and words, as they wait to be freed.
+pub run-of-some : (bits first taken n : ℕ) (cluster : Option ℕ) → cluster ≡ Some first → 0 < n → taken ≡ (8 * n + (2 ^ bits - 1)) / 2 ^ bits
+    → l1_run bits (place_of bits cluster) n ≡ run_of first taken ∷ []
+run-of-some bits first taken n cluster is some long =
+    ap (λ (c : Option ℕ). l1_run bits (place_of bits c) n) is
+    ∙ chosen n (run_of (first * 2 ^ bits / 2 ^ bits) ((8 * n + (2 ^ bits - 1)) / 2 ^ bits) ∷ []) some
+    ∙ ap (λ k. run_of k ((8 * n + (2 ^ bits - 1)) / 2 ^ bits) ∷ []) (mul-div_cancel first (pow_pos bits))
+    ∙ ap (λ k. run_of first k ∷ []) (sym long)
+  where
+    chosen : (n : ℕ) (l : List FreeEntry) → 0 < n → (if n == 0 then [] else l) ≡ l
+    chosen n l some = rw (ne_eqb n 0 (λ none. absurd (omega (arith, some, none)))) refl
+
+-- Words that begin with a cluster are in the clusters that they take.
+abbrev met : (s d first n : ℕ) → ℕ
+met s d first n = if nat_lt 0 (n * 8) && nat_lt (first * s) ((d + 1) * s) && nat_lt (d * s) (first * s + n * 8) then 1 else 0
+
+pub part-meets : (h : Fields) (d first n : ℕ) → meets h d (first * cluster_size h) (n * 8) ≡ covers d (run_of first (clusters_for h n))
+part-meets h d first n =
+    let s : ℕ = cluster_size h in
+    let k : ℕ = clusters_for h n in
+    let some : 0 < cluster_size h = pow_pos h.cluster_bits in
+    let low : clusters_for h n * cluster_size h ≤ 8 * n + (cluster_size h - 1) = div-mul-le_self (8 * n + (cluster_size h - 1)) (cluster_size h) in
+    let high : 8 * n + (cluster_size h - 1) < clusters_for h n * cluster_size h + cluster_size h = lt-div-mul-add some in
+    go s d first n k some low high
+  where
+    go : (s d first n k : ℕ) → 0 < s → k * s ≤ 8 * n + (s - 1) → 8 * n + (s - 1) < k * s + s
+        → met s d first n ≡ covers d (run_of first k)
+    go s d first n k some low high = elim (cases_lt d first) [
+      | inl before ↦
+          let far : (d + 1) * s ≤ first * s = mul-le-mul_right s (omega (arith, before)) in
+          grind (arith, nat_tests)
+      | inr from ↦ elim (cases_lt d (first + k)) [
+        | inl inside ↦
+            let begin : first * s ≤ d * s = mul-le-mul_right s from in
+            let next : (d + 1) * s ≤ (first + k) * s = mul-le-mul_right s (omega (arith, inside)) in
+            let more : 1 * s ≤ k * s = mul-le-mul_right s (omega (arith, from, inside)) in
+            let one : (d + 1) * s ≡ d * s + s = omega arith in
+            let parts : (first + k) * s ≡ first * s + k * s = omega arith in
+            let there : 0 < n * 8 = omega (arith, more, low, some) in
+            let to : d * s < first * s + n * 8 = omega (arith, next, one, parts, low, some) in
+            grind (arith, nat_tests)
+        | inr behind ↦
+            let far : (first + k) * s ≤ d * s = mul-le-mul_right s behind in
+            let parts : (first + k) * s ≡ first * s + k * s = omega arith in
+            let past : first * s + n * 8 ≤ d * s = omega (arith, far, parts, high, some) in
+            grind (arith, nat_tests)
+      ]
+    ]
+
+-- Nothing is cached of the image. What is to be its L1 table was stored in reserved clusters: the words of the old one, and then 0.
+pub record IsStoredL1 (m : Metadata) (table old : TableValue) (n first : ℕ) : Type 0 where
+  pub rest : m.cached ≡ nothing_cached
+  pub of : IsL1Of m.file m.header.fields old
+  pub layout : table.layout ≡ layout_of m.header.fields
+  pub words : table.words ≡ padded old.words n
+  pub longer : length old.words ≤ n
+  pub place : table_place table ≡ first * cluster_size m.header.fields
+  pub some : first ≢ 0
+  pub fit : AreFit table.words
+  pub stored : (k : ℕ) → k < length (table_bytes table.words)
+      → m.file (first * cluster_size m.header.fields + k) ≡ slice_index (table_bytes table.words) k
+  pub reserved : AreReserved (clusters_for m.header.fields (length table.words)) m first
+  pub bytes : (p : ℕ) → m.file p < 256
+  pub sizes : first_fault (rules_of_size (naming_l1 m.header table).fields) ≡ None
+
+module _ (m : Metadata) (table old : TableValue) (n first : ℕ) (sound : IsSound m) (is : IsStoredL1 m table old n first) where
+  abbrev h : Fields
+  h = m.header.fields
+
+  abbrev more : ℕ
+  more = n - m.header.fields.l1_entries
+
+  abbrev H' : Header
+  H' = naming_l1 m.header table
+
+  abbrev x : Bytes
+  x = splice m.file 0 (first_bytes (naming_l1 m.header table).fields)
+
+  old-long : length old.words ≡ h.l1_entries
+  old-long = l1-long m.file h old is.of
+
+  pub table-long : length table.words ≡ n
+  table-long = ap length is.words ∙ length-append old.words (replicate (n - length old.words) 0)
+      ∙ (let zeroes = length-replicate {A = ℕ} (n - length old.words) 0 in let longer = is.longer in omega (arith, zeroes, longer))
+
+  all-words : h.l1_entries + more ≡ length table.words
+  all-words = let longer = is.longer in omega (arith, old-long, table-long, longer)
+
+  -- A word is what was stored of it.
+  word-there : (i : ℕ) → i < length table.words → word m.file (first * cluster_size h) i ≡ slice_index table.words i
+  unfolding word
+  word-there i lt =
+      be-same m.file (bytes_of (table_bytes table.words)) (first * cluster_size h + 8 * i) (8 * i) 8
+      (λ k less.
+      let at : first * cluster_size h + (8 * i + k) ≡ first * cluster_size h + 8 * i + k = omega arith in
+      ap m.file (sym at) ∙ is.stored (8 * i + k) (let size = words-length table.words in omega (arith, size, lt, less)))
+      ∙ words-read table.words i is.fit lt
+
+  word-old : (i : ℕ) → i < h.l1_entries → slice_index table.words i ≡ word m.file h.l1_offset i
+  word-old i lt =
+      ap (λ (ws : List ℕ). slice_index ws i) is.words
+      ∙ get_or-append old.words (replicate (n - length old.words) 0) 0 i (omega (arith, lt, old-long))
+      ∙ l1-word m.file h old is.of i lt
+
+  word-new : (i : ℕ) → h.l1_entries ≤ i → i < h.l1_entries + more → slice_index table.words i ≡ 0
+  word-new i from to =
+      ap (λ (ws : List ℕ). slice_index ws i) is.words
+      ∙ get_or-append_right old.words (replicate (n - length old.words) 0) h.l1_entries i 0 old-long from
+      ∙ get_or-replicate (n - length old.words) (i - h.l1_entries) 0 0 (omega (arith, from, to, old-long))
+
+  new-is : (d : ℕ) → new_l1 m (table_place table) more d ≡ covers d (run_of first (clusters_for h (length table.words)))
+  new-is d =
+      ap (λ p. meets h d p ((h.l1_entries + more) * 8)) is.place
+      ∙ ap (λ k. meets h d (first * cluster_size h) (k * 8)) all-words
+      ∙ part-meets h d first (length table.words)
+
+  in-run : (d first n : ℕ) → 0 < covers d (run_of first n) → (first ≤ d) × (d < first + n)
+  in-run d first n some = elim (cases_lt d first) [
+    | inl before ↦ absurd (let none : covers d (run_of first n) ≡ 0 = grind (arith, nat_tests) in omega (arith, some, none))
+    | inr from ↦ elim (cases_lt d (first + n)) [
+      | inl to ↦ (from, to)
+      | inr behind ↦ absurd (let none : covers d (run_of first n) ≡ 0 = grind (arith, nat_tests) in omega (arith, some, none))
+    ]
+  ]
+
+  -- So it is ready to become the L1 table,
+  ready : IsReadyL1Table m (table_place table) more
+  ready = record {
+    words = λ i lt. ap (λ p. word m.file p i) is.place ∙ word-there i (omega (arith, lt, all-words)) ∙ word-old i lt;
+    zeroes = λ i from to. ap (λ p. word m.file p i) is.place ∙ word-there i (omega (arith, to, all-words)) ∙ word-new i from to;
+    reserved = λ d met.
+        let within = in-run d first (clusters_for h (length table.words)) (let same = new-is d in omega (arith, met, same)) in
+        let reserved = is.reserved d within.0 within.1 in
+        let less = subst (λ (g : Bytes). waiting m d < count g h d) (resting-memory m is.rest) reserved.used.taken in
+        (reserved, omega (arith, less));
+  }
+
+  header-is : H' ≡ with_l1_table m.header (table_place table) (h.l1_entries + more)
+  header-is = ap (λ k. with_l1_table m.header (table_place table) k) (sym all-words)
+
+  loads : header_of true x ≡ Ok H'
+  loads =
+      let was = sound.safe.consistent.readable.loads in
+      let only : OnlyPlaces m.header H' = record { same = refl } in
+      switch-header true m.file m.header H' was only (first-fields-fit true m.file m.header H' is.bytes was only is.sizes) is.sizes (name-behind m.file m.header was)
+
+  outside : Outside m.file x 0 64
+  outside = subst (λ k. Outside m.file x 0 k) (length-first_bytes H'.fields) (splice-is-outside m.file 0 (first_bytes H'.fields))
+
+  names : NamesL1Table m (table_place table) more x
+  names = record { loads = subst (λ (K : Header). header_of true x ≡ Ok K) header-is loads; outside = outside }
+
+  abbrev pub later : Metadata
+  later = record m { file = splice m.file 0 (first_bytes (naming_l1 m.header table).fields); header = naming_l1 m.header table }
+
+  later-is : with_longer_l1 m (table_place table) more x ≡ later
+  later-is = ap (λ (K : Header). record m { file = x; header = K }) (sym header-is)
+
+  -- and the image advances where the header names it.
+  pub stored-advances : AdvancesBy (handing (old_l1 m) (λ d. covers d (run_of first (clusters_for m.header.fields (length table.words))))) m later
+  stored-advances =
+      subst (λ (taken : ℕ → ℕ). AdvancesBy (handing (old_l1 m) taken) m later) (fun_ext new-is)
+      (subst (λ (k : Metadata). AdvancesBy (handing (old_l1 m) (new_l1 m (table_place table) more)) m k) later-is
+      (longer-advances m (table_place table) more x sound ready names))
+
+  pub stored-unnamed : (d : ℕ) → old_l1 m d ≡ 1 → named_at_all later d ≡ 0
+  stored-unnamed d own = subst (λ (k : Metadata). named_at_all k d ≡ 0) later-is (old-unnamed m (table_place table) more x sound ready names d own)
+
+  far : 64 ≤ first * cluster_size h
+  far =
+      let shaped = consistent-shaped m.file m.header sound.safe.consistent in
+      let low : 2 ^ 9 ≤ cluster_size h = pow_mono shaped.low in
+      let more : 1 * cluster_size h ≤ first * cluster_size h = mul-le-mul_right (cluster_size h) (let some = is.some in omega (arith, some)) in
+      omega (arith, low, more)
+
+  word-still : (i : ℕ) → word x (first * cluster_size h) i ≡ word m.file (first * cluster_size h) i
+  unfolding word
+  word-still i = be-same x m.file (first * cluster_size h + 8 * i) (first * cluster_size h + 8 * i) 8
+      (λ k less. outside (first * cluster_size h + 8 * i + k) (inr (omega (arith, far))))
+
+  -- The table in memory is the file's then.
+  pub stored-entered : IsL1Of later.file later.header.fields table
+  stored-entered = record {
+    layout = is.layout;
+    words = ext_get_or 0 table.words (words_in x (table_place table) (length table.words)) (sym (words_long x (table_place table) (length table.words)))
+        (λ i lt. sym (word-there i lt) ∙ sym (word-still i) ∙ ap (λ p. word x p i) (sym is.place)
+        ∙ sym (words_at x (table_place table) (length table.words) i lt));
+    sound = l1-sound x H'.fields stored-advances.sound.safe.consistent.readable.tables;
+  }

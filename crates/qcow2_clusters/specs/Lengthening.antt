@@ -1,0 +1,83 @@
+-- How the L1 table comes to be longer.
+use Rattle.std.specs.Prelude.{◌≡◌, ◌+◌, ◌-◌, ◌*◌, ◌/◌, ◌^◌, ◌<◌, ◌==◌, ℕ, List, length, [], ◌∷◌, ◌++◌, if◌then◌else◌}
+use Rattle.std.specs.Prelude.{max, min, slice_index, EachIndex, None, Result, Ok, Err, OnOk, OnErr, IfOk, IfErr}
+use Rattle.imago_storage.specs.State.{StorageState}
+use Rattle.imago_storage.specs.Calls.{IsFaultless, Later}
+use Rattle.imago_storage.specs.Through.{PutAtOnce}
+use Rattle.imago_storage.specs.declared.fault.Fault.{Fault}
+use Rattle.imago_storage.specs.declared.fault.Fault.TheVariants.{Limit}
+use Rattle.qcow2_types.specs.Header.{Fields, Header, cluster_size, first_fault, rules_of_size}
+use Rattle.qcow2_types.specs.HeaderBytes.{first_bytes}
+use Rattle.qcow2_types.specs.Pending.{FreeEntry}
+use Rattle.qcow2_types.specs.Switched.{with_l1_table}
+use Rattle.qcow2_metadata.specs.Tables.{TableValue, IsPlacedTable, padded, table_place}
+use Rattle.qcow2_alloc.specs.declared.file.ImageFile.{ImageFile}
+use Rattle.qcow2_alloc.specs.Caches.{HasRoomOf}
+use Rattle.qcow2_alloc.specs.Going.{WasNotCutOff}
+use Rattle.qcow2_alloc.specs.MakingRoom.{run_of}
+use Rattle.qcow2_alloc.specs.Opening.{IsL1Of}
+use Rattle.qcow2_alloc.specs.Quiet.{Metadata}
+use Rattle.qcow2_steps.specs.Advancing.{KeepsHeader}
+use Rattle.qcow2_steps.specs.LongerL1.{old_l1}
+use Rattle.qcow2_clusters.specs.Progress.{Kind, Progresses, handing}
+use Rattle.qcow2_clusters.specs.Rest.{AreEmpty, Clusters, IsReady, resting, storage}
+use Rattle.qcow2_clusters.specs.Storing.{WhyNotAllocated}
+
+-- how many clusters so many words take, of which the last may be filled in part
+abbrev pub clusters_for : Fields → ℕ → ℕ
+clusters_for h n = (8 * n + (cluster_size h - 1)) / cluster_size h
+
+-- the clusters of an L1 table of so many words at this place, as they wait to be freed: of no words it has none
+abbrev pub l1_run : (cluster_bits place n : ℕ) → List FreeEntry
+l1_run cluster_bits place n =
+    if n == 0 then [] else run_of (place / 2 ^ cluster_bits) ((8 * n + (2 ^ cluster_bits - 1)) / 2 ^ cluster_bits) ∷ []
+
+-- The same words stand in clusters from the one that was answered on.
+pub record StandsIn (h : Fields) (table : TableValue) (result : Result ℕ Fault) (table' : TableValue) : Type 0 where
+  pub layout : table'.layout ≡ table.layout
+  pub words : table'.words ≡ table.words
+  pub placed : IfOk result (λ first. IsPlacedTable table' × (table_place table' ≡ first * cluster_size h))
+
+-- the header that names this L1 table
+abbrev pub naming_l1 : Header → TableValue → Header
+naming_l1 H table = with_l1_table H (table_place table) (length table.words)
+
+-- The header comes to name an L1 table in place of an old one, in the file by one request; where that is refused it names the old one in
+-- memory.
+pub record NamesL1 {S : Type 0} (state : S → StorageState) (table old : TableValue) (before : ImageFile S) (result : Result Unit Fault)
+    (after : ImageFile S) : Type 0 where
+  pub put : PutAtOnce (state before.image) (state after.image) 0 (first_bytes (naming_l1 before.header table).fields) result
+  pub ok : OnOk result (after.header ≡ naming_l1 before.header table)
+  pub err : OnErr result (after.header ≡ naming_l1 before.header old)
+  pub bytes : EachIndex (state before.image).bytes (λ k. slice_index (state before.image).bytes k < 256)
+  pub sizes : first_fault (rules_of_size before.header.fields) ≡ None
+      → first_fault (rules_of_size (naming_l1 before.header table).fields) ≡ None
+
+-- The clusters of the new L1 table are handed out and taken, and so are those of the old one, as they come to wait.
+abbrev pub lengthening : Metadata → Metadata → Result Unit Fault → Kind
+lengthening m m' (Ok done) = handing (λ d. old_l1 m d + old_l1 m' d) (λ d. old_l1 m d + old_l1 m' d)
+lengthening m m' (Err fault) = handing (λ _. 0) (λ _. 0)
+
+-- Where the L1 table in memory is the file's,
+abbrev pub IsTop : {S : Type 0} → (S → StorageState) → TableValue → Clusters S → Type 0
+IsTop state top c = IsL1Of (resting state c).file c.file.header.fields top
+
+-- the header comes to name a longer one, with a word at this index: it has the words of the old one, and then 0. The disk stays as it was.
+pub record LengthensL1 {S : Type 0} (state : S → StorageState) (top : TableValue) (i : ℕ) (c : Clusters S) (result : Result Unit Fault)
+    (top' : TableValue) (c' : Clusters S) : Type 0 where
+  pub progress : IsTop state top c → Progresses (WasNotCutOff result) (lengthening (resting state c) (resting state c') result)
+      (storage state c) (resting state c) (storage state c') (resting state c')
+  pub empty : AreEmpty c'.caches
+  pub room : HasRoomOf c.caches c'.caches
+  pub header : KeepsHeader c.file.header c'.file.header
+  pub shape : (storage state c').shape ≡ (storage state c).shape
+  pub later : Later (storage state c) (storage state c')
+  pub faults : WasNotCutOff result → IsFaultless (storage state c) (storage state c')
+  pub held : c'.space.to_free.held ≡ c.space.to_free.held
+  pub l1 : IsReady state c → IsTop state top c → WasNotCutOff result → IsTop state top' c'
+  pub long : OnOk result (i < c'.file.header.fields.l1_entries)
+  pub words : OnOk result (top'.words ≡ padded top.words (max (length top.words) (i + 1)))
+  pub waits : IsTop state top c → OnOk result (let h = c.file.header.fields in (before : List FreeEntry)
+      × (c'.space.to_free.entries ≡ before ++ l1_run h.cluster_bits h.l1_offset h.l1_entries))
+  pub far : IsReady state c → IsTop state top c → 2 ^ 22 < i + 1 → result ≡ Err (Limit (min (i + 1) (2 ^ 64 - 1)))
+  pub cause : IfErr result (WhyNotAllocated (IsReady state c × IsTop state top c) (storage state c).faults (storage state c').faults)

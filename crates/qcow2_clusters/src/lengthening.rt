@@ -1,0 +1,162 @@
+// The L1 table comes to be longer.
+ghost use Rattle.std.specs.Prelude.{◌≡◌, ◌<◌, ◌++◌, ◌-◌, length};
+ghost use Rattle.qcow2_types.specs.TableBytes.{AreFit, table_bytes};
+ghost use Rattle.qcow2_metadata.specs.Tables.{IsPlacedTable, table_place};
+ghost use Rattle.qcow2_clusters.specs.Lengthening.{LengthensL1, NamesL1, StandsIn, clusters_for, l1_run};
+ghost use Rattle.qcow2_clusters.specs.Rest.{AreEmpty, HasEntries, lent};
+ghost use Rattle.qcow2_clusters.specs.Storing.{StoresRun, StoresRunUnsettled};
+
+use crate::making_tables::place_l1;
+use crate::space::Space;
+use crate::storing::settle_stored;
+use imago_storage::{Fault, Storage};
+use qcow2_alloc::{ClustersToFreeList, ImageFile, MetadataCaches};
+use qcow2_metadata::{L1Table, Table};
+use qcow2_types::{ClustersToFreeEntry, HostCluster, PendingClusters};
+use std::alloc::Global;
+
+// Writes an L1 table to clusters in a row that it allocates.
+fn allocate_and_write<S: Storage>(
+    alloc: Global,
+    file: &mut ImageFile<S>,
+    caches: &mut MetadataCaches<S>,
+    space: &mut Space,
+    table: &mut L1Table,
+) -> Result<HostCluster, Fault>
+    requires rest { AreEmpty caches.old }
+    requires room { HasEntries caches.old }
+    requires bits { table.old.layout.cluster_bits ≡ file.old.header.fields.cluster_bits }
+    requires some { 0 < length table.old.words }
+    ensures stores { StoresRunUnsettled S.state (clusters_for file.old.header.fields (length table.old.words)) (table_bytes table.old.words)
+        (lent file.old caches.old space.old) result (lent file.new caches.new space.new) }
+    ensures stands { StandsIn file.old.header.fields table.old result table.new }
+    ensures fit { AreFit table.old.words }
+{
+    let _words = table.entries();
+    let count = table.cluster_count();
+    match space
+        .allocator
+        .allocate_clusters(file, caches, &mut space.to_free, count, false)
+    {
+        Ok(pending) => {
+            let cluster = pending.cluster();
+            let _parts = pending.into_entry().into_parts();
+            table.set_cluster(cluster);
+            match table.write(alloc, &mut file.image) {
+                Ok(()) => Ok(cluster),
+                Err(fault) => {
+                    space.to_free.release();
+                    Err(fault)
+                }
+            }
+        }
+        Err(fault) => Err(fault),
+    }
+}
+
+// Stores an L1 table in clusters in a row that were free, which nothing names yet. Room is held for them then.
+fn store_l1<S: Storage>(
+    alloc: Global,
+    file: &mut ImageFile<S>,
+    caches: &mut MetadataCaches<S>,
+    space: &mut Space,
+    table: &mut L1Table,
+) -> Result<HostCluster, Fault>
+    requires rest { AreEmpty caches.old }
+    requires room { HasEntries caches.old }
+    requires bits { table.old.layout.cluster_bits ≡ file.old.header.fields.cluster_bits }
+    requires some { 0 < length table.old.words }
+    ensures stores { StoresRun S.state (clusters_for file.old.header.fields (length table.old.words)) (table_bytes table.old.words)
+        (lent file.old caches.old space.old) result (lent file.new caches.new space.new) }
+    ensures stands { StandsIn file.old.header.fields table.old result table.new }
+    ensures fit { AreFit table.old.words }
+{
+    let stored = allocate_and_write(alloc, file, caches, space, table);
+    settle_stored(file, caches, space, stored)
+}
+
+// Has the header name an L1 table, in memory and then in the file by one request. Where that is refused the header in memory names the old
+// one.
+fn name_l1<S: Storage>(
+    alloc: Global,
+    file: &mut ImageFile<S>,
+    table: &L1Table,
+    old: &L1Table,
+) -> Result<(), Fault>
+    requires bits { table.now.layout.cluster_bits ≡ file.old.header.fields.cluster_bits }
+    requires placed { IsPlacedTable table.now }
+    requires old_bits { old.now.layout.cluster_bits ≡ file.old.header.fields.cluster_bits }
+    requires old_placed { IsPlacedTable old.now }
+    ensures { NamesL1 S.state table.now old.now file.old result file.new }
+{
+    // Its contract says that the file's bytes are bytes, so that the header's fields fit theirs.
+    let _length = file.image.size();
+    file.header.set_l1_table(table, None);
+    match file.header.write_l1_table_pointer(alloc, &mut file.image) {
+        Ok(()) => Ok(()),
+        Err(fault) => {
+            file.header.set_l1_table(old, None);
+            Err(fault)
+        }
+    }
+}
+
+// Puts the clusters of an L1 table behind what waits to be freed, for which room is held: where it has none the room is let go.
+fn give_up_l1(to_free: &mut ClustersToFreeList, l1: &L1Table)
+    requires placed { IsPlacedTable l1.now }
+    requires held { 0 < to_free.old.held }
+    ensures { to_free.new ≡ record {
+      entries = to_free.old.entries ++ l1_run l1.now.layout.cluster_bits (table_place l1.now) (length l1.now.words);
+      held = to_free.old.held - 1;
+    } }
+{
+    let count = l1.cluster_count();
+    match l1.get_cluster() {
+        Some(cluster) if l1.entries() > 0 => {
+            let entry = ClustersToFreeEntry::metadata(cluster, count);
+            to_free.give_back(PendingClusters::new(entry));
+        }
+        _ => to_free.release(),
+    }
+}
+
+/// Has the header name a longer L1 table, in clusters that were free: it has a word at this index, the words of the old one, and else words
+/// that name nothing. The clusters of the old one, if it had any, wait to be freed then. Nothing may be cached before, and nothing is then.
+///
+/// It refuses with `Fault::Limit` where the table would have more than 2^22 words, of which it tells the number, or where there is no place
+/// left; with `Fault::Memory` and `Fault::Storage`, after which the header in the file may name the new table; and with `Fault::Counter` and
+/// `Fault::DamagedTable`, which no sound image has.
+pub fn lengthen_l1<S: Storage>(
+    alloc: Global,
+    file: &mut ImageFile<S>,
+    caches: &mut MetadataCaches<S>,
+    space: &mut Space,
+    l1: &mut L1Table,
+    index: usize,
+) -> Result<(), Fault>
+    requires rest { AreEmpty caches.old }
+    requires room { HasEntries caches.old }
+    ensures { LengthensL1 S.state l1.old index (lent file.old caches.old space.old) result l1.new (lent file.new caches.new space.new) }
+{
+    if let Err(fault) = place_l1(l1, &file.header) {
+        return Err(fault);
+    }
+    let mut grown = match l1.clone_and_grow(alloc, index, &file.header) {
+        Ok(grown) => grown,
+        Err(fault) => return Err(fault),
+    };
+    if let Err(fault) = store_l1(alloc, file, caches, space, &mut grown) {
+        return Err(fault);
+    }
+    match name_l1(alloc, file, &grown, l1) {
+        Ok(()) => {
+            give_up_l1(&mut space.to_free, l1);
+            *l1 = grown;
+            Ok(())
+        }
+        Err(fault) => {
+            space.to_free.release();
+            Err(fault)
+        }
+    }
+}
