@@ -1,9 +1,10 @@
 -- What single changes of its clusters leave of an image.
 use Rattle.std.proofs.Common.{◌≡◌, ◌≢◌, ℕ, ◌+◌, ◌*◌, ◌/◌, ◌^◌, ◌<◌, refl, arith, ap, sym, subst, ◌∙◌, inl, inr, Bool, true, false, List, [], length, Option, Some, None, Result, Ok, Err}
+use Rattle.std.proofs.Math.Nat.{le-max_left, le-max_right}
 use Rattle.std.proofs.lemmas.Bool.{cases_eq, cases_lt, le-ltb, ne_eqb}
 use Rattle.std.proofs.lemmas.Nat.{pow_pos}
-use Rattle.std.specs.Prelude.{⊤, IsTrue, IsSome, IfSome, is_some, IfOk, IfErr, OnOk, slice_index, ◌==◌, if◌then◌else◌}
-use Rattle.imago_storage.specs.State.{StorageState}
+use Rattle.std.specs.Prelude.{⊤, IsTrue, IsSome, IfSome, is_some, IfOk, IfErr, OnOk, max, slice_index, ◌==◌, if◌then◌else◌}
+use Rattle.imago_storage.specs.State.{Rose, StorageState}
 use Rattle.imago_storage.specs.Calls.{Cause}
 use Rattle.imago_storage.specs.Disk.{Value}
 use Rattle.qcow2_metadata.specs.Places.{IsInReach}
@@ -15,7 +16,7 @@ use Rattle.qcow2_types.specs.Bytes.{Bytes, word}
 use Rattle.qcow2_types.specs.Entries.{l1_table_sound, l2_table}
 use Rattle.qcow2_types.specs.Header.{Fields, Header, cluster_size, words_of_cluster}
 use Rattle.qcow2_types.specs.Words.{is_copied, table_offset}
-use Rattle.qcow2_metadata.specs.Tables.{TableValue}
+use Rattle.qcow2_metadata.specs.Tables.{TableValue, padded}
 use Rattle.qcow2_alloc.specs.Allocating.{MovedTable}
 use Rattle.qcow2_alloc.specs.Allocators.{LoadsAllocator}
 use Rattle.qcow2_alloc.specs.Going as going
@@ -29,17 +30,21 @@ use Rattle.qcow2_steps.specs.Data.{IsKeptFor}
 use Rattle.qcow2_steps.specs.Words.{IsReserved}
 use Rattle.qcow2_steps.proofs.HiddenClusters.{kept-hidden}
 use Rattle.qcow2_clusters.specs.Filling.{Fills, filling}
+use Rattle.qcow2_steps.specs.LongerL1.{old_l1}
+use Rattle.qcow2_steps.proofs.Headers.{header-counts}
 use Rattle.qcow2_clusters.specs.Freeing.{FreesWaiting}
 use Rattle.qcow2_clusters.specs.Freeing as freeing
+use Rattle.qcow2_clusters.specs.Lengthening.{IsTop, LengthensL1}
 use Rattle.qcow2_clusters.specs.MakingTables.{CopiesTable, HasTable, IsTableless, IsTopWord, MakesTable, NamesNewTable, given_up}
 use Rattle.qcow2_clusters.specs.Progress.{Kind, Progresses, handing}
 use Rattle.qcow2_clusters.specs.Rest.{Clusters, IsReady, lent, resting}
 use Rattle.qcow2_clusters.specs.Storing.{Rests, Stores, handed_by, held_by}
 use Rattle.qcow2_clusters.specs.Storing as clusters
 use Rattle.qcow2_clusters.specs.declared.space.Space.{Space}
-use Rattle.qcow2_image.specs.Allocating.{EnsuresTable, FillsContent, FreesPending, HasKept, KeepsTop, LoadsSpace, PlacesContent, StoresContent, WhyNotAllocated, WhyNotFreed, failed_cut, waits_in}
+use Rattle.qcow2_image.specs.Allocating.{EnsuresTable, FillsContent, FreesPending, HasKept, KeepsTop, LoadsSpace, PlacesContent, StoresContent, WhyNotAllocated, WhyNotFreed, failed_cut, waits_in, EnsuresWord}
 use Rattle.qcow2_image.specs.Holding.{Holding, IsOwnAs}
 use Rattle.qcow2_image.specs.KeepsDisk.{KeepsDisk, KeepsDiskWhere}
+use Rattle.qcow2_clusters.proofs.LengtheningL1.{padded-long}
 use Rattle.qcow2_image.specs.Looking.{place_of_table}
 use Rattle.qcow2_image.specs.Rooms.{IsSafe, rest_of}
 use Rattle.qcow2_image.specs.Seen.{file_of}
@@ -48,7 +53,7 @@ use Rattle.qcow2_image.specs.Unspent.{holding_in}
 use Rattle.qcow2_image.specs.declared.qcow2.Qcow2.{Qcow2}
 use Rattle.qcow2_image.specs.declared.tables.Tables.{Tables}
 use Rattle.qcow2_image.proofs.FileWords.{place-in-file, place-named, some-offset, top-long, top-word}
-use Rattle.qcow2_image.proofs.KeepingDisks.{Spares, WhyNoSpace, keeps-disk-same, keeps-image-disk, later-refused, progress-keeps, safe-sound, space-refused, whole-below}
+use Rattle.qcow2_image.proofs.KeepingDisks.{Spares, WhyNoSpace, keeps-disk-same, keeps-image-disk, later-refused, progress-keeps, safe-sound, space-refused, whole-below, keeps-disk-both}
 use Rattle.qcow2_image.proofs.KeptClusters.{apart-some, kept-at-rest, kept-in, kept-is}
 use Rattle.qcow2_image.proofs.Settling.{seen-same}
 use Rattle.qcow2_image.proofs.Steps.{keeps-marked}
@@ -203,7 +208,7 @@ module _ {S T : Type 0} (g : Ghosts S) (old : Qcow2 S g) (mid : Tables S g) (spa
     spares = spares;
     shape = rests.shape;
     later = rests.later;
-    header = rests.header;
+    header = header-counts old.tables.file.header mid.file.header rests.header;
     failed = still-cut result old.failed;
     whole = whole-cut result old.failed;
     faults = λ whole. rests.faults (whole-below result whole);
@@ -594,6 +599,7 @@ module _ {S : Type 0} (g : Ghosts S) (old : Qcow2 S g) (mid : Tables S g) (space
     spared = refl;
     unwritten = λ q none. none;
     room = λ some. omega (arith, some, frees.held);
+    entries = ap (λ (K : Header). K.fields.l1_entries) frees.rests.header.2;
     tables = λ safe whole. tables-same (file_of g old.tables) (file_of g mid) old.tables.file.header.fields mid.file.header.fields old.tables.l1
         safe.seen.l1 (l1-freed safe whole);
   }
@@ -609,4 +615,91 @@ module _ {S : Type 0} (g : Ghosts S) (old : Qcow2 S g) (mid : Tables S g) (space
     emptied = emptied-waits result mid.space space' there' frees.emptied;
     cause = if-err result _ (WhyNotFreed g old freed_now)
         (λ e. freed-why g old freed_now (IsReady g.state (lent old.tables.file caches space)) e freed-ready) frees.cause;
+  }
+
+-- The L1 table was lengthened.
+module _ {S : Type 0} (g : Ghosts S) (old : Qcow2 S g) (mid : Tables S g) (space space' : Space) (caches : MetadataCaches S) (i : ℕ)
+    (there : old.tables.space ≡ Some space) (there' : mid.space ≡ Some space') (free : old.unspent ≡ None) where
+  abbrev with_l1 : Result Unit Fault → Qcow2 S g
+  with_l1 result = record old { tables = mid; failed = failed_cut result old.failed }
+
+  abbrev Longer : Result Unit Fault → Type 0
+  Longer result = LengthensL1 g.state old.tables.l1 i (lent old.tables.file caches space) result mid.l1 (lent mid.file mid.caches space')
+
+  longer-ready : IsSafe g old → IsReady g.state (lent old.tables.file caches space)
+  longer-ready safe = record { keeps = safe.keeps; sound = safe-sound g old space there safe }
+
+  longer-keeps : (result : Result Unit Fault) (handed taken : ℕ → ℕ) → Longer result
+      → (IsSafe g old → Progresses (going.WasNotCutOff result) (handing handed taken) (g.state old.tables.file.image)
+      (rest_of g old.tables space) (g.state mid.file.image) (rest_of g mid space'))
+      → KeepsDisk g (WasNotCutOff result) old (with_l1 result)
+  longer-keeps result handed taken longer progress = progress-keeps g (IsSafe g old) (WasNotCutOff result) (handing handed taken) old (with_l1 result) (record {
+    safe = λ safe. safe;
+    none = λ p v gave. gave;
+    unset = λ guest is. is;
+    space = space;
+    space' = space';
+    there = there;
+    there' = there';
+    mode = refl;
+    number = refl;
+    unspent = refl;
+    spares = none-spared g old (Spares g (WasNotCutOff result) (handing handed taken) old (with_l1 result) space space') free;
+    shape = longer.shape;
+    later = longer.later;
+    header = longer.header;
+    failed = still-cut result old.failed;
+    whole = whole-cut result old.failed;
+    faults = λ whole. longer.faults (whole-below result whole);
+    empty = longer.empty;
+    l1 = λ safe whole. longer.l1 (longer-ready safe) safe.seen.l1 (whole-below result whole);
+    progress = λ safe. progresses-as (going.WasNotCutOff result) (WasNotCutOff result) (handing handed taken) (g.state old.tables.file.image)
+        (g.state mid.file.image) (rest_of g old.tables space) (rest_of g mid space') (whole-below result) (progress safe);
+  })
+
+  abbrev both_tables : ℕ → ℕ
+  both_tables d = old_l1 (rest_of g old.tables space) d + old_l1 (rest_of g mid space') d
+
+  word-there : (words : List ℕ) → mid.l1.words ≡ padded words (max (length words) (i + 1)) → i < length mid.l1.words
+  word-there words is =
+      let more = le-max_right (length words) (i + 1) in
+      let all : length mid.l1.words ≡ max (length words) (i + 1) = ap length is ∙ padded-long words (max (length words) (i + 1)) (le-max_left (length words) (i + 1)) in
+      omega (arith, more, all)
+
+  pub lengthened : (result : Result Unit Fault) → Longer result → EnsuresWord g i old result (with_l1 result)
+  lengthened (Ok done) longer = record {
+    keeps = longer-keeps (Ok done) both_tables both_tables longer (λ safe. longer.progress safe.seen.l1);
+    marks = refl;
+    known = λ was. subst IsSome (sym there') refl;
+    inside = word-there old.tables.l1.words longer.words;
+    cause = tt;
+  }
+  lengthened (Err fault) longer = record {
+    keeps = longer-keeps (Err fault) (λ _. 0) (λ _. 0) longer (λ safe. longer.progress safe.seen.l1);
+    marks = refl;
+    known = λ was. subst IsSome (sym there') refl;
+    inside = tt;
+    cause = allocated-why g old (with_l1 (Err fault)) (IsReady g.state (lent old.tables.file caches space) × IsTop g.state old.tables.l1 (lent old.tables.file caches space))
+        (g.state old.tables.file.image).faults (g.state mid.file.image).faults fault (λ safe. (longer-ready safe, safe.seen.l1)) refl refl longer.cause;
+  }
+
+-- A table of its own is ensured once there is a word for it.
+module _ {S : Type 0} (g : Ghosts S) (guest i : ℕ) (old mid new : Qcow2 S g) where
+  why-behind : (fault : Fault) → EnsuresWord g i old (Ok tt) mid → WhyNotAllocated g mid new fault → WhyNotAllocated g old new fault
+  why-behind Memory word why = tt
+  why-behind Storage word why = subst (λ n. Rose n (g.state new.tables.file.image).faults) (word.keeps.faults tt).0 why
+  why-behind (Limit number) word why = tt
+  why-behind DamagedTable word why = λ is. why (word.keeps.safely is.0 tt, word.known is.1)
+  why-behind Counter word why = λ is. why (word.keeps.safely is.0 tt, word.known is.1)
+  why-behind fault word why = absurd why
+
+  pub table-behind-word : (result : Result ℕ Fault) → EnsuresWord g i old (Ok tt) mid → EnsuresTable g guest mid result new
+      → EnsuresTable g guest old result new
+  table-behind-word result word table = record {
+    keeps = keeps-disk-both g ⊤ (WasNotCutOff result) old mid new tt word.keeps table.keeps;
+    marks = table.marks ∙ ap (failed_cut result) word.marks;
+    known = λ some. table.known (word.known some);
+    there = λ safe some. table.there (word.keeps.safely safe tt) (word.known some);
+    own = λ safe some. table.own (word.keeps.safely safe tt) (word.known some);
+    cause = if-err result (WhyNotAllocated g mid new) (WhyNotAllocated g old new) (λ e. why-behind e word) table.cause;
   }

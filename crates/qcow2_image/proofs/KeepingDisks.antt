@@ -30,14 +30,13 @@ use Rattle.qcow2_types.proofs.Consistent.{header-reading}
 use Rattle.qcow2_metadata.specs.Tables.{WhyNotLoaded, block_words, words_in}
 use Rattle.qcow2_alloc.specs.declared.allocation.Allocator.{Allocator}
 use Rattle.qcow2_alloc.specs.Allocators.{IsTablePlaced, LoadsAllocator}
-use Rattle.qcow2_alloc.specs.Allocating.{MovedTable}
 use Rattle.qcow2_alloc.specs.Going as going
 use Rattle.qcow2_alloc.specs.Memory.{Cached}
 use Rattle.qcow2_alloc.specs.Opening.{IsL1Of}
 use Rattle.qcow2_alloc.specs.Quiet.{IsSound, IsUsed, Metadata, in_memory}
 use Rattle.qcow2_alloc.proofs.Growth.LoadingTable.{opened-sound}
 use Rattle.qcow2_alloc.proofs.Memory.SafeLaws.{clean-memory}
-use Rattle.qcow2_steps.specs.Advancing.{Advances, MayBeLeft}
+use Rattle.qcow2_steps.specs.Advancing.{Advances, KeepsHeader, MayBeLeft}
 use Rattle.qcow2_steps.specs.Values.{memory_value, own_value, own_value_by}
 use Rattle.qcow2_steps.proofs.AddingUp.{reserved-still}
 use Rattle.qcow2_steps.proofs.HiddenClusters.{kept-used}
@@ -176,11 +175,12 @@ own-used true m guest host sound mine = kept-used m guest host sound mine
 own-used false m guest host sound mine = mine.used
 
 -- What is held for a mapping has been kept by a change of this kind: it wasn't taken, nothing was written, room is held as there was, and
--- the L2 tables are where they were.
+-- the L1 table is as long and names the L2 tables where they were.
 pub record Spares {S : Type 0} (g : Ghosts S) (ok : Type 0) (kind : Kind) (old new : Qcow2 S g) (space space' : Space) (hold : Holding) : Type 0 where
   pub spared : kind.taken hold.host ≡ 0
   pub unwritten : (q : ℕ) → kind.written q → ⊥
   pub room : 0 < space.to_free.held → 0 < space'.to_free.held
+  pub entries : new.tables.file.header.fields.l1_entries ≡ old.tables.file.header.fields.l1_entries
   pub tables : IsSafe g old → ok → (i : ℕ)
       → l2_table (file_of g new.tables) new.tables.file.header.fields i ≡ l2_table (file_of g old.tables) old.tables.file.header.fields i
 
@@ -200,7 +200,7 @@ pub record Advanced {S : Type 0} (g : Ghosts S) (sure ok : Type 0) (kind : Kind)
   pub spares : IfSome (holding_in g old.unspent) (Spares g ok kind old new space space')
   pub shape : (g.state new.tables.file.image).shape ≡ (g.state old.tables.file.image).shape
   pub later : Later (g.state old.tables.file.image) (g.state new.tables.file.image)
-  pub header : MovedTable old.tables.file.header new.tables.file.header
+  pub header : KeepsHeader old.tables.file.header new.tables.file.header
   pub failed : IsTrue old.failed → IsTrue new.failed
   pub whole : ok → new.failed ≡ old.failed
   pub faults : ok → IsFaultless (g.state old.tables.file.image) (g.state new.tables.file.image)
@@ -223,10 +223,10 @@ module _ {S : Type 0} (g : Ghosts S) (sure ok : Type 0) (kind : Kind) (old new :
   h' = new.tables.file.header.fields
 
   size-same : h'.size ≡ h.size
-  size-same = ap (λ (K : Header). K.fields.size) a.header.2
+  size-same = ap (λ (K : Header). K.fields.size) a.header.4
 
   bits-same : h'.cluster_bits ≡ h.cluster_bits
-  bits-same = ap (λ (K : Header). K.fields.cluster_bits) a.header.2
+  bits-same = ap (λ (K : Header). K.fields.cluster_bits) a.header.4
 
   module _ (known : sure) (whole : ok) where
     safe : IsSafe g old
@@ -281,7 +281,7 @@ module _ {S : Type 0} (g : Ghosts S) (sure ok : Type 0) (kind : Kind) (old new :
 
       under-still : IsUnder (rest_of g new.tables a.space') hold.table hold.guest
       under-still = record {
-        inside = rw (bits-same, ap (λ (K : Header). K.fields.l1_entries) a.header.2) was.under.inside;
+        inside = rw (bits-same, spares.entries) was.under.inside;
         there = rw bits-same (spares.tables safe whole (hold.guest / words_of_cluster h) ∙ was.under.there);
         some = was.under.some;
       }
@@ -355,7 +355,7 @@ module _ {S : Type 0} (g : Ghosts S) (sure ok : Type 0) (kind : Kind) (old new :
 
     fixed-same : (layer_of g new).fixed ≡ (layer_of g old).fixed
     fixed-same =
-        ap (λ (K : Header). qcow2_fixed (g.state new.tables.file.image).shape K.fields new.mode new.number) a.header.2
+        ap (λ (K : Header). qcow2_fixed (g.state new.tables.file.image).shape K.fields new.mode new.number) a.header.4
         ∙ (λ i. qcow2_fixed (a.shape i) h (a.mode i) (a.number i))
 
     homes-same : (layer_of g new).home ≡ (layer_of g old).home
@@ -402,7 +402,7 @@ module _ {S : Type 0} (g : Ghosts S) (sure ok : Type 0) (kind : Kind) (old new :
     failed = a.failed;
     size = size-same;
     bits = bits-same;
-    version = ap (λ (K : Header). K.fields.version) a.header.2;
+    version = ap (λ (K : Header). K.fields.version) a.header.4;
     faults = a.faults;
     stops = λ known below.
         let s = g.state old.tables.file.image in

@@ -125,6 +125,14 @@ abbrev pub HasOwnTable : {S : Type 0} (g : Ghosts S) → ℕ → Tables S g → 
 HasOwnTable g guest t = let h = t.file.header.fields in
     is_copied (word (file_of g t) h.l1_offset (guest / words_of_cluster h)) ≡ true
 
+-- The L1 table has a word at this index then.
+pub record EnsuresWord {S : Type 0} (g : Ghosts S) (i : ℕ) (old : Qcow2 S g) (result : Result Unit Fault) (new : Qcow2 S g) : Type 0 where
+  pub keeps : KeepsDisk g (WasNotCutOff result) old new
+  pub marks : new.failed ≡ failed_cut result old.failed
+  pub known : IsSome old.tables.space → IsSome new.tables.space
+  pub inside : OnOk result (i < length new.tables.l1.words)
+  pub cause : IfErr result (WhyNotAllocated g old new)
+
 -- An L2 table of its own is over a guest cluster then.
 pub record EnsuresTable {S : Type 0} (g : Ghosts S) (guest : ℕ) (old : Qcow2 S g) (result : Result ℕ Fault) (new : Qcow2 S g) : Type 0 where
   pub keeps : KeepsDisk g (WasNotCutOff result) old new

@@ -1,8 +1,9 @@
 // Clusters are allocated for guest clusters that have none of their own.
-ghost use Rattle.std.specs.Prelude.{◌≡◌, ◌<◌, ◌+◌, ◌*◌, ◌^◌, ℕ, false, None, Some, length, IfSome, IsTrue};
+ghost use Rattle.std.specs.Prelude.{◌≡◌, ◌<◌, ◌+◌, ◌*◌, ◌^◌, ℕ, false, None, Some, length, IfSome, IsTrue, ◌/◌};
 ghost use Rattle.qcow2_types.specs.Header.{cluster_size};
-ghost use Rattle.qcow2_image.specs.Allocating.{EnsuresTable, FillsContent, FlushesFreed, FreesPending, IsShownInReach, LoadsSpace, PlacesContent, StoresContent, TellsKept, TellsShown, failed_cut, kept_by, shown_of, waits_in};
+ghost use Rattle.qcow2_image.specs.Allocating.{EnsuresTable, FillsContent, FlushesFreed, FreesPending, IsShownInReach, LoadsSpace, PlacesContent, StoresContent, TellsKept, TellsShown, failed_cut, kept_by, shown_of, waits_in, EnsuresWord};
 ghost use Rattle.qcow2_metadata.specs.Places.{IsInReach};
+ghost use Rattle.qcow2_types.specs.Places.{l2_entries};
 ghost use Rattle.qcow2_metadata.specs.MappingView.{IsNamed, mapping_seen};
 ghost use Rattle.qcow2_clusters.specs.MakingTables.{CopiesTable, MakesTable};
 ghost use Rattle.qcow2_clusters.specs.Rest.{AreEmpty, HasEntries, lent};
@@ -12,7 +13,7 @@ use crate::qcow2::Qcow2;
 use crate::reloading::drop_cached;
 use imago_storage::{Fault, Storage};
 use qcow2_alloc::{ImageFile, MetadataCaches};
-use qcow2_clusters::{Space, copy_table, fill, free_waiting, make_table, store};
+use qcow2_clusters::{Space, copy_table, fill, free_waiting, lengthen_l1, make_table, store};
 use qcow2_metadata::{L1Table, L2Mapping, Table};
 use qcow2_types::{GuestCluster, HostCluster};
 use std::alloc::Global;
@@ -141,14 +142,34 @@ impl<S: Storage> Qcow2<S> {
         }
     }
 
-    // The cluster of the L2 table over a guest cluster, whose words may be changed then: one is made where there is none, and one that may
-    // be shared, as its L1 word lacks the copied mark, is replaced by a copy.
-    pub(crate) fn ensure_table(
-        &mut self,
-        alloc: Global,
-        guest: GuestCluster,
-    ) -> Result<HostCluster, Fault>
+    // The L1 table has a word at this index then: where it is too short a longer one takes its place.
+    fn ensure_word(&mut self, alloc: Global, index: usize) -> Result<(), Fault>
         requires free { self.old.unspent ≡ None }
+        ensures { EnsuresWord S.Storage index self.old result self.new }
+    {
+        if index < self.tables.l1.entries() {
+            return Ok(());
+        }
+        let Some(space) = &mut self.tables.space else {
+            return Err(Fault::DamagedTable);
+        };
+        let _dropped = drop_cached(&mut self.tables.caches);
+        let longer = lengthen_l1(
+            alloc,
+            &mut self.tables.file,
+            &mut self.tables.caches,
+            space,
+            &mut self.tables.l1,
+            index,
+        );
+        self.settle_change(longer)
+    }
+
+    // The cluster of the L2 table over a guest cluster for which the L1 table has a word. The table's words may be changed then: one is
+    // made where there is none, and one that may be shared, as its L1 word lacks the copied mark, is replaced by a copy.
+    fn own_table(&mut self, alloc: Global, guest: GuestCluster) -> Result<HostCluster, Fault>
+        requires free { self.old.unspent ≡ None }
+        requires inside { guest / l2_entries self.old.tables.file.header.fields.cluster_bits < length self.old.tables.l1.words }
         ensures { EnsuresTable S.Storage guest self.old result self.new }
     {
         let cluster_bits = self.tables.file.header.cluster_bits();
@@ -159,9 +180,6 @@ impl<S: Storage> Qcow2<S> {
             if self.tables.l1.get(index).is_copied() {
                 return Ok(table);
             }
-        }
-        if index >= self.tables.l1.entries() {
-            return Err(Fault::Limit(index as u64));
         }
         let Some(space) = &mut self.tables.space else {
             return Err(Fault::DamagedTable);
@@ -177,6 +195,23 @@ impl<S: Storage> Qcow2<S> {
             is_copy,
         );
         self.settle_change(made)
+    }
+
+    // The cluster of the L2 table over a guest cluster, whose words may be changed then. The L1 table is lengthened first where it has no
+    // word for it.
+    pub(crate) fn ensure_table(
+        &mut self,
+        alloc: Global,
+        guest: GuestCluster,
+    ) -> Result<HostCluster, Fault>
+        requires free { self.old.unspent ≡ None }
+        ensures { EnsuresTable S.Storage guest self.old result self.new }
+    {
+        let index = guest.l1_index(self.tables.file.header.cluster_bits());
+        match self.ensure_word(alloc, index) {
+            Ok(()) => self.own_table(alloc, guest),
+            Err(fault) => Err(fault),
+        }
     }
 
     // Stores the content of a guest cluster in a host cluster that was free.
