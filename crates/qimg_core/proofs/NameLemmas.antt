@@ -196,3 +196,8 @@ pub together-is : (names : Tallies) (c : ℕ) (cell : FewTimes) (s m p : ℕ) �
     → times-of (cell.structure + s) (cell.mapped + m) (cell.copied + p) ≡ times_at names c
 unfolding times_at other_at
 together-is names c cell s m p is structure mapped copied = ap (λ x. together x (times-of s m p)) is ∙ ap (together (cell_at names.cells.items c)) (as-times structure mapped copied)
+
+-- the cell alone, where the lists say nothing
+pub cell-alone : (names : Tallies) (c : ℕ) (cells : List FewTimes) (n : Times) → n ≡ together (cell_at cells c) no_times → cells ≡ names.cells.items → other_at names.others c ≡ no_times → n ≡ times_at names c
+unfolding times_at
+cell-alone names c cells n is same none = is ∙ (ap (λ l. together (cell_at l c) no_times) same ∙ ap (together (cell_at names.cells.items c)) (sym none))

@@ -1,5 +1,5 @@
 -- Searches for the least cluster that passes a test.
-use Rattle.std.proofs.Common.{◌≡◌, ◌⊎◌, ℕ, suc, ◌+◌, ◌-◌, ◌^◌, ◌<◌, ◌≤◌, refl, true, false, arith, ap, sym, subst, ◌∙◌, length, inl, inr}
+use Rattle.std.proofs.Common.{◌≡◌, ◌≢◌, ◌⊎◌, ℕ, suc, ◌+◌, ◌-◌, ◌^◌, ◌<◌, ◌≤◌, refl, true, false, arith, ap, sym, subst, ◌∙◌, length, inl, inr}
 use Rattle.std.specs.Prelude.{Bool, Option, Some, None, IfSome, IsSomeAnd, MatchOption, max}
 use Rattle.std.proofs.lemmas.Bool.{cases_lt, cases_order}
 use Rattle.std.proofs.lemmas.List.{get_or_past}
@@ -66,6 +66,11 @@ module _ (question : Question) (names : Tallies) where
       further : (next : Option ℕ) → IfSome next (λ e. (c + 1 ≤ e) × (e < 2 ^ 53)) → IfSome next (λ e. (low ≤ e) × (e < 2 ^ 53))
       further None from = tt
       further (Some e) from = (omega (arith, from.0, so_far.1.0), from.1)
+
+-- where the next cluster of the lists isn't this one
+pub not-listed : (others : Others) (c : ℕ) (next : Option ℕ) → IsNextEntry others c next → next ≢ Some c → other_at others c ≡ no_times
+not-listed others c None entry other = entry.none c (omega arith) tt
+not-listed others c (Some e) entry other = entry.none c (omega arith) (let apart : c ≢ e = λ is. other (ap Some (sym is)) in omega (arith, entry.from.0, apart))
 
 -- how many clusters there are from the next one on, and the end
 abbrev pub left : Option ℕ → ℕ

@@ -41,23 +41,7 @@ fn before(list: &[u64], cluster: u64) -> usize
 }
 
 /// How often the names of a cluster name it.
-///
-/// A sound image has none, so that is told without a call.
-#[inline]
 pub fn weight_at(list: &[u64], cluster: u64) -> u128
-    requires { IsRising list.now }
-    ensures value { result ≡ weight_of list.now cluster }
-    ensures few { result + 2 ^ 63 ≤ 2 ^ 127 }
-{
-    if list.is_empty() {
-        return 0;
-    }
-    weight_among(list, cluster)
-}
-
-/// The same, by a search.
-#[inline(never)]
-fn weight_among(list: &[u64], cluster: u64) -> u128
     requires { IsRising list.now }
     ensures value { result ≡ weight_of list.now cluster }
     ensures few { result + 2 ^ 63 ≤ 2 ^ 127 }

@@ -1,7 +1,7 @@
 // How often each host cluster is named.
 ghost use Rattle.std.specs.Prelude.{◌≡◌, ℕ, ◌+◌, ◌*◌, ◌<◌, ◌≤◌, ◌^◌, length, OnOk, IfOk, IsOk, IfSome, IsSome, IsOkUnless};
 ghost use Rattle.qimg_core.specs.Entering.{AddsRange};
-ghost use Rattle.qimg_core.specs.Names.{AddsClusters, AddsEntry, KeepsCells, IsFewSum, HasRoom, HasRoomAt, SparesLists, AreRising, TellsNothing, all_times, cell_at, times_at as times_told};
+ghost use Rattle.qimg_core.specs.Names.{AddsClusters, AddsEntry, KeepsCells, IsFewSum, HasRoom, HasRoomAt, SparesLists, AreRising, TellsNothing, all_times, cell_at, no_times, together, times_at as times_told};
 
 use super::CheckFault;
 use super::entries::{enter, weight_at};
@@ -180,8 +180,21 @@ pub fn sort_names(names: &mut Tallies)
     names.others.copied.sort_unstable();
 }
 
-/// How often a cluster is named.
+/// How often a cluster's cell says that it is named.
 #[inline]
+pub fn cell_times(cells: &[FewTimes], cluster: u64) -> AllTimes
+    ensures value { all_times result ≡ together (cell_at cells.now cluster) no_times }
+    ensures few { result.structure + result.mapped < 2 ^ 128 }
+{
+    let cell = cell_of(cells, cluster);
+    AllTimes {
+        structure: cell.structure as u128,
+        mapped: cell.mapped as u128,
+        copied: cell.copied as u128,
+    }
+}
+
+/// How often a cluster is named, by a search of the lists.
 pub fn times_at(names: &Tallies, cluster: u64) -> AllTimes
     requires { AreRising names.now.others }
     ensures value { all_times result ≡ times_told names.now cluster }

@@ -1,11 +1,11 @@
 // The least cluster whose names are of some kind.
 ghost use Rattle.std.specs.Prelude.{◌≡◌, ◌⊎◌, ℕ, ◌+◌, ◌<◌, ◌≤◌, ◌^◌, length, MatchOption, IsSomeAnd, Some, IsTrue, IsFalse};
 ghost use Rattle.qcow2_types.specs.Consistency.{Nowhere, IsLeast};
-ghost use Rattle.qimg_core.specs.Names.{AreRising, all_times};
+ghost use Rattle.qimg_core.specs.Names.{AreRising, all_times, times_at as times_told};
 ghost use Rattle.qimg_core.specs.Searches.{passes as passes_of, is_such, IsBelow, NoneWithin, IsFirstWithin, IsNextEntry};
 
 use super::entries::next_from;
-use super::names::{AllTimes, Others, Tallies, times_at};
+use super::names::{AllTimes, Others, Tallies, cell_times, times_at};
 
 /// What is asked of how often a cluster is named.
 #[derive(Clone, Copy, Debug)]
@@ -44,7 +44,7 @@ fn lesser(one: Option<u64>, other: Option<u64>) -> Option<u64>
 }
 
 /// The least cluster from this one on that is in a list.
-fn entry_from(others: &Others, low: u64) -> Option<u64>
+pub fn entry_from(others: &Others, low: u64) -> Option<u64>
     requires { AreRising others.now }
     ensures { IsNextEntry others.now low result }
 {
@@ -53,6 +53,24 @@ fn entry_from(others: &Others, low: u64) -> Option<u64>
         next_from(&others.copied, low),
     );
     lesser(next_from(&others.structure, low), mapped)
+}
+
+/// How often a cluster is named, where the next one that is in a list is known. Behind it the next one of the clusters that follow is.
+///
+/// So who goes along the clusters has the lists searched for those alone that stand there.
+#[inline]
+pub fn times_along(names: &Tallies, cluster: u64, next: &mut Option<u64>) -> AllTimes
+    requires rising { AreRising names.now.others }
+    requires next { IsNextEntry names.now.others cluster next.old }
+    ensures value { all_times result ≡ times_told names.now cluster }
+    ensures few { result.structure + result.mapped < 2 ^ 128 }
+    ensures next { IsNextEntry names.now.others (cluster + 1) next.new }
+{
+    if *next != Some(cluster) {
+        return cell_times(&names.cells, cluster);
+    }
+    *next = entry_from(&names.others, cluster + 1);
+    times_at(names, cluster)
 }
 
 /// Whether a cluster isn't below the bound, if there is one.
@@ -101,8 +119,9 @@ fn first_cell(names: &Tallies, question: Question, low: u64, end: u64) -> Option
     requires { AreRising names.now.others }
     ensures { MatchOption result (NoneWithin (is_such question names.now) low (Some end)) (IsFirstWithin (is_such question names.now) low (Some end)) }
 {
+    let mut next = entry_from(&names.others, low);
     for cluster in low..end {
-        if passes(question, times_at(names, cluster)) {
+        if passes(question, times_along(names, cluster, &mut next)) {
             return Some(cluster);
         }
     }

@@ -5,7 +5,7 @@ use Rattle.std.proofs.lemmas.Nat.{shl_whole}
 use Rattle.std.proofs.lemmas.List.Sums.{sum_by-take-le}
 use Rattle.qimg_core.specs.Names.{weight_in, weight_of}
 use Rattle.qimg_core.proofs.EntryLemmas.{sum-start, sum-more, sum-end, weight-few}
-use Rattle.qimg_core.proofs.check.entries.weight_among.Goals as goal
+use Rattle.qimg_core.proofs.check.entries.weight_at.Goals as goal
 
 pub loop-i-init : goal.loop-i-init
 loop-i-init c = sum-start c.args.list.now c.args.cluster c.before-i.result c.before-i.ensures.bound c.before-i.ensures.before

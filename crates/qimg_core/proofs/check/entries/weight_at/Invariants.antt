@@ -1,7 +1,7 @@
 use Rattle.std.proofs.Common.{◌≡◌, take}
 use Rattle.std.specs.List.{sum_by}
 use Rattle.qimg_core.specs.Names.{weight_in}
-use Rattle.qimg_core.proofs.check.entries.weight_among.Given as goal
+use Rattle.qimg_core.proofs.check.entries.weight_at.Given as goal
 
 -- the names before this one are summed
 abbrev pub invariant-loop-i : goal.invariant-loop-i
