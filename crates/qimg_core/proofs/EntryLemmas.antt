@@ -1,15 +1,14 @@
 -- Lists of names.
-use Rattle.std.proofs.Common.{◌≡◌, ◌≢◌, ℕ, ◌+◌, ◌*◌, ◌/◌, ◌%◌, ◌^◌, ◌<◌, ◌≤◌, refl, arith, ap, sym, subst, ◌∙◌, List, [], ◌∷◌, ◌++◌, length, take, drop, inl, inr}
-use Rattle.std.specs.Prelude.{Some, slice_index, slice_index_or, if◌then◌else◌}
+use Rattle.std.proofs.Common.{◌≡◌, ◌≢◌, ℕ, ◌+◌, ◌*◌, ◌/◌, ◌%◌, ◌^◌, ◌<◌, ◌≤◌, arith, ap, sym, subst, ◌∙◌, List, [], ◌∷◌, ◌++◌, length, take, drop, inl, inr}
+use Rattle.std.specs.Prelude.{Some, None, slice_index, slice_index_or, if◌then◌else◌}
 use Rattle.std.specs.List.{sum_by}
 use Rattle.std.proofs.Math.Nat.{pow-le-pow_right, div-eq_of_lt}
-use Rattle.std.proofs.lemmas.Grind.{get_or_default_zero}
 use Rattle.std.proofs.lemmas.Bool.{cases_eq, cases_lt, eq-eqb, ne_eqb}
 use Rattle.std.proofs.lemmas.Nat.{mod-pow-add, mul-le}
 use Rattle.std.proofs.lemmas.List.{get_or_default, get_or-drop, get_or-take, length-take, length-drop}
 use Rattle.std.proofs.lemmas.List.Sums.{sum_by_push, sum_by-le, sum_by-take-drop, sum_by_more}
 use Rattle.qimg_core.specs.Names.{cluster_of, count_of, weight_in, weight_of, IsRising, AddsWeight}
-use Rattle.qimg_core.specs.Searches.{IsNextIn}
+use Rattle.qimg_core.specs.Searches.{IsCut, IsFrom}
 
 -- what a name says of its cluster, and of another
 weight-here : (c name : ℕ) → cluster_of name ≡ c → weight_in c name ≡ count_of name
@@ -96,13 +95,14 @@ module _ (list : List ℕ) (c start : ℕ) (bound : start ≤ length list) (befo
       let rest : sum_by (weight_in c) (drop i list) ≡ 0 = weight-none c (drop i list) (λ k lt is. apart (i + k) (omega arith) (omega (arith, lt, length-drop i list)) (ap cluster_of (sym (get_or-drop i list k 0)) ∙ is)) in
       omega (arith, rest, so_far, sum_by-take-drop (weight_in c) list i)
 
--- the first name of a cluster that isn't before another
-pub next-named : (list : List ℕ) (low index : ℕ) → index < length list → IsRising list → ((i : ℕ) → i < index → cluster_of (slice_index list i) < low) → low ≤ cluster_of (slice_index list index) → slice_index list index < 2 ^ 64 → IsNextIn list low (Some (cluster_of (slice_index list index)))
-next-named list low index some rising before from small = record {
-  none = λ c le lt. weight-none c list (λ k inside is. elim (cases_lt k index) [
-    | inl less ↦ let early = before k less in absurd (omega (arith, early, is, le))
-    | inr ge ↦ let late = rising index k 0 ge inside in absurd (omega (arith, late, is, lt))
-  ]);
-  from = (from, omega (arith, small));
-  named = (index, slice_index list index, some, get_or_default_zero list index (slice_index list index) some, refl);
-}
+-- the cluster of the name behind a cut
+pub cut-next : (list : List ℕ) (c index : ℕ) → index < length list → IsRising list → slice_index list index < 2 ^ 64 → IsCut list c (Some c) index
+    → IsCut list c (Some (cluster_of (slice_index list index))) index × IsFrom c (Some (cluster_of (slice_index list index)))
+cut-next list c index some rising small cut = (
+  record { bound = cut.bound; before = cut.before; behind = λ i le lt. rising index i 0 le lt },
+  (cut.behind index (omega arith) some, omega (arith, small)),
+)
+
+-- there is none
+pub cut-end : (list : List ℕ) (c index : ℕ) → length list ≤ index → IsCut list c (Some c) index → IsCut list c None index × IsFrom c None
+cut-end list c index past cut = (record { bound = cut.bound; before = cut.before; behind = λ i le lt. absurd (omega arith) }, tt)

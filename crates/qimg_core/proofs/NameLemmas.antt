@@ -198,6 +198,6 @@ unfolding times_at other_at
 together-is names c cell s m p is structure mapped copied = ap (λ x. together x (times-of s m p)) is ∙ ap (together (cell_at names.cells.items c)) (as-times structure mapped copied)
 
 -- the cell alone, where the lists say nothing
-pub cell-alone : (names : Tallies) (c : ℕ) (cells : List FewTimes) (n : Times) → n ≡ together (cell_at cells c) no_times → cells ≡ names.cells.items → other_at names.others c ≡ no_times → n ≡ times_at names c
+pub cell-alone : (names : Tallies) (c : ℕ) (cell : FewTimes) → cell ≡ cell_at names.cells.items c → other_at names.others c ≡ no_times → times-of cell.structure cell.mapped cell.copied ≡ times_at names c
 unfolding times_at
-cell-alone names c cells n is same none = is ∙ (ap (λ l. together (cell_at l c) no_times) same ∙ ap (together (cell_at names.cells.items c)) (sym none))
+cell-alone names c cell is none = as-times (omega arith) (omega arith) (omega arith) ∙ (ap (λ x. together x no_times) is ∙ ap (together (cell_at names.cells.items c)) (sym none))

@@ -1,32 +1,81 @@
 -- Searches for the least cluster that passes a test.
-use Rattle.std.proofs.Common.{◌≡◌, ◌≢◌, ◌⊎◌, ℕ, suc, ◌+◌, ◌-◌, ◌^◌, ◌<◌, ◌≤◌, refl, true, false, arith, ap, sym, subst, ◌∙◌, length, inl, inr}
-use Rattle.std.specs.Prelude.{Bool, Option, Some, None, IfSome, IsSomeAnd, MatchOption, max}
+use Rattle.std.proofs.Common.{◌≡◌, ◌≢◌, ◌⊎◌, ℕ, List, suc, ◌+◌, ◌-◌, ◌^◌, ◌<◌, ◌≤◌, refl, true, false, arith, ap, sym, subst, ◌∙◌, length, inl, inr}
+use Rattle.std.specs.Prelude.{Bool, Option, Some, None, slice_index, IfSome, IsSomeAnd, MatchOption, max}
 use Rattle.std.proofs.lemmas.Bool.{cases_lt, cases_order}
 use Rattle.std.proofs.lemmas.List.{get_or_past}
-use Rattle.std.proofs.lemmas.Option.{IfSome_then}
 use Rattle.qcow2_types.specs.Consistency.{Nowhere, IsLeast}
 use Rattle.qimg_core.specs.declared.check.names.Times.{Times}
 use Rattle.qimg_core.specs.declared.check.names.Tallies.{Tallies}
 use Rattle.qimg_core.specs.declared.check.names.Others.{Others}
 use Rattle.qimg_core.specs.declared.check.search.Question.{Question}
+use Rattle.qimg_core.specs.declared.check.search.Way.{Way}
 use Rattle.qimg_core.specs.declared.check.search.Question.TheVariants.{Shared, FalselyCopied, AtAll}
-use Rattle.qimg_core.specs.Names.{no_times, no_few_times, cell_at, other_at, together, times_at}
-use Rattle.qimg_core.specs.Searches.{passes, is_such, IsBelow, NoneWithin, IsFirstWithin, IsEntry, IsNextEntry, IsNextIn}
+use Rattle.qimg_core.specs.Names.{no_times, no_few_times, cell_at, cluster_of, other_at, together, times_at, weight_of}
+use Rattle.qimg_core.specs.Searches.{passes, is_such, IsBelow, NoneWithin, IsFirstWithin, IsFrom, IsCut, IsAlong}
 use Rattle.qimg_core.proofs.NameLemmas.{as-times}
+use Rattle.qimg_core.proofs.EntryLemmas.{weight-none}
 
--- the least of the next clusters of the lists is the next one of all
-pub next-entry : (others : Others) (low : ℕ) (next structure rest mapped copied : Option ℕ) → ((c : ℕ) → IsBelow next c → IsBelow structure c × IsBelow rest c) → (next ≡ structure) ⊎ (next ≡ rest) → ((c : ℕ) → IsBelow rest c → IsBelow mapped c × IsBelow copied c) → (rest ≡ mapped) ⊎ (rest ≡ copied)
-    → IsNextIn others.structure.items low structure → IsNextIn others.mapped.items low mapped → IsNextIn others.copied.items low copied → IsNextEntry others low next
-unfolding other_at
-next-entry others low next structure rest mapped copied below is below-rest is-rest of-structure of-mapped of-copied = record {
-  none = λ c le lt. let both = below-rest c (below c lt).1 in as-times (of-structure.none c le (below c lt).0) (of-mapped.none c le both.0) (of-copied.none c le both.1);
-  from = one-of (λ c. (low ≤ c) × (c < 2 ^ 53)) next structure rest is of-structure.from (one-of (λ c. (low ≤ c) × (c < 2 ^ 53)) rest mapped copied is-rest of-mapped.from of-copied.from);
-  named = one-of (IsEntry others) next structure rest is (IfSome_then structure of-structure.named (λ c p. inl p)) (one-of (IsEntry others) rest mapped copied is-rest (IfSome_then mapped of-mapped.named (λ c p. inr (inl p))) (IfSome_then copied of-copied.named (λ c p. inr (inr p))));
+-- the next cluster of a list isn't before the least of them
+not-before : (next one : Option ℕ) (n : ℕ) → ((c : ℕ) → IsBelow next c → IsBelow one c) → IsSomeAnd one (λ e. e ≤ n) → IsSomeAnd next (λ e. e ≤ n)
+not-before next None n below past = absurd past
+not-before None (Some e) n below past = absurd (omega (arith, below n tt, past))
+not-before (Some d) (Some e) n below past = elim (cases_lt n d) [ inl lt ↦ absurd (omega (arith, below n lt, past)) | inr ge ↦ ge ]
+
+cut-least : (list : List ℕ) (c index : ℕ) (next one : Option ℕ) → ((d : ℕ) → IsBelow next d → IsBelow one d) → IsCut list c one index → IsCut list c next index
+cut-least list c index next one below cut = record { bound = cut.bound; before = cut.before; behind = λ i le lt. not-before next one (cluster_of (slice_index list i)) below (cut.behind i le lt) }
+
+-- the way on from where the lists are cut
+pub along-cuts : (others : Others) (c : ℕ) (way : Way) (structure rest mapped copied : Option ℕ) → ((d : ℕ) → IsBelow way.next d → IsBelow structure d × IsBelow rest d) → (way.next ≡ structure) ⊎ (way.next ≡ rest) → ((d : ℕ) → IsBelow rest d → IsBelow mapped d × IsBelow copied d) → (rest ≡ mapped) ⊎ (rest ≡ copied)
+    → IsCut others.structure.items c structure way.structure × IsFrom c structure → IsCut others.mapped.items c mapped way.mapped × IsFrom c mapped → IsCut others.copied.items c copied way.copied × IsFrom c copied → IsAlong others c way
+along-cuts others c way structure rest mapped copied below is below-rest is-rest of-structure of-mapped of-copied = record {
+  structure = cut-least others.structure.items c way.structure way.next structure (λ d lt. (below d lt).0) of-structure.0;
+  mapped = cut-least others.mapped.items c way.mapped way.next mapped (λ d lt. (below-rest d (below d lt).1).0) of-mapped.0;
+  copied = cut-least others.copied.items c way.copied way.next copied (λ d lt. (below-rest d (below d lt).1).1) of-copied.0;
+  from = one-of way.next structure rest is of-structure.1 (one-of rest mapped copied is-rest of-mapped.1 of-copied.1);
 }
   where
-    one-of : (P : ℕ → Type 0) (a b d : Option ℕ) → (a ≡ b) ⊎ (a ≡ d) → IfSome b P → IfSome d P → IfSome a P
-    one-of P a b d (inl same) p q = subst (λ o. IfSome o P) (sym same) p
-    one-of P a b d (inr same) p q = subst (λ o. IfSome o P) (sym same) q
+    one-of : (a b d : Option ℕ) → (a ≡ b) ⊎ (a ≡ d) → IsFrom c b → IsFrom c d → IsFrom c a
+    one-of a b d (inl same) p q = subst (IsFrom c) (sym same) p
+    one-of a b d (inr same) p q = subst (IsFrom c) (sym same) q
+
+-- no cluster before the next one stands in a list
+cut-none : (list : List ℕ) (c d index : ℕ) (next : Option ℕ) → c ≤ d → IsBelow next d → IsCut list c next index → weight_of list d ≡ 0
+cut-none list c d index next le below cut = weight-none d list (λ k lt is. elim (cases_lt k index) [
+  | inl less ↦ absurd (omega (arith, cut.before k less, is, le))
+  | inr ge ↦ past next below (cut.behind k ge lt) is
+])
+  where
+    past : (next : Option ℕ) {n : ℕ} → IsBelow next d → IsSomeAnd next (λ e. e ≤ n) → n ≡ d → ⊥
+    past None lt le is = le
+    past (Some e) lt le is = omega (arith, lt, le, is)
+
+pub along-none : (others : Others) (c d : ℕ) (way : Way) → c ≤ d → IsBelow way.next d → IsAlong others c way → other_at others d ≡ no_times
+unfolding other_at
+along-none others c d way le below along = as-times (cut-none _ c d way.structure way.next le below along.structure) (cut-none _ c d way.mapped way.next le below along.mapped) (cut-none _ c d way.copied way.next le below along.copied)
+
+-- The way goes on over clusters before the next one, up to that,
+pub along-later : (others : Others) (c d : ℕ) (way : Way) → c ≤ d → IsFrom d way.next → IsAlong others c way → IsAlong others d way
+along-later others c d way le from along = record { structure = later _ _ along.structure; mapped = later _ _ along.mapped; copied = later _ _ along.copied; from = from }
+  where
+    later : (list : List ℕ) (index : ℕ) → IsCut list c way.next index → IsCut list d way.next index
+    later list index cut = record { bound = cut.bound; before = λ i lt. omega (arith, cut.before i lt, le); behind = cut.behind }
+
+pub along-at : (others : Others) (c n : ℕ) (way : Way) → way.next ≡ Some n → IsAlong others c way → IsAlong others n way
+along-at others c n way is along =
+    let from = subst (IsFrom c) is along.from in
+    along-later others c n way from.0 (subst (IsFrom n) (sym is) (omega arith, from.1)) along
+
+-- and over one that isn't the next.
+pub along-other : (others : Others) (c : ℕ) (way : Way) → way.next ≢ Some c → IsAlong others c way → IsBelow way.next c × IsAlong others (c + 1) way
+along-other others c way other along =
+    let after = by-next way.next other along.from in
+    (after.0, along-later others c (c + 1) way (omega arith) after.1 along)
+  where
+    by-next : (next : Option ℕ) → next ≢ Some c → IsFrom c next → IsBelow next c × IsFrom (c + 1) next
+    by-next None other from = (tt, tt)
+    by-next (Some e) other from =
+        let apart : c ≢ e = λ is. other (ap Some (sym is)) in
+        (omega (arith, from.0, apart), (omega (arith, from.0, apart), from.1))
 
 module _ (question : Question) (names : Tallies) where
   -- the test, by what is told of a cluster
@@ -48,29 +97,24 @@ module _ (question : Question) (names : Tallies) where
   abbrev pub IsAhead : ℕ → Option ℕ → Type 0
   IsAhead low next = NoneWithin (is_such question names) low next × IfSome next (λ c. (low ≤ c) × (c < 2 ^ 53))
 
-  pub ahead-first : (low : ℕ) (next : Option ℕ) → length names.cells.items ≤ low → IsNextEntry names.others low next → IsAhead low next
-  ahead-first low next past found = (record { none = λ d le below. such-none d (omega arith) (found.none d le below) }, found.from)
+  pub ahead-first : (low : ℕ) (way : Way) → length names.cells.items ≤ low → IsAlong names.others low way → IsAhead low way.next
+  ahead-first low way past along = (record { none = λ d le below. such-none d (omega arith) (along-none names.others low d way le below along) }, along.from)
 
-  pub ahead-next : (low c : ℕ) (next : Option ℕ) → length names.cells.items ≤ low → IsAhead low (Some c) → is_such question names c ≡ false → IsNextEntry names.others (c + 1) next → IsAhead low next
-  ahead-next low c next past so_far here found = (
+  pub ahead-next : (low c : ℕ) (way : Way) → length names.cells.items ≤ low → IsAhead low (Some c) → is_such question names c ≡ false → IsAlong names.others (c + 1) way → IsAhead low way.next
+  ahead-next low c way past so_far here along = (
     record {
       none = λ d le below. elim (cases_order d c) [
         | inl is ↦ ap (is_such question names) is ∙ here
         | inr (inl lt) ↦ so_far.0.none d le lt
-        | inr (inr gt) ↦ such-none d (omega arith) (found.none d (omega arith) below)
+        | inr (inr gt) ↦ such-none d (omega arith) (along-none names.others (c + 1) d way (omega arith) below along)
       ];
     },
-    further next found.from,
+    further way.next along.from,
   )
     where
       further : (next : Option ℕ) → IfSome next (λ e. (c + 1 ≤ e) × (e < 2 ^ 53)) → IfSome next (λ e. (low ≤ e) × (e < 2 ^ 53))
       further None from = tt
       further (Some e) from = (omega (arith, from.0, so_far.1.0), from.1)
-
--- where the next cluster of the lists isn't this one
-pub not-listed : (others : Others) (c : ℕ) (next : Option ℕ) → IsNextEntry others c next → next ≢ Some c → other_at others c ≡ no_times
-not-listed others c None entry other = entry.none c (omega arith) tt
-not-listed others c (Some e) entry other = entry.none c (omega arith) (let apart : c ≢ e = λ is. other (ap Some (sym is)) in omega (arith, entry.from.0, apart))
 
 -- how many clusters there are from the next one on, and the end
 abbrev pub left : Option ℕ → ℕ

@@ -1,11 +1,12 @@
 -- Searches for the least cluster whose names are of some kind.
-use Rattle.std.specs.Prelude.{◌≡◌, ◌⊎◌, ℕ, ◌+◌, ◌<◌, ◌≤◌, ◌^◌, ⊤, Bool, ◌&&◌, not, ◌==◌, nat_lt, IsTrue, IsFalse, List, Any, Option, Some, None, IfSome}
+use Rattle.std.specs.Prelude.{ℕ, ◌+◌, ◌<◌, ◌≤◌, ◌^◌, ⊤, Bool, ◌&&◌, not, ◌==◌, nat_lt, IsTrue, IsFalse, List, length, slice_index, Option, Some, None, IfSome, IsSomeAnd}
 use Rattle.qimg_core.specs.declared.check.names.Times.{Times}
 use Rattle.qimg_core.specs.declared.check.names.Tallies.{Tallies}
 use Rattle.qimg_core.specs.declared.check.names.Others.{Others}
 use Rattle.qimg_core.specs.declared.check.search.Question.{Question}
+use Rattle.qimg_core.specs.declared.check.search.Way.{Way}
 use Rattle.qimg_core.specs.declared.check.search.Question.TheVariants.{Shared, FalselyCopied, AtAll}
-use Rattle.qimg_core.specs.Names.{no_times, cluster_of, weight_of, other_at, times_at}
+use Rattle.qimg_core.specs.Names.{cluster_of, times_at}
 
 -- What is asked is so: a part of the structure is named more than once, one that is named as copied is, or something is named.
 abbrev pub passes : Question → Times → Bool
@@ -33,21 +34,25 @@ pub record IsFirstWithin (test : ℕ → Bool) (low : ℕ) (high : Option ℕ) (
   pub is : IsTrue (test c)
   pub before : (d : ℕ) → low ≤ d → d < c → IsFalse (test d)
 
--- A name of cluster c stands in a list, or in one of them.
-abbrev pub IsListed : List ℕ → ℕ → Type 0
-IsListed list c = Any (λ name. cluster_of name ≡ c) list
+-- The next cluster isn't before this one.
+abbrev pub IsFrom : ℕ → Option ℕ → Type 0
+IsFrom c next = IfSome next (λ n. (c ≤ n) × (n < 2 ^ 53))
 
-abbrev pub IsEntry : Others → ℕ → Type 0
-IsEntry others c = IsListed others.structure.items c ⊎ IsListed others.mapped.items c ⊎ IsListed others.copied.items c
+-- A list is cut at an index: before it stand names of clusters before this one, and behind it names of the next one on.
+pub record IsCut (list : List ℕ) (c : ℕ) (next : Option ℕ) (index : ℕ) : Type 0 where
+  pub bound : index ≤ length list
+  pub before : (i : ℕ) → i < index → cluster_of (slice_index list i) < c
+  pub behind : (i : ℕ) → index ≤ i → i < length list → IsSomeAnd next (λ n. n ≤ cluster_of (slice_index list i))
 
--- The next cluster has a name in the lists, and from this one on they name none before it.
-pub record IsNextEntry (others : Others) (low : ℕ) (next : Option ℕ) : Type 0 where
-  pub none : (c : ℕ) → low ≤ c → IsBelow next c → other_at others c ≡ no_times
-  pub from : IfSome next (λ c. (low ≤ c) × (c < 2 ^ 53))
-  pub named : IfSome next (IsEntry others)
+-- So is each list, at a cluster.
+pub record AreCut (others : Others) (c structure mapped copied : ℕ) : Type 0 where
+  pub structure_cut : IsCut others.structure.items c (Some c) structure
+  pub mapped_cut : IsCut others.mapped.items c (Some c) mapped
+  pub copied_cut : IsCut others.copied.items c (Some c) copied
 
--- the same of one list
-pub record IsNextIn (list : List ℕ) (low : ℕ) (next : Option ℕ) : Type 0 where
-  pub none : (c : ℕ) → low ≤ c → IsBelow next c → weight_of list c ≡ 0
-  pub from : IfSome next (λ c. (low ≤ c) × (c < 2 ^ 53))
-  pub named : IfSome next (IsListed list)
+-- The clusters before this one are passed, and the next one that stands in a list is known.
+pub record IsAlong (others : Others) (c : ℕ) (way : Way) : Type 0 where
+  pub structure : IsCut others.structure.items c way.next way.structure
+  pub mapped : IsCut others.mapped.items c way.next way.mapped
+  pub copied : IsCut others.copied.items c way.next way.copied
+  pub from : IsFrom c way.next

@@ -12,7 +12,7 @@ ghost use Rattle.qimg_core.specs.declared.check.search.Question.TheVariants as q
 ghost use Rattle.qimg_core.specs.Check.{Found};
 
 use super::names::Tallies;
-use super::search::{Question, entry_from, first_such, times_along};
+use super::search::{Question, first_such, times_along, way_from};
 use super::{CheckFault, load_fault};
 use imago_storage::Storage;
 use qcow2_metadata::{Header, RefBlock};
@@ -89,11 +89,11 @@ fn compare_block<S: Storage>(
     let Some(block) = block_of(alloc, image, header, blocks, index)? else {
         return check_unnamed(names, low, Some(first_counted(header, index + 1)));
     };
-    let mut next = entry_from(&names.others, low);
+    let mut way = way_from(&names.others, low);
     for place in 0..header.rb_entries() {
         let cluster = low + place as u64;
         let count = block.get(place) as u128;
-        let times = times_along(names, cluster, &mut next);
+        let times = times_along(names, cluster, &mut way);
         let references = times.structure + times.mapped;
         if count < references {
             return Err(CheckFault::UnderCounted(cluster));

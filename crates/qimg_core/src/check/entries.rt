@@ -1,8 +1,8 @@
 // Lists of names. A name is 2048 times its cluster, 256 times a place below 8, and a digit below 256: it counts for the digit at
 // that place of a number to the base of 256.
-ghost use Rattle.std.specs.Prelude.{◌≡◌, ℕ, ◌+◌, ◌*◌, ◌/◌, ◌<◌, ◌≤◌, ◌^◌, length, slice_index, nat_lt, OnOk, IsOkUnless};
+ghost use Rattle.std.specs.Prelude.{◌≡◌, ℕ, ◌+◌, ◌*◌, ◌/◌, ◌<◌, ◌≤◌, ◌^◌, nat_lt, Some, OnOk, IsOkUnless};
 ghost use Rattle.qimg_core.specs.Names.{AddsWeight, TakesFew, IsRising, weight_of};
-ghost use Rattle.qimg_core.specs.Searches.{IsNextIn};
+ghost use Rattle.qimg_core.specs.Searches.{IsCut, IsFrom};
 
 use super::CheckFault;
 
@@ -26,12 +26,10 @@ pub fn enter(list: &mut Vec<u64>, cluster: u64, times: u64) -> Result<(), CheckF
     Ok(())
 }
 
-/// How many names there are of clusters before this one.
-fn before(list: &[u64], cluster: u64) -> usize
+/// Where a list is cut at a cluster: how many names there are of clusters before it.
+pub fn cut_at(list: &[u64], cluster: u64) -> usize
     requires { IsRising list.now }
-    ensures bound { result ≤ length list.now }
-    ensures before { (i : ℕ) → i < result → slice_index list.now i / 2048 < cluster }
-    ensures from { (i : ℕ) → result ≤ i → i < length list.now → cluster ≤ slice_index list.now i / 2048 }
+    ensures { IsCut list.now cluster (Some cluster) result }
 {
     list.partition_point(
         |name: &u64| -> bool
@@ -40,30 +38,33 @@ fn before(list: &[u64], cluster: u64) -> usize
     )
 }
 
-/// How often the names of a cluster name it.
-pub fn weight_at(list: &[u64], cluster: u64) -> u128
-    requires { IsRising list.now }
+/// How often the names of a cluster name it, where the list is cut at it. Then it is cut behind them.
+pub fn weight_from(list: &[u64], cut: &mut usize, cluster: u64) -> u128
+    requires rising { IsRising list.now }
+    requires cut { IsCut list.now cluster (Some cluster) cut.old }
     ensures value { result ≡ weight_of list.now cluster }
     ensures few { result + 2 ^ 63 ≤ 2 ^ 127 }
+    ensures cut { IsCut list.now (cluster + 1) (Some (cluster + 1)) cut.new }
 {
     let mut sum = 0;
-    for i in before(list, cluster)..list.len() {
+    for i in *cut..list.len() {
         if list[i] / 2048 != cluster {
+            *cut = i;
             return sum;
         }
         sum += ((list[i] % 256) as u128) << (8 * (list[i] / 256 % 8));
     }
+    *cut = list.len();
     sum
 }
 
-/// The least cluster from this one on that is named.
-pub fn next_from(list: &[u64], low: u64) -> Option<u64>
+/// The cluster of the name behind a cut, if there is one.
+pub fn next_in(list: &[u64], cut: usize) -> Option<u64>
     requires { IsRising list.now }
-    ensures { IsNextIn list.now low result }
+    ensures { (c : ℕ) → IsCut list.now c (Some c) cut → IsCut list.now c result cut × IsFrom c result }
 {
-    let index = before(list, low);
-    if index < list.len() {
-        return Some(list[index] / 2048);
+    if cut < list.len() {
+        return Some(list[cut] / 2048);
     }
     None
 }

@@ -1,10 +1,10 @@
 // How often each host cluster is named.
 ghost use Rattle.std.specs.Prelude.{◌≡◌, ℕ, ◌+◌, ◌*◌, ◌<◌, ◌≤◌, ◌^◌, length, OnOk, IfOk, IsOk, IfSome, IsSome, IsOkUnless};
 ghost use Rattle.qimg_core.specs.Entering.{AddsRange};
-ghost use Rattle.qimg_core.specs.Names.{AddsClusters, AddsEntry, KeepsCells, IsFewSum, HasRoom, HasRoomAt, SparesLists, AreRising, TellsNothing, all_times, cell_at, no_times, together, times_at as times_told};
+ghost use Rattle.qimg_core.specs.Names.{AddsClusters, AddsEntry, KeepsCells, IsFewSum, HasRoom, HasRoomAt, SparesLists, AreRising, TellsNothing, cell_at, times_at as times_told};
 
 use super::CheckFault;
-use super::entries::{enter, weight_at};
+use super::entries::enter;
 use qcow2_metadata::Header;
 use qcow2_types::{HostCluster, HostOffset};
 use std::alloc::Global;
@@ -96,7 +96,7 @@ fn cell_with(cell: FewTimes, more: Times) -> Option<FewTimes>
 }
 
 /// What a cluster's cell says.
-fn cell_of(cells: &[FewTimes], cluster: u64) -> FewTimes
+pub fn cell_of(cells: &[FewTimes], cluster: u64) -> FewTimes
     ensures { result ≡ cell_at cells.now cluster }
 {
     if cluster < cells.len() as u64 {
@@ -178,32 +178,4 @@ pub fn sort_names(names: &mut Tallies)
     names.others.structure.sort_unstable();
     names.others.mapped.sort_unstable();
     names.others.copied.sort_unstable();
-}
-
-/// How often a cluster's cell says that it is named.
-#[inline]
-pub fn cell_times(cells: &[FewTimes], cluster: u64) -> AllTimes
-    ensures value { all_times result ≡ together (cell_at cells.now cluster) no_times }
-    ensures few { result.structure + result.mapped < 2 ^ 128 }
-{
-    let cell = cell_of(cells, cluster);
-    AllTimes {
-        structure: cell.structure as u128,
-        mapped: cell.mapped as u128,
-        copied: cell.copied as u128,
-    }
-}
-
-/// How often a cluster is named, by a search of the lists.
-pub fn times_at(names: &Tallies, cluster: u64) -> AllTimes
-    requires { AreRising names.now.others }
-    ensures value { all_times result ≡ times_told names.now cluster }
-    ensures few { result.structure + result.mapped < 2 ^ 128 }
-{
-    let cell = cell_of(&names.cells, cluster);
-    AllTimes {
-        structure: cell.structure as u128 + weight_at(&names.others.structure, cluster),
-        mapped: cell.mapped as u128 + weight_at(&names.others.mapped, cluster),
-        copied: cell.copied as u128 + weight_at(&names.others.copied, cluster),
-    }
 }

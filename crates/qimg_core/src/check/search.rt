@@ -1,11 +1,11 @@
 // The least cluster whose names are of some kind.
 ghost use Rattle.std.specs.Prelude.{◌≡◌, ◌⊎◌, ℕ, ◌+◌, ◌<◌, ◌≤◌, ◌^◌, length, MatchOption, IsSomeAnd, Some, IsTrue, IsFalse};
 ghost use Rattle.qcow2_types.specs.Consistency.{Nowhere, IsLeast};
-ghost use Rattle.qimg_core.specs.Names.{AreRising, all_times, times_at as times_told};
-ghost use Rattle.qimg_core.specs.Searches.{passes as passes_of, is_such, IsBelow, NoneWithin, IsFirstWithin, IsNextEntry};
+ghost use Rattle.qimg_core.specs.Names.{AreRising, all_times, times_at};
+ghost use Rattle.qimg_core.specs.Searches.{passes as passes_of, is_such, IsBelow, NoneWithin, IsFirstWithin, AreCut, IsAlong};
 
-use super::entries::next_from;
-use super::names::{AllTimes, Others, Tallies, cell_times, times_at};
+use super::entries::{cut_at, next_in, weight_from};
+use super::names::{AllTimes, Others, Tallies, cell_of};
 
 /// What is asked of how often a cluster is named.
 #[derive(Clone, Copy, Debug)]
@@ -43,34 +43,85 @@ fn lesser(one: Option<u64>, other: Option<u64>) -> Option<u64>
     }
 }
 
-/// The least cluster from this one on that is in a list.
-pub fn entry_from(others: &Others, low: u64) -> Option<u64>
-    requires { AreRising others.now }
-    ensures { IsNextEntry others.now low result }
-{
-    let mapped = lesser(
-        next_from(&others.mapped, low),
-        next_from(&others.copied, low),
-    );
-    lesser(next_from(&others.structure, low), mapped)
+/// A way along the clusters, by rising number.
+#[derive(Clone, Copy, Debug)]
+pub struct Way {
+    /// Where each list is cut: before its first name of a cluster that isn't passed.
+    structure: usize,
+    mapped: usize,
+    copied: usize,
+    /// The next cluster that stands in a list.
+    next: Option<u64>,
 }
 
-/// How often a cluster is named, where the next one that is in a list is known. Behind it the next one of the clusters that follow is.
-///
-/// So who goes along the clusters has the lists searched for those alone that stand there.
-#[inline]
-pub fn times_along(names: &Tallies, cluster: u64, next: &mut Option<u64>) -> AllTimes
-    requires rising { AreRising names.now.others }
-    requires next { IsNextEntry names.now.others cluster next.old }
-    ensures value { all_times result ≡ times_told names.now cluster }
-    ensures few { result.structure + result.mapped < 2 ^ 128 }
-    ensures next { IsNextEntry names.now.others (cluster + 1) next.new }
+/// The way on from where the lists are cut.
+fn way_of(others: &Others, structure: usize, mapped: usize, copied: usize) -> Way
+    requires { AreRising others.now }
+    ensures { (c : ℕ) → AreCut others.now c structure mapped copied → IsAlong others.now c result }
 {
-    if *next != Some(cluster) {
-        return cell_times(&names.cells, cluster);
+    let other = lesser(
+        next_in(&others.mapped, mapped),
+        next_in(&others.copied, copied),
+    );
+    Way {
+        structure,
+        mapped,
+        copied,
+        next: lesser(next_in(&others.structure, structure), other),
     }
-    *next = entry_from(&names.others, cluster + 1);
-    times_at(names, cluster)
+}
+
+/// The way from a cluster on: one search in each list.
+pub fn way_from(others: &Others, low: u64) -> Way
+    requires { AreRising others.now }
+    ensures { IsAlong others.now low result }
+{
+    let structure = cut_at(&others.structure, low);
+    let mapped = cut_at(&others.mapped, low);
+    let copied = cut_at(&others.copied, low);
+    way_of(others, structure, mapped, copied)
+}
+
+/// How often the next cluster of the way is named. The way goes on behind it.
+fn times_listed(names: &Tallies, cluster: u64, way: &mut Way) -> AllTimes
+    requires rising { AreRising names.now.others }
+    requires along { IsAlong names.now.others cluster way.old }
+    requires next { way.old.next ≡ Some cluster }
+    ensures value { all_times result ≡ times_at names.now cluster }
+    ensures few { result.structure + result.mapped < 2 ^ 128 }
+    ensures along { IsAlong names.now.others (cluster + 1) way.new }
+{
+    let others = &names.others;
+    let cell = cell_of(&names.cells, cluster);
+    let structure = weight_from(&others.structure, &mut way.structure, cluster);
+    let mapped = weight_from(&others.mapped, &mut way.mapped, cluster);
+    let copied = weight_from(&others.copied, &mut way.copied, cluster);
+    *way = way_of(others, way.structure, way.mapped, way.copied);
+    AllTimes {
+        structure: cell.structure as u128 + structure,
+        mapped: cell.mapped as u128 + mapped,
+        copied: cell.copied as u128 + copied,
+    }
+}
+
+/// How often a cluster is named, where the way has come to it. The way goes on behind it.
+#[inline]
+pub fn times_along(names: &Tallies, cluster: u64, way: &mut Way) -> AllTimes
+    requires rising { AreRising names.now.others }
+    requires along { IsAlong names.now.others cluster way.old }
+    ensures value { all_times result ≡ times_at names.now cluster }
+    ensures few { result.structure + result.mapped < 2 ^ 128 }
+    ensures along { IsAlong names.now.others (cluster + 1) way.new }
+{
+    if way.next == Some(cluster) {
+        return times_listed(names, cluster, way);
+    }
+    let cell = cell_of(&names.cells, cluster);
+    AllTimes {
+        structure: cell.structure as u128,
+        mapped: cell.mapped as u128,
+        copied: cell.copied as u128,
+    }
 }
 
 /// Whether a cluster isn't below the bound, if there is one.
@@ -101,15 +152,14 @@ fn first_entry(names: &Tallies, question: Question, low: u64, high: Option<u64>)
     requires behind { length names.now.cells.items ≤ low }
     ensures { MatchOption result (NoneWithin (is_such question names.now) low high) (IsFirstWithin (is_such question names.now) low high) }
 {
-    let mut next = entry_from(&names.others, low);
-    while let Some(cluster) = next {
+    let mut way = way_from(&names.others, low);
+    while let Some(cluster) = way.next {
         if is_past(high, cluster) {
             return None;
         }
-        if passes(question, times_at(names, cluster)) {
+        if passes(question, times_along(names, cluster, &mut way)) {
             return Some(cluster);
         }
-        next = entry_from(&names.others, cluster + 1);
     }
     None
 }
@@ -119,9 +169,9 @@ fn first_cell(names: &Tallies, question: Question, low: u64, end: u64) -> Option
     requires { AreRising names.now.others }
     ensures { MatchOption result (NoneWithin (is_such question names.now) low (Some end)) (IsFirstWithin (is_such question names.now) low (Some end)) }
 {
-    let mut next = entry_from(&names.others, low);
+    let mut way = way_from(&names.others, low);
     for cluster in low..end {
-        if passes(question, times_along(names, cluster, &mut next)) {
+        if passes(question, times_along(names, cluster, &mut way)) {
             return Some(cluster);
         }
     }

@@ -7,13 +7,13 @@ use Rattle.qcow2_types.specs.Counts.{counters_of_block}
 use Rattle.qimg_core.specs.Names.{all_times}
 use Rattle.qimg_core.specs.Files.{file}
 use Rattle.qimg_core.specs.CheckParts.{HoldsCounters, AreCompared}
-use Rattle.qimg_core.specs.Searches.{IsNextEntry}
+use Rattle.qimg_core.specs.Searches.{IsAlong}
 use Rattle.qimg_core.proofs.Compared.{gap-under, gap-compared, counter-under, counter-leak, counter-equal, uncounted-finding}
 use Rattle.qimg_core.proofs.check.counts.compare_block.Goals as goal
 use Rattle.qimg_core.proofs.check.counts.compare_block.Goals.{then-references-count+in_ok-push, else-references-count}
 
 pub loop-place-init : goal.loop-place-init
-loop-place-init g c = (subst (AreCompared (file (g.S.Storage.state c.args.image.now)) c.args.header.now.fields c.args.leaks.now.items) (let none : c.args.index * counters_of_block c.args.header.now.fields ≡ c.args.index * counters_of_block c.args.header.now.fields + 0 = omega arith in none) c.requires.before, subst (λ low. IsNextEntry c.args.names.now.others low c.entry_from-next.result) (let none : c.first_counted-low.result ≡ c.first_counted-low.result + 0 = omega arith in none) c.entry_from-next.ensures)
+loop-place-init g c = (subst (AreCompared (file (g.S.Storage.state c.args.image.now)) c.args.header.now.fields c.args.leaks.now.items) (let none : c.args.index * counters_of_block c.args.header.now.fields ≡ c.args.index * counters_of_block c.args.header.now.fields + 0 = omega arith in none) c.requires.before, subst (λ low. IsAlong c.args.names.now.others low c.way_from-way.result) (let none : c.first_counted-low.result ≡ c.first_counted-low.result + 0 = omega arith in none) c.way_from-way.ensures)
 
 pub get-count-requires : goal.get-count-requires
 get-count-requires g c =
@@ -34,7 +34,7 @@ loop-place-preserved g c = (
     | then-references-count+in_ok-push w ↦ counter-leak (file (g.S.Storage.state c.args.image.now)) c.args.header.now.fields c.args.names.now c.requires.told c.loop-place.leaks.items c.args.index c.loop-place.place _ c.get-count.result (all_times c.times_along-times.result) c.in-Some.block (ap (λ n. n + c.loop-place.place) c.first_counted-low.ensures) (subst (HoldsCounters (file (g.S.Storage.state c.args.image.now)) c.args.header.now.fields c.args.index) c.in-Some.is c.in_ok-block.ensures.ok) (omega (arith, c.loop-place-test.true, c.rb_entries-place-end.ensures.value)) c.get-count.ensures c.times_along-times.ensures.value c.loop-place.invariant.0 c.if-references-count.leaks.items w.if-references-count.true (ap (λ (v : Vec (ℕ × ℕ) Global). v.items) w.leaks-is ∙ w.in_ok-push.ensures.items)
     | else-references-count w ↦ subst (λ l. AreCompared (file (g.S.Storage.state c.args.image.now)) c.args.header.now.fields l (c.args.index * counters_of_block c.args.header.now.fields + (c.loop-place.place + 1))) (ap (λ (v : Vec (ℕ × ℕ) Global). v.items) (sym w.leaks-is)) (counter-equal (file (g.S.Storage.state c.args.image.now)) c.args.header.now.fields c.args.names.now c.requires.told c.loop-place.leaks.items c.args.index c.loop-place.place _ c.get-count.result (all_times c.times_along-times.result) c.in-Some.block (ap (λ n. n + c.loop-place.place) c.first_counted-low.ensures) (subst (HoldsCounters (file (g.S.Storage.state c.args.image.now)) c.args.header.now.fields c.args.index) c.in-Some.is c.in_ok-block.ensures.ok) (omega (arith, c.loop-place-test.true, c.rb_entries-place-end.ensures.value)) c.get-count.ensures c.times_along-times.ensures.value c.loop-place.invariant.0 c.if-count-references.false w.if-references-count.false)
   ],
-  subst (λ low. IsNextEntry c.args.names.now.others low c.times_along-times.new.next) (let one : c.first_counted-low.result + c.loop-place.place + 1 ≡ c.first_counted-low.result + (c.loop-place.place + 1) = omega arith in one) c.times_along-times.ensures.next,
+  subst (λ low. IsAlong c.args.names.now.others low c.times_along-times.new.way) (let one : c.first_counted-low.result + c.loop-place.place + 1 ≡ c.first_counted-low.result + (c.loop-place.place + 1) = omega arith in one) c.times_along-times.ensures.along,
 )
 
 pub returns-clause-ok : goal.returns-clause-ok

@@ -1,12 +1,12 @@
--- The clusters before this one are compared, and the next one of the lists is known.
+-- The clusters before this one are compared, and the way has come to it.
 use Rattle.std.proofs.Common.{◌+◌, ◌*◌}
 use Rattle.qcow2_types.specs.Counts.{counters_of_block}
 use Rattle.qimg_core.specs.Files.{file}
 use Rattle.qimg_core.specs.CheckParts.{AreCompared}
-use Rattle.qimg_core.specs.Searches.{IsNextEntry}
+use Rattle.qimg_core.specs.Searches.{IsAlong}
 use Rattle.qimg_core.proofs.check.counts.compare_block.Given as goal
 
 abbrev pub invariant-loop-place : goal.invariant-loop-place
 invariant-loop-place g l =
     AreCompared (file (g.S.Storage.state l.fn.image)) l.header.fields l.leaks.items (l.index * counters_of_block l.header.fields + l.place)
-    × IsNextEntry l.names.others (l.low + l.place) l.next
+    × IsAlong l.names.others (l.low + l.place) l.way

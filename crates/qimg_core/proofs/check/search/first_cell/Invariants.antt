@@ -1,7 +1,7 @@
 use Rattle.std.specs.Prelude.{Some}
-use Rattle.qimg_core.specs.Searches.{is_such, NoneWithin, IsNextEntry}
+use Rattle.qimg_core.specs.Searches.{is_such, NoneWithin, IsAlong}
 use Rattle.qimg_core.proofs.check.search.first_cell.Given as goal
 
--- no cluster before this one passes, and the next one of the lists is known
+-- no cluster before this one passes, and the way has come to it
 abbrev pub invariant-loop-cluster : goal.invariant-loop-cluster
-invariant-loop-cluster l = NoneWithin (is_such l.question l.names) l.low (Some l.cluster) × IsNextEntry l.names.others l.cluster l.next
+invariant-loop-cluster l = NoneWithin (is_such l.question l.names) l.low (Some l.cluster) × IsAlong l.names.others l.cluster l.way

@@ -1,9 +1,12 @@
+use Rattle.std.proofs.Common.{◌≡◌, ℕ}
+use Rattle.std.specs.Prelude.{Some}
+use Rattle.qimg_core.specs.Searches.{IsAlong}
 use Rattle.qimg_core.proofs.SearchLemmas.{IsAhead, left}
 use Rattle.qimg_core.proofs.check.search.first_entry.Given as goal
 
--- no cluster before the next one passes
-abbrev pub invariant-loop-next : goal.invariant-loop-next
-invariant-loop-next l = IsAhead l.question l.names l.low l.next
+-- no cluster before the next one passes, to which the way has come
+abbrev pub invariant-loop-way : goal.invariant-loop-way
+invariant-loop-way l = IsAhead l.question l.names l.low l.way.next × ((n : ℕ) → l.way.next ≡ Some n → IsAlong l.names.others n l.way)
 
-abbrev pub decreases-loop-next : goal.decreases-loop-next
-decreases-loop-next l = left l.next
+abbrev pub decreases-loop-way : goal.decreases-loop-way
+decreases-loop-way l = left l.way.next
