@@ -11,11 +11,13 @@ mod FurtherTaken
 mod ImageKinds
 mod Narrowing
 mod Opened
+mod PartsRead
 mod PlainlyRead
 mod Refusing
 mod RunAnswerLemmas
 mod RunCallLemmas
 mod ScriptBytes
+mod ScriptDigits
 mod ScriptLines
 mod ScriptNumbers
 mod ScriptParting

@@ -10,6 +10,7 @@ pub mod FurtherFiles
 pub mod Headline
 pub mod ImageDrivers
 pub mod PlainReads
+pub mod ReaderParts
 pub mod Refusals
 pub mod RunAnswers
 pub mod RunCalls

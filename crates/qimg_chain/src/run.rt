@@ -13,6 +13,7 @@ mod calls;
 mod fault;
 mod files;
 mod opened;
+mod reading;
 
 use crate::chain::NamesFiles;
 use crate::script::{Answer, parse_line, split_line};
@@ -21,8 +22,9 @@ pub use fault::RunFault;
 use imago_access::{FormatAccess, FormatDriverInstance};
 use imago_storage::MemStorage;
 pub use opened::{ScriptFault, run_files};
+use reading::read_line;
 use std::alloc::Global;
-use std::io::{BufRead, ErrorKind, Take, Write};
+use std::io::{BufRead, Take, Write};
 
 /// The most lines of a script.
 const MOST_LINES: u32 = 1_048_576;
@@ -41,15 +43,12 @@ fn next_line<R: BufRead>(
     ensures room { OnOk result (length line.new.items + room.new ≡ room.old) }
     ensures err { IfErr result IsReadingFault }
 {
-    line.clear();
-    match input.read_until(b'\n', line) {
-        Ok(_) if line.len() as u64 <= *room => {
-            *room -= line.len() as u64;
-            Ok(())
-        }
-        Err(error) if error.kind() == ErrorKind::OutOfMemory => Err(RunFault::Memory),
-        _ => Err(RunFault::Read),
+    read_line(input, line)?;
+    if line.len() as u64 > *room {
+        return Err(RunFault::Read);
     }
+    *room -= line.len() as u64;
+    Ok(())
 }
 
 /// The answer to a line, which comes without its end.
@@ -77,7 +76,7 @@ fn tell<W: Write>(alloc: Global, writer: &mut W, answer: &Answer) -> Result<(), 
     ensures quiet { IfErr result (λ fault. fault ≡ RunFault.Memory → W.contents writer.new ≡ W.contents writer.old) }
 {
     let line = answer.to_line(alloc)?;
-    match writer.write_all(line.as_bytes()) {
+    match writer.write_all(&line) {
         Ok(()) => Ok(()),
         Err(_) => Err(RunFault::Write),
     }

@@ -18,6 +18,7 @@
 
 mod answer;
 mod bytes;
+mod digits;
 mod finding;
 mod input;
 mod line;

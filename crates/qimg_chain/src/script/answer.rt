@@ -1,8 +1,10 @@
 // What the lines of a script are answered with.
 ghost use Rattle.std.specs.Prelude.{◌≡◌, ◌++◌, ◌∷◌, [], IfOk, string_bytes};
+ghost use Rattle.hex.specs.Hex.{encode_lower};
 ghost use Rattle.qimg_chain.specs.ScriptAnswers.{answer_text, error_text};
 
 use super::bytes::Bytes;
+use super::digits::encode;
 use super::finding::finding_number;
 use imago_storage::Fault;
 use qimg_core::check::CheckFault;
@@ -38,14 +40,32 @@ impl Answer {
         }
     }
 
-    /// The line of an answer: its text, and a line feed. `AllocError` comes for want of memory.
-    pub fn to_line(&self, alloc: Global) -> Result<String, AllocError>
-        ensures { IfOk result (λ line. string_bytes line ≡ answer_text self.now ++ 10 ∷ []) }
+    /// The bytes of an answer's line: its text, and a line feed. `AllocError` comes for want of memory.
+    pub fn to_line(&self, alloc: Global) -> Result<Vec<u8>, AllocError>
+        ensures { IfOk result (λ line. line.items ≡ answer_text self.now ++ 10 ∷ []) }
     {
-        let mut line = self.to_text(alloc)?;
-        line.push_str("\n")?;
+        if let Answer::Bytes(bytes) = self {
+            return digits_line(alloc, bytes.as_slice());
+        }
+        let mut line = self.to_text(alloc)?.into_bytes();
+        line.push(b'\n')?;
         Ok(line)
     }
+}
+
+/// The line of bytes: the digits are written where they stay.
+fn digits_line(alloc: Global, bytes: &[u8]) -> Result<Vec<u8>, AllocError>
+    ensures { IfOk result (λ line. line.items ≡ encode_lower bytes.now ++ 10 ∷ []) }
+{
+    let count = match bytes.len().checked_mul(2) {
+        Some(count) if count < usize::MAX => count,
+        _ => return Err(AllocError),
+    };
+    let mut line = Vec::with_capacity(alloc, count + 1)?;
+    line.resize(count, 0u8)?;
+    encode(bytes, &mut line);
+    line.push(b'\n')?;
+    Ok(line)
 }
 
 /// The text of a refusal.

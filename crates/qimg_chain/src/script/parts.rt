@@ -2,13 +2,15 @@
 ghost use Rattle.std.specs.Prelude.{◌≡◌, ◌∷◌, [], ◌+◌, ◌<◌, length, IfSome, MatchOption};
 ghost use Rattle.qimg_chain.specs.ScriptWords.{parts_at};
 
+use memchr::memchr;
+
 /// What stands before the first of a byte in a text, and what stands behind it, if it is there.
 pub(super) fn cut(text: &[u8], byte: u8) -> Option<(&[u8], &[u8])>
     ensures parts { MatchOption result (parts_at byte text.now ≡ text.now ∷ [])
         (λ cut. parts_at byte text.now ≡ cut.0.now ∷ parts_at byte cut.1.now) }
     ensures shorter { IfSome result (λ cut. length cut.0.now + length cut.1.now < length text.now) }
 {
-    match text.iter().position(|b| *b == byte) {
+    match memchr(byte, text) {
         Some(end) => Some((text.split_at(end).0, text.split_at(end + 1).1)),
         None => None,
     }

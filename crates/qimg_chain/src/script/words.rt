@@ -3,7 +3,7 @@ ghost use Rattle.std.specs.Prelude.{◌≡◌, Some, IfOk, IfErr};
 ghost use Rattle.qimg_chain.specs.ScriptWords.{NoBytes, bytes_of, mode_of, number_of};
 
 use super::bytes::Bytes;
-use hex::FromHexError;
+use super::digits::decode;
 use imago_access::PreallocateMode;
 use imago_storage::Fault;
 use std::alloc::Global;
@@ -36,14 +36,14 @@ pub(super) fn bytes(alloc: Global, word: &[u8]) -> Result<Bytes, Fault>
     ensures ok { IfOk result (λ bytes. bytes_of word.now ≡ Some bytes) }
     ensures err { IfErr result (NoBytes word.now) }
 {
-    if word.is_empty() {
+    if word.is_empty() || word.len() % 2 != 0 {
         return Err(Fault::BadCommand);
     }
-    match hex::decode(alloc, word) {
-        Ok(bytes) => Ok(Bytes::from(bytes)),
-        Err(FromHexError::OutOfMemory) => Err(Fault::Memory),
-        Err(_) => Err(Fault::BadCommand),
+    let mut bytes = vec![in alloc; 0u8; word.len() / 2]?;
+    if !decode(word, &mut bytes) {
+        return Err(Fault::BadCommand);
     }
+    Ok(Bytes::from(bytes))
 }
 
 /// The mode of growth that a word names, if it names one.

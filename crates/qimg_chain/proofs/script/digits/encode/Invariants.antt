@@ -1,0 +1,7 @@
+-- the bytes before this one are written
+use Rattle.std.proofs.Common.{◌≡◌, ◌*◌, ◌++◌, take, drop}
+use Rattle.hex.specs.Hex.{encode_lower}
+use Rattle.qimg_chain.proofs.script.digits.encode.Given as goal
+
+abbrev pub invariant-loop-i : goal.invariant-loop-i
+invariant-loop-i l = take (2 * l.i) l.out ++ encode_lower (drop l.i l.bytes) ≡ encode_lower l.bytes

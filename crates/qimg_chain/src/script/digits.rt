@@ -1,0 +1,59 @@
+// Bytes as hexadecimal digits, two of each.
+ghost use Rattle.std.specs.Prelude.{◌≡◌, ◌*◌, ◌<◌, None, Ok, length, slice_index, unwrap_or, IsTrue, IsFalse};
+ghost use Rattle.std.specs.Result.{result_ok};
+ghost use Rattle.hex.specs.Hex.{decode_of, encode_lower, hex_digit_value, lower_digits};
+
+/// The value of a digit of either case, or 16.
+#[inline]
+fn value(digit: u8) -> u8
+    ensures { result ≡ unwrap_or (hex_digit_value digit) 16 }
+{
+    match digit {
+        b'0'..=b'9' => digit - b'0',
+        b'a'..=b'f' => digit - b'a' + 10,
+        b'A'..=b'F' => digit - b'A' + 10,
+        _ => 16,
+    }
+}
+
+/// Puts the bytes that digits of either case write into as many bytes as there are. It answers whether all are digits: else the bytes may
+/// be any. No digit decides what is done with the next, so many are read at a time.
+pub(super) fn decode(word: &[u8], out: &mut [u8]) -> bool
+    requires { length word.now ≡ 2 * length out.old }
+    ensures digits { IsTrue result → decode_of word.now ≡ Ok out.new }
+    ensures other { IsFalse result → result_ok (decode_of word.now) ≡ None }
+{
+    let mut all = true;
+    for i in 0..out.len() {
+        let high = value(word[2 * i]);
+        let low = value(word[2 * i + 1]);
+        all = all & (high < 16) & (low < 16);
+        out[i] = high % 16 * 16 + low % 16;
+    }
+    all
+}
+
+/// The digit of a value, in lower case.
+#[inline]
+fn digit(value: u8) -> u8
+    requires { value < 16 }
+    ensures { result ≡ slice_index lower_digits value }
+{
+    if value < 10 {
+        b'0' + value
+    } else {
+        b'a' + (value - 10)
+    }
+}
+
+/// Puts the digits of bytes into as many bytes as there are.
+pub(super) fn encode(bytes: &[u8], out: &mut [u8])
+    requires { length out.old ≡ 2 * length bytes.now }
+    ensures { out.new ≡ encode_lower bytes.now }
+{
+    for i in 0..bytes.len() {
+        let byte = bytes[i];
+        out[2 * i] = digit(byte / 16);
+        out[2 * i + 1] = digit(byte % 16);
+    }
+}
