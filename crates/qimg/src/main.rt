@@ -32,6 +32,9 @@ use std::{env, io};
 /// The number of the chain that the program opens.
 const CHAIN: u64 = 1;
 
+/// How many bytes of the script are read at once: as many as a pipe holds, for fewer calls of the system.
+const READ_AT_ONCE: usize = 65_536;
+
 /// The program's arguments, without its name. One that is no text is a bad one.
 fn words<R: Env + AllocGlobal>(rt: &R) -> Result<Vec<String>, Failure> {
     match env::args(rt) {
@@ -58,7 +61,7 @@ fn run_script<R: Input + Print + AllocGlobal>(
     files: Vec<ChainFile<MemStorage>>,
     writable: bool,
 ) -> Result<Option<Vec<u8>>, Failure> {
-    let input = BufReader::new(rt.alloc(), rt.reader())?;
+    let input = BufReader::with_capacity(rt.alloc(), READ_AT_ONCE, rt.reader())?;
     let mut output = BufWriter::new(rt.alloc(), io::writer(rt))?;
     let ended = run_files(rt.alloc(), files, writable, CHAIN, input, &mut output);
     let flushed = output.flush();

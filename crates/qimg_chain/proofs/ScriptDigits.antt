@@ -1,9 +1,10 @@
 -- Bytes as digits, pair by pair.
-use Rattle.std.proofs.Common.{◌≡◌, ℕ, ◌+◌, ◌*◌, ◌%◌, ◌<◌, ◌≤◌, inl, inr, Bool, true, false, Option, Some, None, Ok, Err, List, length, drop, take, slice_index, slice_set, unwrap_or, refl, sym, ap, arith}
+use Rattle.std.proofs.Common.{◌≡◌, ℕ, ◌+◌, ◌-◌, ◌*◌, ◌%◌, ◌<◌, ◌≤◌, ◌++◌, inl, inr, Bool, true, false, Option, Some, None, Ok, Err, List, length, drop, take, slice_index, slice_set, unwrap_or, Result, refl, sym, ap, subst, ◌∙◌, arith}
 use Rattle.std.specs.Prelude.{◌&&◌, nat_lt}
 use Rattle.std.specs.Result.{result_ok}
-use Rattle.std.proofs.lemmas.Bool.{cases_lt, and_parts, ltb-true, lt-ltb}
-use Rattle.hex.specs.Hex.{decode_pairs, digit_or_error, hex_digit_value, pair_value, value_at}
+use Rattle.std.proofs.lemmas.List.{drop-drop, drop_at, get_or-drop, get_or_append_left, length-append, length-drop}
+use Rattle.std.proofs.lemmas.Bool.{cases_lt, and_parts, ltb-true, lt-ltb, le-ltb}
+use Rattle.hex.specs.Hex.{decode_pairs, digit_or_error, hex_digit_value, pair_value, value_at, ◌>>=◌}
 use Rattle.hex.specs.declared.error.FromHexError.{FromHexError}
 use Rattle.hex.specs.declared.error.FromHexError.TheVariants.{InvalidHexCharacter}
 use Rattle.hex.proofs.Pairs.{decode_err, decode_step, prepend}
@@ -69,3 +70,18 @@ module _ (word out : List ℕ) (i high low : ℕ) (all : Bool) (fits : 2 * i + 1
           | inl small-2 ↦ let yes : all && nat_lt high 16 && nat_lt low 16 ≡ true = rw (is, lt-ltb high 16 small, lt-ltb low 16 small-2) refl in cc
         ]
       ]
+
+-- A pair of digits that stands before what is left of them.
+module _ (word rest pair after : List ℕ) (i : ℕ) (left : rest ≡ drop (2 * i) word) (cut : rest ≡ pair ++ after) (two : length pair ≡ 2) where
+  pub pair-fits : 2 * i + 1 < length word
+  pair-fits = let whole : 2 + length after ≡ length word - 2 * i = omega (arith, two, length-append pair after, ap length cut, ap length left, length-drop (2 * i) word) in omega (arith, whole)
+
+  pub pair-rest : after ≡ drop (2 * (i + 1)) word
+  pair-rest = sym (drop_at pair after 2 two) ∙ (ap (drop 2) (sym cut ∙ left) ∙ (drop-drop 2 (2 * i) word ∙ ap (λ n. drop n word) (let next : 2 * i + 2 ≡ 2 * (i + 1) = omega arith in next)))
+
+  pub pair-digit : (k : ℕ) → k < 2 → slice_index pair k ≡ slice_index word (2 * i + k)
+  pair-digit k lt = sym (get_or_append_left pair after 0 k (omega (arith, two))) ∙ (ap (λ l. slice_index l k) (sym cut ∙ left) ∙ get_or-drop (2 * i) word k 0)
+
+-- none is left
+pub all-read : (word rest : List ℕ) (i : ℕ) → rest ≡ drop (2 * i) word → length rest < 2 → length word % 2 ≡ 0 → length word ≤ 2 * i
+all-read word rest i left few even = omega (arith, few, even, ap length left, length-drop (2 * i) word)

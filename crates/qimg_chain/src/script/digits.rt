@@ -24,9 +24,10 @@ pub(super) fn decode(word: &[u8], out: &mut [u8]) -> bool
     ensures other { IsFalse result → result_ok (decode_of word.now) ≡ None }
 {
     let mut all = true;
-    for i in 0..out.len() {
-        let high = value(word[2 * i]);
-        let low = value(word[2 * i + 1]);
+    // From chunks many pairs are loaded at a time, by indices of the digits one after the other.
+    for (i, pair) in word.chunks_exact(2).enumerate() {
+        let high = value(pair[0]);
+        let low = value(pair[1]);
         all = all & (high < 16) & (low < 16);
         out[i] = high % 16 * 16 + low % 16;
     }
