@@ -1,5 +1,5 @@
 // A raw image: the disk is the storage's bytes.
-ghost use Rattle.std.specs.Prelude.{◌≡◌, min, ◌-◌, ◌+◌, ◌≤◌, ◌<◌, ◌^◌, [], ⊤, refl, length, replicate, OnOk, IfOk, IfErr, IsTrue, None, Some, true};
+ghost use Rattle.std.specs.Prelude.{◌≡◌, min, ◌-◌, ◌+◌, ◌≤◌, ◌<◌, ◌^◌, [], ⊤, refl, length, replicate, ◌⊎◌, OnOk, IfOk, IfErr, IsErr, IsSome, IsTrue, None, Some, true};
 ghost use Rattle.std.proofs.Common.{inr};
 ghost use Rattle.std.proofs.Math.Nat.{le_refl};
 ghost use Rattle.imago_storage.specs.Calls.{Mixed, Later, Resized};
@@ -8,12 +8,14 @@ ghost use Rattle.imago_storage.specs.declared.fault.Fault.{Fault};
 ghost use Rattle.imago_storage.specs.declared.fault.Fault.TheVariants.{ReadOnly, Unsupported};
 ghost use Rattle.imago_access.specs.Files.{WasNotCutOff, files};
 ghost use Rattle.imago_access.specs.Going.{AtOnce, RangeAtOnce, Looked, LookedUnder, Marks};
-ghost use Rattle.imago_access.specs.PartCalls.{DoesPart, PartCall, PartRefused, ensures_zero};
+ghost use Rattle.imago_access.specs.PartCalls.{IsPart, DoesPart, PartCall, PartRefused, ensures_zero, discards_to_zero, discards_to_any, discards_to_backing};
+ghost use Rattle.imago_access.specs.Changes.{Rewrites, ToZero, asking};
+ghost use Rattle.imago_access.specs.Layer.{IsFree};
 ghost use Rattle.imago_access.specs.Refusals.{own_refusal, barrier};
 ghost use Rattle.imago_access.specs.declared.mapping.ShallowMapping.TheVariants as shallow;
-ghost use Rattle.imago_access.specs.Mappings.{IsOneOf, IsRun, LooksIn, NamesRoomIn, States};
+ghost use Rattle.imago_access.specs.Mappings.{IsMappedRun, IsOneOf, IsRun, LooksIn, NamesRoomIn, States};
 ghost use Rattle.imago_access.specs.Failing.{Fails, RefusesLookup};
-ghost use Rattle.imago_access.specs.PreparingCalls.{Commits, CommitRefused, Cancels};
+ghost use Rattle.imago_access.specs.PreparingCalls.{IsHeldBy, Prepares, Commits, CommitRefused, Cancels, nowhere};
 ghost use Rattle.imago_access.specs.ResizeCalls.{Resizes, Grows, GrowthRefused, IsUngrown, Shrinks, ShrinkRefused};
 ghost use Rattle.imago_access.specs.Resizes as Resizes;
 ghost use Rattle.imago_access.specs.Chain.{at};
@@ -431,7 +433,23 @@ impl<S: Storage> FormatDriverInstance for Raw<S> {
         offset: u64,
         length: u64,
         _overwrite: bool,
-    ) -> Result<PreparedDataMapping<NoState>, Fault> {
+    ) -> Result<PreparedDataMapping<NoState>, Fault>
+        ensures run { let d = ⟦<Raw<S> as Seen>⟧ in
+            IfOk result (λ m. IsMappedRun (d.layer self.old) offset length m.length × (m.offset + m.length < 2 ^ 64)) }
+        ensures mine { let d = ⟦<Raw<S> as Seen>⟧ in IfOk result (λ m. IsHeldBy d m.state (d.layer self.new)) }
+        ensures empty { let d = ⟦<Raw<S> as Seen>⟧ in
+            length ≡ 0 → IfOk result (λ m. (m ≡ nowhere) × (d.layer self.new ≡ d.layer self.old)) }
+        ensures size { let d = ⟦<Raw<S> as Seen>⟧ in (d.layer self.new).size ≡ (d.layer self.old).size }
+        ensures free { IsErr result → IsFree (⟦<Raw<S> as Seen>⟧.layer self.new) }
+        ensures does { let d = ⟦<Raw<S> as Seen>⟧ in
+            Prepares d B.SeenBelow (asking offset length _overwrite) result (self.old, _below.old) (self.new, _below.new) }
+        ensures below { LookedUnder B.SeenBelow (WasNotCutOff result) _below.old _below.new }
+        ensures at_once { RangeAtOnce ⟦<Raw<S> as Seen>⟧ offset length result self.old self.new }
+        ensures unread { let d = ⟦<Raw<S> as Seen>⟧ in
+            (length ≡ 0) ⊎ IsSome (own_refusal (d.layer self.old) offset length) → _below.new ≡ _below.old }
+        // All of the range is mapped.
+        ensures whole { IfOk result (λ m. m.length ≡ length) }
+    {
         if length == 0 {
             return Ok(PreparedDataMapping::existing(0, 0, 0));
         }
@@ -496,7 +514,14 @@ impl<S: Storage> FormatDriverInstance for Raw<S> {
         alloc: Global,
         offset: u64,
         length: u64,
-    ) -> Result<(u64, u64), Fault> {
+    ) -> Result<(u64, u64), Fault>
+        ensures part { IfOk result (IsPart offset length) }
+        ensures does { DoesPart ensures_zero ⟦<Raw<S> as Seen>⟧ offset length result self.old self.new }
+        ensures at_once { RangeAtOnce ⟦<Raw<S> as Seen>⟧ offset length result self.old self.new }
+        ensures refused { PartRefused ensures_zero ⟦<Raw<S> as Seen>⟧ offset length result self.old self.new }
+        // All of the range is done.
+        ensures whole { IfOk result (λ r. r ≡ (offset, length)) }
+    {
         self.zero(alloc, Zeroes::Allocated, offset, length)
     }
 
@@ -505,7 +530,14 @@ impl<S: Storage> FormatDriverInstance for Raw<S> {
         alloc: Global,
         offset: u64,
         length: u64,
-    ) -> Result<(u64, u64), Fault> {
+    ) -> Result<(u64, u64), Fault>
+        ensures part { IfOk result (IsPart offset length) }
+        ensures does { DoesPart discards_to_zero ⟦<Raw<S> as Seen>⟧ offset length result self.old self.new }
+        ensures at_once { RangeAtOnce ⟦<Raw<S> as Seen>⟧ offset length result self.old self.new }
+        ensures refused { PartRefused discards_to_zero ⟦<Raw<S> as Seen>⟧ offset length result self.old self.new }
+        // All of the range is done.
+        ensures whole { IfOk result (λ r. r ≡ (offset, length)) }
+    {
         self.zero(alloc, Zeroes::GivenUp, offset, length)
     }
 
@@ -514,7 +546,14 @@ impl<S: Storage> FormatDriverInstance for Raw<S> {
         _alloc: Global,
         offset: u64,
         length: u64,
-    ) -> Result<(u64, u64), Fault> {
+    ) -> Result<(u64, u64), Fault>
+        ensures part { IfOk result (IsPart offset length) }
+        ensures does { DoesPart discards_to_any ⟦<Raw<S> as Seen>⟧ offset length result self.old self.new }
+        ensures at_once { RangeAtOnce ⟦<Raw<S> as Seen>⟧ offset length result self.old self.new }
+        ensures refused { PartRefused discards_to_any ⟦<Raw<S> as Seen>⟧ offset length result self.old self.new }
+        // All of the range is done.
+        ensures whole { IfOk result (λ r. r ≡ (offset, length)) }
+    {
         if length == 0 {
             return Ok((offset, 0));
         }
@@ -537,7 +576,16 @@ impl<S: Storage> FormatDriverInstance for Raw<S> {
         alloc: Global,
         offset: u64,
         length: u64,
-    ) -> Result<(u64, u64), Fault> {
+    ) -> Result<(u64, u64), Fault>
+        ensures part { IfOk result (IsPart offset length) }
+        ensures does { DoesPart discards_to_backing ⟦<Raw<S> as Seen>⟧ offset length result self.old self.new }
+        ensures at_once { RangeAtOnce ⟦<Raw<S> as Seen>⟧ offset length result self.old self.new }
+        ensures refused { PartRefused discards_to_backing ⟦<Raw<S> as Seen>⟧ offset length result self.old self.new }
+        // All of the range is done, and is 0 then.
+        ensures whole { IfOk result (λ r. r ≡ (offset, length)) }
+        ensures zeroed { let d = ⟦<Raw<S> as Seen>⟧ in
+            d.safe self.old → OnOk result (Rewrites ToZero (d.layer self.old) (d.layer self.new) offset length) }
+    {
         self.zero(alloc, Zeroes::GivenUp, offset, length)
     }
 
