@@ -44,6 +44,7 @@ use Rattle.qcow2_clusters.specs.declared.space.Space.{Space}
 use Rattle.qcow2_image.specs.Allocating.{EnsuresTable, FillsContent, FreesPending, HasKept, KeepsTop, LoadsSpace, PlacesContent, StoresContent, WhyNotAllocated, WhyNotFreed, failed_cut, waits_in, EnsuresWord}
 use Rattle.qcow2_image.specs.Holding.{Holding, IsOwnAs}
 use Rattle.qcow2_image.specs.KeepsDisk.{KeepsDisk, KeepsDiskWhere}
+use Rattle.qcow2_image.specs.Leaking.{KeepsLeaks, KeepsLeaksBut}
 use Rattle.qcow2_clusters.proofs.LengtheningL1.{padded-long}
 use Rattle.qcow2_image.specs.Looking.{place_of_table}
 use Rattle.qcow2_image.specs.Rooms.{IsSafe, rest_of}
@@ -53,7 +54,8 @@ use Rattle.qcow2_image.specs.Unspent.{holding_in}
 use Rattle.qcow2_image.specs.declared.qcow2.Qcow2.{Qcow2}
 use Rattle.qcow2_image.specs.declared.tables.Tables.{Tables}
 use Rattle.qcow2_image.proofs.FileWords.{place-in-file, place-named, some-offset, top-long, top-word}
-use Rattle.qcow2_image.proofs.KeepingDisks.{Spares, WhyNoSpace, keeps-disk-same, keeps-image-disk, later-refused, progress-keeps, safe-sound, space-refused, whole-below, keeps-disk-both}
+use Rattle.qcow2_image.proofs.KeepingDisks.{Spares, WhyNoSpace, keeps-disk-same, keeps-image-disk, later-refused, progress-keeps, safe-sound, space-keeps, space-refused, whole-below, keeps-disk-both}
+use Rattle.qcow2_image.proofs.Leaks.{advanced-leaks, leaks-all, leaks-both, leaks-but, leaks-kept, leaks-loaded}
 use Rattle.qcow2_image.proofs.KeptClusters.{apart-some, kept-at-rest, kept-in, kept-is}
 use Rattle.qcow2_image.proofs.Settling.{seen-same}
 use Rattle.qcow2_image.proofs.Steps.{keeps-marked}
@@ -107,6 +109,7 @@ module _ {S : Type 0} (g : Ghosts S) (old new : Qcow2 S g) (fault : Fault) (mid 
   pub unloaded : LoadsSpace g old (Err fault) new
   unloaded = record {
     keeps = keeps-image-disk {T = Unit} g old new (Err fault) keeps-unloaded;
+    leaks = leaks-kept g {T = Unit} old new (Err fault) keeps-unloaded;
     known = tt;
     stays = none-some old.tables.space none;
     same = keeps-unloaded;
@@ -116,6 +119,23 @@ module _ {S : Type 0} (g : Ghosts S) (old new : Qcow2 S g) (fault : Fault) (mid 
         (allocator-refused (file_of g old.tables) old.tables.file.header safe.consistent unloaded_from unloaded_to fault refl loads);
     faults = tt;
   }
+
+-- One whose free space was loaded.
+pub loaded : {S : Type 0} (g : Ghosts S) (old new : Qcow2 S g) (space : Space) → old.tables.space ≡ None → new.tables.space ≡ Some space
+    → new.mode ≡ old.mode → new.number ≡ old.number → new.unspent ≡ old.unspent → new.failed ≡ old.failed → new.tables.l1 ≡ old.tables.l1
+    → new.tables.caches ≡ old.tables.caches → new.tables.file.header ≡ old.tables.file.header
+    → LoadsAllocator (g.state old.tables.file.image) old.tables.file.header.fields (Ok space.allocator) (g.state new.tables.file.image)
+    → space.to_free.entries ≡ [] → LoadsSpace g old (Ok tt) new
+loaded g old new space none there mode number unspent failed l1 caches header loads empty = record {
+  keeps = space-keeps g old new space none there mode number unspent failed l1 caches header loads empty ⊤;
+  leaks = leaks-loaded g old new space none there loads.kept header unspent empty;
+  known = subst IsSome (sym there) refl;
+  stays = none-some old.tables.space none;
+  same = tt;
+  cause = tt;
+  known_cause = λ safe. tt;
+  faults = failed;
+}
 
 -- Want of memory and a storage's fault mark an image in a change, and nothing takes a mark away.
 still-cut : {T : Type 0} (r : Result T Fault) (f : Bool) → IsTrue f → IsTrue (failed_cut r f)
@@ -226,6 +246,13 @@ module _ {S T : Type 0} (g : Ghosts S) (old : Qcow2 S g) (mid : Tables S g) (spa
       → KeepsDisk g (WasNotCutOff result) old now
   advanced handed taken = advanced-by (IsSafe g old) (handing handed taken) (λ safe. safe) (λ p v gave. gave) (λ guest is. is)
 
+  -- It leaks what it hands out and doesn't take.
+  pub leaks-by : (kind : Kind) (reserved : ℕ → ℕ) → ((c : ℕ) → kind.handed c ≡ kind.taken c + reserved c)
+      → Progresses (going.WasNotCutOff result) kind (g.state old.tables.file.image) (rest_of g old.tables space) (g.state mid.file.image)
+      (rest_of g mid space') → IsSafe g old → WasNotCutOff result → KeepsLeaksBut g reserved old now
+  leaks-by kind reserved given progress safe whole =
+      advanced-leaks g old now space space' there there' (going.WasNotCutOff result) kind reserved refl given progress safe (whole-below result whole)
+
 -- While nothing is prepared nothing has to be spared.
 none-spared : {S : Type 0} (g : Ghosts S) (old : Qcow2 S g) (P : Holding → Type 0) → old.unspent ≡ None → IfSome (holding_in g old.unspent) P
 none-spared g old P free = subst (λ u. IfSome (holding_in g u) P) (sym free) tt
@@ -266,6 +293,8 @@ module _ {S : Type 0} (g : Ghosts S) (old : Qcow2 S g) (mid : Tables S g) (space
         (none-spared g old (Spares g (WasNotCutOff result) (handing (handed_by result) (λ c. 0)) old stored_now space space') free)
         (λ safe whole. subst (IsL1Of (file_of g mid) mid.file.header.fields) (sym l1) (l1-stored safe whole))
         (λ safe. stores.progress);
+    leaks = leaks-by g old mid space space' caches result there there' stores.rests (handing (handed_by result) (λ c. 0)) (handed_by result)
+        (λ c. omega arith) stores.progress;
     marks = refl;
     top = record {
       l1 = l1;
@@ -317,6 +346,8 @@ module _ {S : Type 0} (g : Ghosts S) (old : Qcow2 S g) (mid : Tables S g) (space
         (none-spared g old (Spares g (WasNotCutOff result) (filling old.tables.file.header.fields host) old filled_now space space) free)
         (λ known whole. subst (IsL1Of (file_of g mid) mid.file.header.fields) (sym l1) (l1-filled known whole))
         (λ known. fills.progress (kept-then known));
+    leaks = λ known whole. leaks-all g old filled_now (leaks-by g old mid space space caches result there there' fills.rests
+        (filling old.tables.file.header.fields host) (λ c. 0) (λ c. refl) (fills.progress (kept-then known)) known.safe whole);
     marks = refl;
     top = record {
       l1 = l1;
@@ -350,6 +381,7 @@ module _ {S : Type 0} (g : Ghosts S) (guest : ℕ) (bytes : List ℕ) (old new :
       → PlacesContent g guest (Some host) bytes old (Ok (host, true)) new
   placed-kept host near f = record {
     keeps = f.keeps;
+    leaks = λ known whole. leaks-but g old new (f.leaks known whole);
     marks = f.marks;
     top = f.top;
     near = near;
@@ -362,6 +394,7 @@ module _ {S : Type 0} (g : Ghosts S) (guest : ℕ) (bytes : List ℕ) (old new :
   pub unfilled : (host : ℕ) (e : Fault) → FillsContent g guest host bytes old (Err e) new → PlacesContent g guest (Some host) bytes old (Err e) new
   unfilled host e f = record {
     keeps = f.keeps;
+    leaks = λ known whole. leaks-but g old new (f.leaks known whole);
     marks = f.marks;
     top = f.top;
     near = tt;
@@ -396,6 +429,7 @@ module _ {S : Type 0} (g : Ghosts S) (guest : ℕ) (bytes : List ℕ) (old new :
   pub placed-free : (host : ℕ) → StoresContent g bytes old (Ok host) new → PlacesContent g guest None bytes old (Ok (host, false)) new
   placed-free host s = record {
     keeps = keeps-none ⊤ s.keeps;
+    leaks = λ known whole. s.leaks known.safe whole;
     marks = s.marks;
     top = top-none ⊤ s.top;
     near = s.named.1;
@@ -408,6 +442,7 @@ module _ {S : Type 0} (g : Ghosts S) (guest : ℕ) (bytes : List ℕ) (old new :
   pub unstored : (e : Fault) → StoresContent g bytes old (Err e) new → PlacesContent g guest None bytes old (Err e) new
   unstored e s = record {
     keeps = keeps-none (WasNotCutOff {T = ℕ} (Err e)) s.keeps;
+    leaks = λ known whole. s.leaks known.safe whole;
     marks = s.marks;
     top = top-none (WasNotCutOff {T = ℕ} (Err e)) s.top;
     near = tt;
@@ -448,7 +483,7 @@ module _ {S : Type 0} (g : Ghosts S) (old : Qcow2 S g) (space : Space) (caches :
 
 -- A new table was named.
 module _ {S : Type 0} (g : Ghosts S) (old : Qcow2 S g) (mid : Tables S g) (space space' : Space) (caches : MetadataCaches S) (guest i : ℕ)
-    (result : Result ℕ Fault) (asked : Type 0) (handed taken : ℕ → ℕ) (there : old.tables.space ≡ Some space)
+    (result : Result ℕ Fault) (asked : Type 0) (handed taken : ℕ → ℕ) (even : (c : ℕ) → handed c ≡ taken c + 0) (there : old.tables.space ≡ Some space)
     (there' : mid.space ≡ Some space') (free : old.unspent ≡ None)
     (index : i ≡ guest / words_of_cluster old.tables.file.header.fields) (inside : i < length old.tables.l1.words)
     (as-asked : IsSafe g old → asked)
@@ -496,6 +531,8 @@ module _ {S : Type 0} (g : Ghosts S) (old : Qcow2 S g) (mid : Tables S g) (space
         (λ safe whole. l1-moved (file_of g mid) old.tables.file.header mid.file.header mid.l1 names.rests.header
         (names.l1 (is-ready safe) (as-asked safe) (whole-below result whole)))
         (λ safe. names.progress (as-asked safe));
+    leaks = λ safe whole. leaks-all g old made_now (leaks-by g old mid space space' caches result there there' names.rests (handing handed taken) (λ c. 0)
+        even (names.progress (as-asked safe)) safe whole);
     marks = refl;
     known = λ was. subst IsSome (sym there') refl;
     there = λ safe some. there-now safe result (names.there (is-ready safe) (as-asked safe));
@@ -524,9 +561,10 @@ module _ {S : Type 0} (g : Ghosts S) (old : Qcow2 S g) (mid : Tables S g) (space
       → EnsuresTable g guest old result (record old { tables = mid; failed = failed_cut result old.failed })
   renewed None is copies makes =
       made g old mid space space' caches guest i result (IsTableless g.state old.tables.l1 i before) (handed_by result) (handed_by result)
+      (λ c. omega arith)
       there there' free index inside (tableless g old space caches guest i index inside is) (makes refl).named
   renewed (Some table) is copies makes =
-      made g old mid space space' caches guest i result (HasTable g.state old.tables.l1 i before) taken_by taken_by
+      made g old mid space space' caches guest i result (HasTable g.state old.tables.l1 i before) taken_by taken_by (λ c. omega arith)
       there there' free index inside (has-table g old space caches guest i index inside table is) (copies refl).named
 
 -- There was one that nothing else names.
@@ -543,6 +581,7 @@ module _ {S : Type 0} (g : Ghosts S) (d : Qcow2 S g) (guest table : ℕ)
   pub table-there : EnsuresTable g guest d (Ok table) d
   table-there = record {
     keeps = keeps-disk-same g ⊤ d;
+    leaks = λ safe whole c. refl;
     marks = refl;
     known = λ some. some;
     there = λ safe some. over safe;
@@ -570,7 +609,7 @@ if-each (Some a) P each = each a
 
 -- Nothing waited to be freed.
 pub none-freed : {S : Type 0} (g : Ghosts S) (d : Qcow2 S g) → waits_in d.tables.space ≡ false → FreesPending g d (Ok tt) d
-none-freed g d none = record { keeps = keeps-disk-same g ⊤ d; marks = refl; idle = λ untouched. (refl, refl); emptied = none; cause = tt }
+none-freed g d none = record { keeps = keeps-disk-same g ⊤ d; leaks = λ safe whole c. refl; marks = refl; idle = λ untouched. (refl, refl); emptied = none; cause = tt }
 
 freed-why : {S : Type 0} (g : Ghosts S) (old new : Qcow2 S g) (is-ready : Type 0) (fault : Fault) → (IsSafe g old → is-ready)
     → freeing.WhyNotFreed is-ready (g.state old.tables.file.image).faults (g.state new.tables.file.image).faults fault → WhyNotFreed g old new fault
@@ -610,6 +649,8 @@ module _ {S : Type 0} (g : Ghosts S) (old : Qcow2 S g) (mid : Tables S g) (space
         (if-each (holding_in g old.unspent) (Spares g (WasNotCutOff result) (handing (λ c. 0) (λ c. 0)) old freed_now space space') spares-each)
         (λ safe whole. subst (IsL1Of (file_of g mid) mid.file.header.fields) (sym l1) (l1-freed safe whole))
         (λ safe. frees.progress);
+    leaks = λ safe whole. leaks-all g old freed_now (leaks-by g old mid space space' caches result there there' frees.rests
+        (handing (λ c. 0) (λ c. 0)) (λ c. 0) (λ c. refl) frees.progress safe whole);
     marks = refl;
     idle = λ untouched. absurd (cc (sym (idle-waits old.tables.space untouched.1) ∙ waits));
     emptied = emptied-waits result mid.space space' there' frees.emptied;
@@ -657,6 +698,12 @@ module _ {S : Type 0} (g : Ghosts S) (old : Qcow2 S g) (mid : Tables S g) (space
         (g.state mid.file.image) (rest_of g old.tables space) (rest_of g mid space') (whole-below result) (progress safe);
   })
 
+  longer-leaks : (result : Result Unit Fault) (handed : ℕ → ℕ)
+      → Progresses (going.WasNotCutOff result) (handing handed handed) (g.state old.tables.file.image) (rest_of g old.tables space)
+      (g.state mid.file.image) (rest_of g mid space') → IsSafe g old → WasNotCutOff result → KeepsLeaks g old (with_l1 result)
+  longer-leaks result handed progress safe whole = leaks-all g old (with_l1 result) (advanced-leaks g old (with_l1 result) space space' there there'
+      (going.WasNotCutOff result) (handing handed handed) (λ c. 0) refl (λ c. omega arith) progress safe (whole-below result whole))
+
   abbrev both_tables : ℕ → ℕ
   both_tables d = old_l1 (rest_of g old.tables space) d + old_l1 (rest_of g mid space') d
 
@@ -669,6 +716,7 @@ module _ {S : Type 0} (g : Ghosts S) (old : Qcow2 S g) (mid : Tables S g) (space
   pub lengthened : (result : Result Unit Fault) → Longer result → EnsuresWord g i old result (with_l1 result)
   lengthened (Ok done) longer = record {
     keeps = longer-keeps (Ok done) both_tables both_tables longer (λ safe. longer.progress safe.seen.l1);
+    leaks = λ safe. longer-leaks (Ok done) both_tables (longer.progress safe.seen.l1) safe;
     marks = refl;
     known = λ was. subst IsSome (sym there') refl;
     inside = word-there old.tables.l1.words longer.words;
@@ -676,6 +724,7 @@ module _ {S : Type 0} (g : Ghosts S) (old : Qcow2 S g) (mid : Tables S g) (space
   }
   lengthened (Err fault) longer = record {
     keeps = longer-keeps (Err fault) (λ _. 0) (λ _. 0) longer (λ safe. longer.progress safe.seen.l1);
+    leaks = λ safe. longer-leaks (Err fault) (λ _. 0) (longer.progress safe.seen.l1) safe;
     marks = refl;
     known = λ was. subst IsSome (sym there') refl;
     inside = tt;
@@ -697,6 +746,7 @@ module _ {S : Type 0} (g : Ghosts S) (guest i : ℕ) (old mid new : Qcow2 S g) w
       → EnsuresTable g guest old result new
   table-behind-word result word table = record {
     keeps = keeps-disk-both g ⊤ (WasNotCutOff result) old mid new tt word.keeps table.keeps;
+    leaks = λ safe whole. leaks-both g old mid new (word.leaks safe tt) (table.leaks (word.keeps.safely safe tt) whole);
     marks = table.marks ∙ ap (failed_cut result) word.marks;
     known = λ some. table.known (word.known some);
     there = λ safe some. table.there (word.keeps.safely safe tt) (word.known some);

@@ -102,7 +102,7 @@ run-home hold p at is = from (in_run hold p) refl is where
 
 module _ {S : Type 0} (g : Ghosts S) (claim : ℕ) (old new : Qcow2 S g)
     (result : Result Unit (Fault × Option (PreparedDataMapping PreparedMappingState))) (s : SpendsUnspent g claim old result new) where
-  abbrev hold : Holding
+  abbrev pub hold : Holding
   hold = holding g s.spent
 
   pub hold-is : holding_in g old.unspent ≡ Some hold
@@ -135,7 +135,7 @@ module _ {S : Type 0} (g : Ghosts S) (claim : ℕ) (old new : Qcow2 S g)
   pub failed-is : new.failed ≡ failed_behind_any s.named old.failed
   failed-is = ap (λ (d : Qcow2 S g). d.failed) s.others
 
-  free-now : new.unspent ≡ None
+  pub free-now : new.unspent ≡ None
   free-now = ap (λ (d : Qcow2 S g). d.unspent) s.others
 
   none-held : holding_in g new.unspent ≡ None
@@ -152,19 +152,19 @@ module _ {S : Type 0} (g : Ghosts S) (claim : ℕ) (old new : Qcow2 S g)
 
   -- Of a safe image.
   module _ (safe : IsSafe g old) where
-    holds : HoldsIn g old.tables hold
+    pub holds : HoldsIn g old.tables hold
     holds = subst (λ o. IfSome o (HoldsIn g old.tables)) hold-is safe.held
 
-    abbrev before : Metadata
+    abbrev pub before : Metadata
     before = rest_of g old.tables holds.space
 
-    sound : IsSound before
+    pub sound : IsSound before
     sound = safe-sound g old holds.space holds.there safe
 
     able : IsNameable before hold.table hold.guest hold.host
     able = record { under = holds.held.under; own = own-either hold.is_kept before hold.guest hold.host holds.held.own }
 
-    with-space : NamesWith g (reserved_of g s.spent) hold.guest old.tables holds.space s.named new.tables
+    pub with-space : NamesWith g (reserved_of g s.spent) hold.guest old.tables holds.space s.named new.tables
     with-space = s.names.known holds.space holds.there (let some = holds.held.some in omega (arith, some), holds.held.reach)
 
     abbrev c : Clusters S
@@ -241,10 +241,10 @@ module _ {S : Type 0} (g : Ghosts S) (claim : ℕ) (old new : Qcow2 S g)
 
     -- It succeeded.
     module _ (ok : s.named ≡ Ok tt) where
-      abbrev after : Metadata
+      abbrev pub after : Metadata
       after = resting g.state c'
 
-      advances : Advances GivenOnce (λ q. ⊥) (IsOfWord h (hold.guest / words_of_cluster h) (hold.guest % words_of_cluster h))
+      pub advances : Advances GivenOnce (λ q. ⊥) (IsOfWord h (hold.guest / words_of_cluster h) (hold.guest % words_of_cluster h))
           (naming before hold.guest hold.host).handed (naming before hold.guest hold.host).taken before after
       advances = progress.holds safe.keeps sound ok
 
@@ -254,10 +254,10 @@ module _ {S : Type 0} (g : Ghosts S) (claim : ℕ) (old new : Qcow2 S g)
       byte-kept : (q : ℕ) → q / cs ≡ hold.host → f' q ≡ f q
       byte-kept = subst (λ r. OnOk r ((q : ℕ) → q / cs ≡ hold.host → f' q ≡ f q)) ok (with-space.names.bytes ready able)
 
-      memory-now : in_memory after ≡ f'
+      pub memory-now : in_memory after ≡ f'
       memory-now = clean-memory f' h' nothing_cached tt tt
 
-      memory-then : in_memory before ≡ f
+      pub memory-then : in_memory before ≡ f
       memory-then = rest-memory g old.tables holds.space
 
       word-is : (x : ℕ) → (x ≡ hold.guest) ⊎ (entry f' h x ≡ entry f h x)

@@ -17,6 +17,7 @@ use Rattle.qcow2_image.specs.Allocating.{FlushesFreed, FreesPending, WhyNotFreed
 use Rattle.qcow2_image.specs.Holding.{claim_held}
 use Rattle.qcow2_image.specs.ImageLayer.{qcow2_fixed}
 use Rattle.qcow2_image.specs.KeepsDisk.{KeepsDisk}
+use Rattle.qcow2_image.specs.Leaking.{KeepsLeaks}
 use Rattle.qcow2_image.specs.Rooms.{IsSafe, Sees, WasSafe, was_safe}
 use Rattle.qcow2_image.specs.Seen.{layer_of}
 use Rattle.qcow2_image.specs.Unspent.{holding_in}
@@ -24,6 +25,7 @@ use Rattle.qcow2_image.specs.contracts.qcow2.Qcow2Seen.TheImpl.{ghosts}
 use Rattle.qcow2_image.specs.declared.qcow2.PreparedMappingState.{PreparedMappingState}
 use Rattle.qcow2_image.specs.declared.qcow2.Qcow2.{Qcow2}
 use Rattle.qcow2_image.proofs.ClusterSteps.{idle-waits}
+use Rattle.qcow2_image.proofs.Leaks.{leaks-both}
 use Rattle.qcow2_image.proofs.KeepingDisks.{kept-disk, keeps-disk-both, keeps-image-disk}
 use Rattle.qcow2_image.proofs.Anew.{on-ok}
 use Rattle.qcow2_image.proofs.Settling.{asked-keeps, meant, ok-whole}
@@ -61,10 +63,11 @@ module _ {S : Type 0} (g : Ghosts S) (old new : Qcow2 S g) (s' : StorageState) (
 
 -- What waited was freed, and the file was flushed.
 pub flushes-freed : {S : Type 0} (g : Ghosts S) (old mid new : Qcow2 S g) (result : Result Unit Fault) → FreesPending g old (Ok tt) mid
-    → KeepsDisk g (WasNotCutOff result) mid new → CountsFaults (g.state mid.tables.file.image).faults (g.state new.tables.file.image).faults result
+    → KeepsDisk g (WasNotCutOff result) mid new → KeepsLeaks g mid new → CountsFaults (g.state mid.tables.file.image).faults (g.state new.tables.file.image).faults result
     → new.failed ≡ failed_cut result mid.failed → new.tables.space ≡ mid.tables.space → FlushesFreed g old result new
-flushes-freed g old mid new result freed k counts failed space = record {
+flushes-freed g old mid new result freed k leaks counts failed space = record {
   keeps = keeps-disk-both g ⊤ (WasNotCutOff result) old mid new tt freed.keeps k;
+  leaks = λ safe whole. leaks-both g old mid new (freed.leaks safe tt) leaks;
   marks = failed ∙ ap (failed_cut result) freed.marks;
   emptied = on-ok result _ (ap waits_in space ∙ freed.emptied);
   cause = from result counts;

@@ -21,6 +21,7 @@ pub mod Mapped
 pub mod Written
 pub mod Preparing
 pub mod KeepingDisks
+pub mod Leaks
 pub mod KeptClusters
 pub mod FreshRuns
 pub mod Copying
@@ -29,3 +30,5 @@ pub mod Prepared
 pub mod ClusterSteps
 pub mod Commits
 pub mod Spent
+pub mod SpentLeaks
+pub mod Pending

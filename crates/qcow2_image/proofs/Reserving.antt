@@ -11,7 +11,7 @@ use Rattle.imago_storage.specs.declared.fault.Fault.TheVariants.{Barred, Counter
 use Rattle.imago_storage.specs.declared.storage.Storage.{Ghosts}
 use Rattle.imago_access.specs.Chain.{at}
 use Rattle.imago_access.specs.Changes.{Asked, IsCopied}
-use Rattle.imago_access.specs.Files.{IsMild}
+use Rattle.imago_access.specs.Files.{IsMild, WasNotCutOff}
 use Rattle.imago_access.specs.Layer.{Layer, through}
 use Rattle.imago_access.specs.declared.mapping.PreparedDataMapping.{PreparedDataMapping}
 use Rattle.imago_access.specs.declared.seen.SeenBelow.{Ghosts as GhostsBelow}
@@ -26,6 +26,7 @@ use Rattle.qcow2_image.specs.Filling.{IsInFirst, IsLeft, IsNeededFor, MakesConte
 use Rattle.qcow2_image.specs.Holding.{place_in}
 use Rattle.qcow2_image.specs.KeepsDisk.{KeepsDisk, KeepsDiskWhere}
 use Rattle.qcow2_image.specs.Preparing.{HoldsFresh, IsReservedFor, KeepsMapping, LeavesMarked, PreparesFresh, Reserves, first_part}
+use Rattle.qcow2_image.specs.Leaking.{KeepsLeaks, reserved_as}
 use Rattle.qcow2_image.specs.Looking.{WhyNotLooked}
 use Rattle.qcow2_image.specs.Rooms.{IsSafe}
 use Rattle.qcow2_image.specs.Seen.{IsSeen, file_of, layer_of}
@@ -36,6 +37,7 @@ use Rattle.qcow2_image.specs.declared.qcow2.Qcow2.{Qcow2}
 use Rattle.qcow2_image.proofs.FileWords.{top-word}
 use Rattle.qcow2_image.proofs.KeepingDisks.{keeps-disk-both, keeps-disk-same, keeps-disk-then, keeps-image-disk}
 use Rattle.qcow2_image.proofs.KeptClusters.{kept-behind}
+use Rattle.qcow2_image.proofs.Leaks.{leaks-all, leaks-both, leaks-but, leaks-held, leaks-kept, leaks-then}
 use Rattle.qcow2_image.proofs.Preparing.{never-damaged}
 use Rattle.qcow2_image.proofs.Steps.{keeps-as, keeps-both}
 
@@ -107,6 +109,7 @@ module _ {S : Type 0} (g : Ghosts S) where
       → Reserves g guest kept bytes old (Err e) new
   reserve-unloaded guest kept bytes old new e l = record {
     keeps = keeps-known (IsMild e) guest kept old new l.keeps;
+    leaks = λ known whole. leaks-but g old new l.leaks;
     marked = quiet-marked {T = Unit} old new e l.same;
     near = tt;
     which = tt;
@@ -121,6 +124,7 @@ module _ {S : Type 0} (g : Ghosts S) where
       → EnsuresTable g guest mid (Err e) new → Reserves g guest kept bytes old (Err e) new
   reserve-tableless guest kept bytes old mid new e l t = record {
     keeps = keeps-known (IsMild e) guest kept old new (keeps-disk-both g ⊤ (IsMild e) old mid new tt l.keeps t.keeps);
+    leaks = λ known whole. leaks-but g old new (leaks-both g old mid new l.leaks (t.leaks (l.keeps.safely known.safe tt) whole));
     marked = cut-marked old new e mid.failed t.marks;
     near = tt;
     which = tt;
@@ -137,6 +141,8 @@ module _ {S : Type 0} (g : Ghosts S) where
   reserve-unplaced guest table kept bytes old first mid new e l t s =
       let there = keeps-disk-both g ⊤ ⊤ old first mid tt l.keeps t.keeps in record {
         keeps = keeps-then (IsMild e) guest kept old mid new there s.keeps;
+        leaks = λ known whole. leaks-then g (λ c. 0) old mid new (leaks-both g old first mid l.leaks (t.leaks (l.keeps.safely known.safe tt) tt))
+            (s.leaks (kept-behind g guest kept old mid there known) whole);
         marked = cut-marked old new e mid.failed s.marks;
         near = tt;
         which = tt;
@@ -172,6 +178,9 @@ module _ {S : Type 0} (g : Ghosts S) where
       let there = keeps-disk-both g ⊤ ⊤ old first mid tt l.keeps t.keeps in
       let all = keeps-then ⊤ guest kept old mid new there s.keeps in record {
         keeps = all;
+        leaks = λ known whole. leaks-then g (reserved_as is_kept host) old mid new
+            (leaks-both g old first mid l.leaks (t.leaks (l.keeps.safely known.safe tt) tt))
+            (s.leaks (kept-behind g guest kept old mid there known) tt);
         marked = tt;
         near = subst (λ (b : ℕ). IsInReach b host) there.bits s.near;
         which = (s.which.0, which-host host kept (new.tables.space ≡ mid.tables.space) s.which.1);
@@ -210,6 +219,7 @@ module _ {S : Type 0} (g : Ghosts S) where
   fresh-unfilled u asked old new e m = record {
     middle = new.0;
     keeps = keeps-image-disk {T = Vec ℕ Global} g old.0 new.0 (Err e) m.keeps;
+    leaks = λ safe free whole. leaks-kept g {T = Vec ℕ Global} old.0 new.0 (Err e) m.keeps;
     below = m.below;
     ok = tt;
     err = (refl, quiet-marked {T = Vec ℕ Global} old.0 new.0 e m.keeps, m.err);
@@ -233,6 +243,8 @@ module _ {S : Type 0} (g : Ghosts S) where
     fresh-untold new e t = record {
       middle = new;
       keeps = keeps-disk-both g ⊤ (IsMild e) old.0 first new tt made (keeps-image-disk {T = Option ℕ} g first new (Err e) t.keeps);
+      leaks = λ safe free whole. leaks-both g old.0 first new (leaks-kept g {T = Vec ℕ Global} old.0 first (Ok content) m.keeps)
+          (leaks-kept g {T = Option ℕ} first new (Err e) t.keeps);
       below = looked_under_weaker u ⊤ (IsMild e) old.1 y (λ mild. tt) m.below;
       ok = tt;
       err = (
@@ -259,6 +271,10 @@ module _ {S : Type 0} (g : Ghosts S) where
         let there = (made u asked guest content old first y m).safely safe tt in
         record { safe = looked.safely safe tt; is = t.kept there.seen ∙ ap kept_by (sym (told.words there tt guest)) }
 
+    looked-leaks : KeepsLeaks g old.0 mid
+    looked-leaks = leaks-both g old.0 first mid (leaks-kept g {T = Vec ℕ Global} old.0 first (Ok content) m.keeps)
+        (leaks-kept g {T = Option ℕ} first mid (Ok kept) t.keeps)
+
     keeps-reserved : (ok : Type 0) (new : Qcow2 S g) → KeepsDiskWhere g (HasKept g guest kept mid) ok mid new → KeepsDisk g ok old.0 new
     keeps-reserved ok new k =
         keeps-disk-then g (IsSafe g old.0) (IsSafe g old.0) (HasKept g guest kept mid) ⊤ ok old.0 mid new tt (λ safe. safe) known-there looked k
@@ -268,6 +284,7 @@ module _ {S : Type 0} (g : Ghosts S) where
     fresh-unreserved new e r = record {
       middle = new;
       keeps = keeps-reserved (IsMild e) new r.keeps;
+      leaks = λ safe free whole. leaks-all g old.0 new (leaks-then g (λ c. 0) old.0 mid new looked-leaks (r.leaks (known-there safe) whole));
       below = looked_under_weaker u ⊤ (IsMild e) old.1 y (λ mild. tt) m.below;
       ok = tt;
       err = (
@@ -296,6 +313,9 @@ module _ {S : Type 0} (g : Ghosts S) where
       fresh-done mapping new holds = record {
         middle = middle;
         keeps = keeps-reserved ⊤ middle r.keeps;
+        leaks = λ safe free whole. leaks-held g (first_part h asked) clusters old.0 middle new mapping
+            (leaks-then g (reserved_as clusters.is_kept clusters.host) old.0 mid middle looked-leaks (r.leaks (known-there safe) tt)) holds
+            (r.keeps.unspent ∙ looked.unspent ∙ free);
         below = m.below;
         ok = record {
           clusters = clusters;
@@ -356,11 +376,17 @@ module _ {S : Type 0} (g : Ghosts S) where
           cause = λ safe under. why-behind-copy (first_part was asked) y e safe (at-was.cause (looked-on.safely safe tt) under);
         }
 
+    leaks-behind : (result : Result (PreparedDataMapping PreparedMappingState) Fault) (new : Qcow2 S g) (y : B)
+        → PreparesFresh g u asked (mid, x) result (new, y) → IsSafe g old → old.unspent ≡ None → WasNotCutOff result → KeepsLeaks g old new
+    leaks-behind result new y p safe free whole = leaks-both g old mid new (leaks-kept g {T = T} old mid (Ok v) k)
+        (p.leaks (looked-on.safely safe tt) (k.unspent ∙ free) whole)
+
     pub fresh-behind : (result : Result (PreparedDataMapping PreparedMappingState) Fault) (new : Qcow2 S g) (y : B)
         → PreparesFresh g u asked (mid, x) result (new, y) → PreparesFresh g u asked (old, x) result (new, y)
     fresh-behind (Ok mapping) new y p = record {
       middle = p.middle;
       keeps = keeps-disk-both g ⊤ ⊤ old mid p.middle tt looked-on p.keeps;
+      leaks = leaks-behind (Ok mapping) new y p;
       below = p.below;
       ok = holds-behind p.middle new mapping p.ok;
       err = tt;
@@ -368,6 +394,7 @@ module _ {S : Type 0} (g : Ghosts S) where
     fresh-behind (Err e) new y p = record {
       middle = p.middle;
       keeps = keeps-disk-both g ⊤ (IsMild e) old mid p.middle tt looked-on p.keeps;
+      leaks = leaks-behind (Err e) new y p;
       below = p.below;
       ok = tt;
       err = (

@@ -30,7 +30,9 @@ use Rattle.qcow2_types.specs.Entries.{entry, l2_table}
 use Rattle.qcow2_types.specs.Consistency.{IsConsistent}
 use Rattle.qcow2_types.specs.Frames.{Outside, Kept, nothing}
 use Rattle.qcow2_types.proofs.Consistent.{header-reading}
-use Rattle.qcow2_types.proofs.DataSteps.{untouched-keeps}
+use Rattle.qcow2_types.specs.Counts.{count}
+use Rattle.qcow2_types.specs.References.{refs}
+use Rattle.qcow2_types.proofs.DataSteps.{untouched-counts, untouched-keeps, untouched-references}
 use Rattle.qcow2_metadata.specs.Tables.{TableValue, words_in}
 use Rattle.qcow2_alloc.specs.declared.async_lru_cache.Slot.{Slot}
 use Rattle.qcow2_alloc.specs.Caches.{cached_in}
@@ -43,6 +45,7 @@ use Rattle.qcow2_image.specs.declared.qcow2.Qcow2.{Qcow2}
 use Rattle.qcow2_image.specs.declared.tables.Tables.{Tables}
 use Rattle.qcow2_image.specs.declared.unspent.Unspent.{Unspent}
 use Rattle.qcow2_image.specs.Holding.{Holding, IsHeld, Notes, claim_held, held_with, homes_with}
+use Rattle.qcow2_image.specs.Leaking.{KeepsLeaks, counts_in, names_in, waiting_in}
 use Rattle.qcow2_image.specs.ImageLayer.{blank_of, cells, home_by, homes, meaning_of, qcow2_fixed, qcow2_meaning}
 use Rattle.qcow2_image.specs.Homes.{mapped, memory_is}
 use Rattle.qcow2_clusters.specs.Naming.{TakesNone}
@@ -58,6 +61,7 @@ use Rattle.qcow2_image.specs.Steps.{KeepsImage}
 use Rattle.qcow2_image.specs.contracts.qcow2.Qcow2Seen.TheImpl.{ghosts}
 use Rattle.imago_access.specs.declared.seen.Seen.{Ghosts as SeenGhosts}
 use Rattle.qcow2_image.specs.declared.qcow2.PreparedMappingState.{PreparedMappingState}
+use Rattle.qcow2_image.proofs.Leaks.{noted-reserved}
 use Rattle.qcow2_image.proofs.Noted.{IsWrittenIn, held-beside, held-range, held-still, noted-claim, noted-homes, unshown-in, written-at, written-in}
 use Rattle.qcow2_image.proofs.Rewriting.{IsWrittenAt, written-beside, rewritten-kept, rewritten-consistent, rewritten-entries, rewritten-others, rewritten-range, kept-l1-words, kept-l2-words, kept-l1-sound}
 
@@ -514,6 +518,18 @@ module _ (R : RattleType) (st : Ghosts R.Denot) (sd : mir.Syntax.Dict) (dd : mir
       writable = λ some. subst IsTrue (sym (ap (λ (m : OpenMode). m.writable) mode-same)) (safe.writable (some-old some));
     }
 
+    -- What is counted and named is what was.
+    pub leaks-written : KeepsLeaks st old new
+    leaks-written c =
+        let h = H.fields in
+        let f = file_of st old.tables in
+        let kept = rewritten-kept f H safe.consistent guest place (length bytes) (each-of safe) x off in
+        let counts : counts_in st new c ≡ counts_in st old c = (λ i. count x (header-same i).fields c) ∙ untouched-counts f x H safe.consistent kept c in
+        let names : names_in st new c ≡ names_in st old c = (λ i. refs x (header-same i).fields c) ∙ untouched-references f x H safe.consistent kept c in
+        let waits : waiting_in new.tables.space c ≡ waiting_in old.tables.space c = ap (λ o. waiting_in o c) space-same in
+        let held = noted-reserved guest (length bytes) hold hold' notes c in
+        omega (arith, counts, names, waits, held)
+
     -- What is allocated is what was.
     as-was : (P : Mapping → Type 0) (p : ℕ) → P (entry (memory_of st old.tables) H.fields (p / cluster_size H.fields))
         → P (entry (memory_of st new.tables) new.tables.file.header.fields (p / cluster_size new.tables.file.header.fields))
@@ -568,6 +584,13 @@ module _ (R : RattleType) (st : Ghosts R.Denot) (sd : mir.Syntax.Dict) (dd : mir
   safely-written : (r : Result Unit Fault) → Answer r → Noted r → new.failed ≡ is_err r → WasNotCutOff r → IsSafe st old → IsSafe st new
   safely-written (Ok v) answer told failed whole safe = safe-written answer safe failed told
   safely-written (Err e) answer told failed whole safe = absurd (never-mild t.faults u.faults e answer.cause whole)
+
+  leaks-of : (r : Result Unit Fault) → Answer r → Noted r → new.failed ≡ is_err r → IsSafe st old → WasNotCutOff r → KeepsLeaks st old new
+  leaks-of (Ok v) answer told failed safe whole = leaks-written answer safe failed told
+  leaks-of (Err e) answer told failed safe whole = absurd (never-mild t.faults u.faults e answer.cause whole)
+
+  pub written-leaks : IsSafe st old → WasNotCutOff result → KeepsLeaks st old new
+  written-leaks = leaks-of result w.put.answer w.notes w.failed
 
   began-written : (r : Result Unit Fault) → Answer r → Noted r → new.failed ≡ is_err r → (d : Qcow2 R.Denot st) (call : Call) → sees.began d call old → OnOk r (sees.began d call new)
   began-written (Ok v) answer told failed d call begun = λ safe.

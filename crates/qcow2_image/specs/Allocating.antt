@@ -15,8 +15,10 @@ use Rattle.qcow2_types.specs.Words.{Mapping, damaged, data_at, is_copied, packed
 use Rattle.qcow2_types.specs.Words as words
 use Rattle.qcow2_metadata.specs.Places.{IsInReach}
 use Rattle.qcow2_steps.specs.Words.{IsReserved}
+use Rattle.qcow2_clusters.specs.Storing.{handed_by}
 use Rattle.qcow2_image.specs.Holding.{IsOwnAs, place_in}
 use Rattle.qcow2_image.specs.KeepsDisk.{KeepsDisk, KeepsDiskWhere}
+use Rattle.qcow2_image.specs.Leaking.{KeepsLeaks, KeepsLeaksBut, reserved_by}
 use Rattle.qcow2_image.specs.Looking.{WhyNotLooked}
 use Rattle.qcow2_image.specs.Rooms.{IsSafe, IsUntouched, rest_of}
 use Rattle.qcow2_image.specs.Seen.{IsSeen, file_of}
@@ -113,6 +115,7 @@ WhyNotAllocated g old new fault = ⊥
 -- nothing changes.
 pub record LoadsSpace {S : Type 0} (g : Ghosts S) (old : Qcow2 S g) (result : Result Unit Fault) (new : Qcow2 S g) : Type 0 where
   pub keeps : KeepsDisk g (WasNotCutOff result) old new
+  pub leaks : KeepsLeaks g old new
   pub known : OnOk result (IsSome new.tables.space)
   pub stays : IsSome old.tables.space → new ≡ old
   pub same : OnErr result (KeepsImage g old result new)
@@ -128,6 +131,7 @@ HasOwnTable g guest t = let h = t.file.header.fields in
 -- The L1 table has a word at this index then.
 pub record EnsuresWord {S : Type 0} (g : Ghosts S) (i : ℕ) (old : Qcow2 S g) (result : Result Unit Fault) (new : Qcow2 S g) : Type 0 where
   pub keeps : KeepsDisk g (WasNotCutOff result) old new
+  pub leaks : IsSafe g old → WasNotCutOff result → KeepsLeaks g old new
   pub marks : new.failed ≡ failed_cut result old.failed
   pub known : IsSome old.tables.space → IsSome new.tables.space
   pub inside : OnOk result (i < length new.tables.l1.words)
@@ -136,6 +140,7 @@ pub record EnsuresWord {S : Type 0} (g : Ghosts S) (i : ℕ) (old : Qcow2 S g) (
 -- An L2 table of its own is over a guest cluster then.
 pub record EnsuresTable {S : Type 0} (g : Ghosts S) (guest : ℕ) (old : Qcow2 S g) (result : Result ℕ Fault) (new : Qcow2 S g) : Type 0 where
   pub keeps : KeepsDisk g (WasNotCutOff result) old new
+  pub leaks : IsSafe g old → WasNotCutOff result → KeepsLeaks g old new
   pub marks : new.failed ≡ failed_cut result old.failed
   pub known : IsSome old.tables.space → IsSome new.tables.space
   pub there : IsSafe g old → IsSome old.tables.space → let h = new.tables.file.header.fields in
@@ -155,6 +160,7 @@ pub record KeepsTop {S : Type 0} (g : Ghosts S) (sure : Type 0) (old new : Qcow2
 pub record StoresContent {S : Type 0} (g : Ghosts S) (bytes : List ℕ) (old : Qcow2 S g) (result : Result ℕ Fault) (new : Qcow2 S g)
     : Type 0 where
   pub keeps : KeepsDisk g (WasNotCutOff result) old new
+  pub leaks : IsSafe g old → WasNotCutOff result → KeepsLeaksBut g (handed_by result) old new
   pub marks : new.failed ≡ failed_cut result old.failed
   pub top : KeepsTop g (IsSafe g old × WasNotCutOff result) old new
   pub named : IfOk result (λ x. (x ≢ 0) × IsInReach old.tables.file.header.fields.cluster_bits x)
@@ -168,6 +174,7 @@ pub record StoresContent {S : Type 0} (g : Ghosts S) (bytes : List ℕ) (old : Q
 pub record FillsContent {S : Type 0} (g : Ghosts S) (guest host : ℕ) (bytes : List ℕ) (old : Qcow2 S g) (result : Result Unit Fault)
     (new : Qcow2 S g) : Type 0 where
   pub keeps : KeepsDiskWhere g (HasKept g guest (Some host) old) (WasNotCutOff result) old new
+  pub leaks : HasKept g guest (Some host) old → WasNotCutOff result → KeepsLeaks g old new
   pub marks : new.failed ≡ failed_cut result old.failed
   pub top : KeepsTop g (HasKept g guest (Some host) old × WasNotCutOff result) old new
   pub space : new.tables.space ≡ old.tables.space
@@ -181,6 +188,7 @@ pub record FillsContent {S : Type 0} (g : Ghosts S) (guest host : ℕ) (bytes : 
 pub record PlacesContent {S : Type 0} (g : Ghosts S) (guest : ℕ) (kept : Option ℕ) (bytes : List ℕ) (old : Qcow2 S g)
     (result : Result (ℕ × Bool) Fault) (new : Qcow2 S g) : Type 0 where
   pub keeps : KeepsDiskWhere g (HasKept g guest kept old) (WasNotCutOff result) old new
+  pub leaks : HasKept g guest kept old → WasNotCutOff result → KeepsLeaksBut g (reserved_by result) old new
   pub marks : new.failed ≡ failed_cut result old.failed
   pub top : KeepsTop g (HasKept g guest kept old × WasNotCutOff result) old new
   pub near : IfOk result (λ r. IsInReach old.tables.file.header.fields.cluster_bits r.0)
@@ -207,6 +215,7 @@ waits_in (Some space) = not (length space.to_free.entries == 0)
 -- What waits to be freed is freed: nothing waits then. Where nothing does, nothing is done.
 pub record FreesPending {S : Type 0} (g : Ghosts S) (old : Qcow2 S g) (result : Result Unit Fault) (new : Qcow2 S g) : Type 0 where
   pub keeps : KeepsDisk g (WasNotCutOff result) old new
+  pub leaks : IsSafe g old → WasNotCutOff result → KeepsLeaks g old new
   pub marks : new.failed ≡ failed_cut result old.failed
   pub idle : IsUntouched g old → (result ≡ Ok tt) × (new ≡ old)
   pub emptied : OnOk result (waits_in new.tables.space ≡ false)
@@ -215,6 +224,7 @@ pub record FreesPending {S : Type 0} (g : Ghosts S) (old : Qcow2 S g) (result : 
 -- What waits is freed, and the file is flushed.
 pub record FlushesFreed {S : Type 0} (g : Ghosts S) (old : Qcow2 S g) (result : Result Unit Fault) (new : Qcow2 S g) : Type 0 where
   pub keeps : KeepsDisk g (WasNotCutOff result) old new
+  pub leaks : IsSafe g old → WasNotCutOff result → KeepsLeaks g old new
   pub marks : new.failed ≡ failed_cut result old.failed
   pub emptied : OnOk result (waits_in new.tables.space ≡ false)
   pub cause : IfErr result (WhyNotFreed g old new)

@@ -12,6 +12,7 @@ pub mod Homes
 pub mod HeldHomes
 pub mod Writing
 pub mod KeepsDisk
+pub mod Leaking
 pub mod Allocating
 pub mod Committing
 pub mod Filling

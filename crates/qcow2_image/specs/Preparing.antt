@@ -1,5 +1,5 @@
 -- How a mapping is prepared for a guest cluster that has no host cluster of its own.
-use Rattle.std.specs.Prelude.{◌≡◌, ◌≢◌, ◌⊎◌, ⊤, ℕ, ◌+◌, ◌-◌, ◌*◌, ◌/◌, ◌%◌, ◌<◌, min, Bool, false, List, length, slice_index, Option, Some, IsTrue, IfSome, is_some, Result, Err, IfOk, IfErr}
+use Rattle.std.specs.Prelude.{◌≡◌, ◌≢◌, ◌⊎◌, ⊤, ℕ, ◌+◌, ◌-◌, ◌*◌, ◌/◌, ◌%◌, ◌<◌, min, Bool, false, List, length, slice_index, Option, Some, None, IsTrue, IfSome, is_some, Result, Err, IfOk, IfErr}
 use Rattle.imago_storage.specs.declared.fault.Fault.{Fault}
 use Rattle.imago_storage.specs.declared.fault.Fault.TheVariants.{Memory, Storage}
 use Rattle.imago_storage.specs.declared.storage.Storage.{Ghosts}
@@ -17,6 +17,7 @@ use Rattle.qcow2_image.specs.Allocating.{HasKept, HasOwnTable, WhyNotReserved}
 use Rattle.qcow2_image.specs.Filling.{IsInFirst, IsLeft, RefusesCopy}
 use Rattle.qcow2_image.specs.Holding.{Holding, IsOwnAs, place_in}
 use Rattle.qcow2_image.specs.KeepsDisk.{KeepsDisk, KeepsDiskWhere}
+use Rattle.qcow2_image.specs.Leaking.{KeepsLeaks, KeepsLeaksBut, reserved_with}
 use Rattle.qcow2_image.specs.Rooms.{IsSafe, rest_of}
 use Rattle.qcow2_image.specs.Seen.{file_of, layer_of}
 use Rattle.qcow2_image.specs.Steps.{KeepsImage}
@@ -52,6 +53,7 @@ pub record IsReservedFor {S : Type 0} (g : Ghosts S) (guest : ℕ) (r : Reserved
 pub record Reserves {S : Type 0} (g : Ghosts S) (guest : ℕ) (kept : Option ℕ) (content : List ℕ) (old : Qcow2 S g)
     (result : Result Reserved Fault) (new : Qcow2 S g) : Type 0 where
   pub keeps : KeepsDiskWhere g (HasKept g guest kept old) (WasNotCutOff result) old new
+  pub leaks : HasKept g guest kept old → WasNotCutOff result → KeepsLeaksBut g (reserved_with result) old new
   pub marked : IfErr result (LeavesMarked g old new)
   pub near : IfOk result (λ r. IsInReach old.tables.file.header.fields.cluster_bits r.host)
   pub which : IfOk result (λ r. (r.is_kept ≡ is_some kept) × IfSome kept (λ host. r.host ≡ host))
@@ -115,6 +117,7 @@ pub record PreparesFresh {S B : Type 0} (g : Ghosts S) (u : GhostsBelow B) (aske
     (result : Result (PreparedDataMapping PreparedMappingState) Fault) (new : Qcow2 S g × B) : Type 0 where
   pub middle : Qcow2 S g
   pub keeps : KeepsDisk g (WasNotCutOff result) old.0 middle
+  pub leaks : IsSafe g old.0 → old.0.unspent ≡ None → WasNotCutOff result → KeepsLeaks g old.0 new.0
   pub below : LookedUnder u (WasNotCutOff result) old.1 new.1
   pub ok : IfOk result (λ mapping. HoldsFresh g u asked old middle mapping new.0)
   pub err : IfErr result (λ fault. (new.0 ≡ middle) × LeavesMarked g old.0 middle fault

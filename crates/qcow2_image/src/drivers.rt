@@ -6,7 +6,7 @@ ghost use Rattle.imago_storage.specs.Calls.{Mixed};
 ghost use Rattle.imago_storage.specs.declared.fault.Fault.TheVariants.{Limit};
 ghost use Rattle.imago_access.specs.Changes.{asking};
 ghost use Rattle.imago_access.specs.Failing.{Fails, RefusesFlush, RefusesLookup, RefusesRead, RefusesReload};
-ghost use Rattle.imago_access.specs.Files.{AreRead, IsKept, IsStale, OverflowsIn, Pairs, WasNotCutOff, files};
+ghost use Rattle.imago_access.specs.Files.{AreRead, IsKept, IsMild, IsStale, OverflowsIn, Pairs, WasNotCutOff, files};
 ghost use Rattle.imago_access.specs.Going.{AtOnce, KeepsWhatIsFlushed, Looked, LookedUnder, Marks, RangeAtOnce, Went};
 ghost use Rattle.imago_access.specs.Layer.{IsFree, IsLike, Layer};
 ghost use Rattle.imago_access.specs.Mappings.{IsMappedRun, IsOneOf, IsRun, LooksIn, NamesRoomIn, States};
@@ -17,6 +17,7 @@ ghost use Rattle.qcow2_types.specs.Bytes.{bytes_of};
 ghost use Rattle.qcow2_types.specs.Header.{cluster_size};
 ghost use Rattle.qcow2_image.specs.Allocating.{waits_in};
 ghost use Rattle.qcow2_image.specs.ImageLayer.{blanks};
+ghost use Rattle.qcow2_image.specs.Leaking.{KeepsLeaks};
 ghost use Rattle.qcow2_image.specs.Looking.{IsWholeRunIn, answer_at};
 ghost use Rattle.qcow2_image.specs.HeldHomes.{free_loose, one_home, says_room};
 ghost use Rattle.qcow2_image.specs.Unspent.{holding_in};
@@ -227,6 +228,8 @@ impl<S: Storage> FormatDriverInstance for Qcow2<S> {
         // It is refused with a limit only where the first place can't be written.
         ensures limit { let d = ⟦<Qcow2<S> as Seen>⟧ in
             d.sees self.old → IfErr result (λ e. (n : _) → e ≡ Limit n → (d.layer self.old).home offset ≡ None) }
+        // A cluster that it reserves is pending then, and what is pending leaks no more than it did.
+        ensures leaks { ⟦<Qcow2<S> as Seen>⟧.safe self.old → WasNotCutOff result → KeepsLeaks S.Storage self.old self.new }
     {
         if self.failed {
             return Err(Fault::Failed);
@@ -252,6 +255,8 @@ impl<S: Storage> FormatDriverInstance for Qcow2<S> {
     ) -> Result<(), (Fault, Option<PreparedDataMapping<PreparedMappingState>>)>
         ensures commits { Commits ⟦<Qcow2<S> as Seen>⟧ mapping.state result self.old self.new }
         ensures refused { CommitRefused ⟦<Qcow2<S> as Seen>⟧ mapping result self.old self.new }
+        // What it comes to name isn't pending any more, and what it named before is.
+        ensures leaks { ⟦<Qcow2<S> as Seen>⟧.safe self.old → IfErr result (λ e. IsMild e.0) → KeepsLeaks S.Storage self.old self.new }
     {
         let storage = mapping.storage();
         let offset = mapping.offset();
@@ -283,6 +288,8 @@ impl<S: Storage> FormatDriverInstance for Qcow2<S> {
         mapping: PreparedDataMapping<PreparedMappingState>,
     ) -> Result<(), (Fault, PreparedDataMapping<PreparedMappingState>)>
         ensures cancels { Cancels ⟦<Qcow2<S> as Seen>⟧ mapping result self.old self.new }
+        // A cluster that was reserved waits to be freed then.
+        ensures leaks { ⟦<Qcow2<S> as Seen>⟧.safe self.old → KeepsLeaks S.Storage self.old self.new }
     {
         let storage = mapping.storage();
         let offset = mapping.offset();
@@ -313,6 +320,8 @@ impl<S: Storage> FormatDriverInstance for Qcow2<S> {
         // Its file is as it was, but for these bytes at their place: each of them is there, or what was.
         ensures file { let s = S.state self.old.tables.file.image in
             IsTrue s.shape.keeps → Mixed s.bytes place bytes.now (S.state self.new.tables.file.image).bytes }
+        // Nothing comes to be counted, named or pending.
+        ensures leaks { ⟦<Qcow2<S> as Seen>⟧.safe self.old → WasNotCutOff result → KeepsLeaks S.Storage self.old self.new }
     {
         if self.failed {
             return Err(Fault::Failed);
@@ -391,6 +400,8 @@ impl<S: Storage> FormatDriverInstance for Qcow2<S> {
         ensures marked { IsUntouched S.Storage self.old → self.new.failed ≡ failed_behind failed_by result self.old.failed }
         // Where it succeeds nothing waits to be freed any more.
         ensures freed { OnOk result (waits_in self.new.tables.space ≡ false) }
+        // What was pending is freed, and leaks no more than it did.
+        ensures leaks { ⟦<Qcow2<S> as Seen>⟧.safe self.old → WasNotCutOff result → KeepsLeaks S.Storage self.old self.new }
     {
         if self.failed {
             return Err(Fault::Failed);

@@ -1,13 +1,19 @@
-//! What the layer of a qcow2 image shows, by the format.
-//! The function does nothing, and its contract is what was proved of the definitions.
+//! What the layer of a qcow2 image shows, by the format, and what its calls leak together.
+//! The functions do nothing, and their contracts are what was proved of the definitions.
 
-ghost use Rattle.std.specs.Prelude.{◌≡◌, ◌<◌, ℕ, List, false, Ok};
+ghost use Rattle.std.specs.Prelude.{◌≡◌, ◌<◌, ◌+◌, ℕ, List, false, Ok};
 ghost use Rattle.imago_storage.specs.Disk.{Value};
-ghost use Rattle.imago_access.specs.Layer.{Cell, through};
+ghost use Rattle.imago_access.specs.Layer.{Cell, IsFree, through};
 ghost use Rattle.qcow2_types.specs.Bytes.{Bytes, bytes_of};
 ghost use Rattle.qcow2_types.specs.Disk.{in_qcow2, size_in_header};
 ghost use Rattle.qcow2_types.specs.Header.{Header, has_external_data, header_of};
+ghost use Rattle.qcow2_image.specs.Allocating.{waits_in};
 ghost use Rattle.qcow2_image.specs.ImageLayer.{qcow2_meaning};
+ghost use Rattle.qcow2_image.specs.Leaking.{KeepsLeaks, counts_in, names_in, pending};
+ghost use Rattle.qcow2_image.specs.Opening.{IsOpenedAs};
+ghost use Rattle.qcow2_image.specs.Seen.{layer_of};
+
+use imago_storage::Storage;
 
 /// The layer of an image with its data in its file has the size, and shows at each place of its disk, what the format says of that file,
 /// above what is below: where no table maps a place, that is what the layer says of such, or what is below it.
@@ -16,4 +22,17 @@ pub fn layers_show_what_images_do()
     ensures shown { (blank : Cell) (file : List ℕ) (external : Bytes) (H : Header) (p : ℕ) (below : Value)
         → header_of false (bytes_of file) ≡ Ok H → has_external_data H.fields ≡ false → p < H.fields.size
         → through ((qcow2_meaning blank file).cell p) below ≡ in_qcow2 (bytes_of file) external (Ok H) p (through blank below) }
+{}
+
+/// Calls that keep the leaks of an image keep them together. Where nothing is pending before and behind them, each cluster is counted beyond
+/// what names it as often as it was: the image leaks what it did. Nothing is pending right after
+/// it was opened, and where nothing waits to be freed and nothing is prepared.
+pub fn leaks_add_up<S: Storage>()
+    ensures both { (a b c : _) → KeepsLeaks S.Storage a b → KeepsLeaks S.Storage b c → KeepsLeaks S.Storage a c }
+    ensures alike { (old new : _) → KeepsLeaks S.Storage old new → ((c : ℕ) → pending S.Storage old c ≡ 0)
+        → ((c : ℕ) → pending S.Storage new c ≡ 0)
+        → (c : ℕ) → counts_in S.Storage new c + names_in S.Storage old c ≡ counts_in S.Storage old c + names_in S.Storage new c }
+    ensures opened { (before writable backing number tables blocks d : _)
+        → IsOpenedAs S.Storage before writable backing number tables blocks d → (c : ℕ) → pending S.Storage d c ≡ 0 }
+    ensures none { (d : _) → waits_in d.tables.space ≡ false → IsFree (layer_of S.Storage d) → (c : ℕ) → pending S.Storage d c ≡ 0 }
 {}

@@ -3,6 +3,7 @@ use Rattle.imago_access.specs.PreparingCalls.{Commits}
 use Rattle.qcow2_image.specs.declared.qcow2.PreparedMappingState.{PreparedMappingState}
 use Rattle.qcow2_image.specs.contracts.qcow2.Qcow2Seen.TheImpl.{ghosts}
 use Rattle.qcow2_image.proofs.Spent.{commits-by, refused-by}
+use Rattle.qcow2_image.proofs.SpentLeaks.{commit-leaks}
 use Rattle.qcow2_image.proofs.drivers.Qcow2FormatDriverInstance.commit_data_mapping.Goals as goal
 
 pub returns-in-Ok-clause-commits : goal.returns-in-Ok-clause-commits
@@ -16,3 +17,7 @@ pub returns-in-Ok-clause-refused : goal.returns-in-Ok-clause-refused
 returns-in-Ok-clause-refused g c =
     refused-by g.row.S g.S.Storage g.S.Storage-dict g.S.Destruct-dict c.in-Some.state c.args.self.now c.commit_unspent.new.self c.in-Ok.ensures.own
     c.args.mapping (sym c.into_state.ensures ∙ c.in-Some.is) c.in-Ok.ensures.ok c.commit_unspent.result c.commit_unspent.ensures
+
+pub returns-in-Ok-clause-leaks : goal.returns-in-Ok-clause-leaks
+returns-in-Ok-clause-leaks g c =
+    commit-leaks g.S.Storage c.in-Some.state.claim c.args.self.now c.commit_unspent.new.self c.commit_unspent.result c.commit_unspent.ensures

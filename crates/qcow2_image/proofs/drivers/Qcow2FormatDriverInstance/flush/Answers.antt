@@ -7,6 +7,7 @@ use Rattle.qcow2_image.specs.Unspent.{holding_in}
 use Rattle.qcow2_image.proofs.ClusterSteps.{idle-waits}
 use Rattle.qcow2_image.proofs.Flushing.{freed-cause, freed-failed, freed-like, freed-marks, freed-sees, freed-went, freed-written}
 use Rattle.qcow2_image.proofs.Anew.{on-ok}
+use Rattle.qcow2_image.proofs.Leaks.{leaks-asked}
 use Rattle.qcow2_image.proofs.Settling.{asked-keeps, counted-faultless, meant, ok-whole}
 use Rattle.qcow2_image.proofs.Steps.{looked-kept, marks-kept}
 use Rattle.qcow2_image.proofs.drivers.Qcow2FormatDriverInstance.flush.Goals as goal
@@ -122,3 +123,13 @@ returns-then-has_waiting-clause-marked g c =
 
 pub returns-then-has_waiting-clause-freed : goal.returns-then-has_waiting-clause-freed
 returns-then-has_waiting-clause-freed g c = c.flush_freed.ensures.emptied
+
+pub returns-clause-leaks : goal.returns-clause-leaks
+returns-clause-leaks g c = λ safe whole.
+    let is = c.settle.ensures.marks in
+    leaks-asked g.S.Storage c.args.self.now c.settle.new.self (g.S.Storage.state c.flush-answer.new.self) c.flush-answer.ensures.kept
+    (ap (λ (x : Qcow2 g.row.S.Denot g.S.Storage). g.S.Storage.state x.tables.file.image) is) (ap (λ (x : Qcow2 g.row.S.Denot g.S.Storage). x.tables.file.header) is)
+    (ap (λ (x : Qcow2 g.row.S.Denot g.S.Storage). x.tables.space) is) (ap (λ (x : Qcow2 g.row.S.Denot g.S.Storage). x.unspent) is)
+
+pub returns-then-has_waiting-clause-leaks : goal.returns-then-has_waiting-clause-leaks
+returns-then-has_waiting-clause-leaks g c = λ safe whole. c.flush_freed.ensures.leaks safe whole

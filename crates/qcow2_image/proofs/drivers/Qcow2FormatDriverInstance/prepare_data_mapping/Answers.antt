@@ -1,4 +1,4 @@
-use Rattle.std.proofs.Common.{◌≡◌, ℕ, ◌∙◌, Option, None, arith}
+use Rattle.std.proofs.Common.{◌≡◌, ℕ, ◌∙◌, Option, None, Ok, Err, arith}
 use Rattle.std.specs.Prelude.{⊤}
 use Rattle.imago_access.specs.Changes.{asking}
 use Rattle.imago_access.specs.Files.{IsMild}
@@ -7,6 +7,7 @@ use Rattle.qcow2_image.specs.Looking.{IsWholeRunIn}
 use Rattle.qcow2_image.specs.Seen.{layer_of}
 use Rattle.qcow2_image.proofs.Prepared.{fresh-cut, fresh-free, fresh-mine, fresh-run, fresh-size, fresh-whole, limit-where, prepares-fresh, unspent-none}
 use Rattle.qcow2_image.proofs.Preparing.{part-why, prepares-mapped, prepares-refused}
+use Rattle.qcow2_image.proofs.Leaks.{leaks-kept}
 use Rattle.qcow2_image.proofs.Reserving.{fresh-behind}
 use Rattle.qcow2_image.proofs.drivers.Qcow2FormatDriverInstance.prepare_data_mapping.Goals as goal
 
@@ -132,3 +133,22 @@ returns-in-Ok-None-clause-part g c =
 pub returns-in-Ok-None-clause-limit : goal.returns-in-Ok-None-clause-limit
 returns-in-Ok-None-clause-limit g c = λ sees. limit-where c.prepare_fresh.result ((layer_of g.S.Storage c.args.self.now).home c.args.offset ≡ None)
     (c.in-Ok-None.ensures.none sees.seen c.in-Ok-None.field-0-is)
+
+pub returns-in-Err-home_run-clause-leaks : goal.returns-in-Err-home_run-clause-leaks
+returns-in-Err-home_run-clause-leaks g c = λ safe whole. leaks-kept g.S.Storage {T = Option (ℕ × ℕ)} c.args.self.now c.home_run.new.self
+    (Err c.in-Err-home_run.fault) c.in-Err-home_run.ensures.keeps
+
+pub returns-in-Ok-Some-clause-leaks : goal.returns-in-Ok-Some-clause-leaks
+returns-in-Ok-Some-clause-leaks g c = λ safe whole. leaks-kept g.S.Storage {T = Option (ℕ × ℕ)} c.args.self.now c.home_run.new.self
+    (Ok c.in-Ok-Some.field-0) c.in-Ok-Some.ensures.keeps
+
+pub returns-in-Ok-None-clause-leaks : goal.returns-in-Ok-None-clause-leaks
+returns-in-Ok-None-clause-leaks g c =
+    let st = g.S.Storage in
+    let asked = asking c.args.offset c.args.length c.args.overwrite in
+    let u = g.B.SeenBelow in
+    let x = c.args.below.now in
+    let y = c.prepare_fresh.new.below in
+    let looked = rw c.in-Ok-None.field-0-is at c.in-Ok-None.ensures.keeps in
+    let fresh = fresh-behind st {T = Option (ℕ × ℕ)} u asked c.args.self.now c.home_run.new.self x None looked c.prepare_fresh.result c.prepare_fresh.new.self y c.prepare_fresh.ensures in
+    λ safe whole. fresh.leaks safe (unspent-none st c.args.self.now.unspent c.requires.free) whole

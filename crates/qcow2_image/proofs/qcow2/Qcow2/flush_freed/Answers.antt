@@ -7,6 +7,7 @@ use Rattle.qcow2_image.specs.Allocating.{FlushesFreed, failed_cut}
 use Rattle.qcow2_image.specs.KeepsDisk.{KeepsDisk}
 use Rattle.qcow2_image.specs.declared.qcow2.Qcow2.{Qcow2}
 use Rattle.qcow2_image.proofs.Flushing.{flushes-freed, requested}
+use Rattle.qcow2_image.proofs.Leaks.{leaks-asked}
 use Rattle.qcow2_image.proofs.qcow2.Qcow2.flush_freed.Goals as goal
 
 pub returns : goal.returns
@@ -29,5 +30,7 @@ returns g c =
     answer c.flush-answer.ensures.faults failed in
     subst (λ (r : Result Unit Fault). FlushesFreed g.S.Storage q r d) (sym same)
     (flushes-freed g.S.Storage q m d answer (rw c.in-Ok.is at c.free_pending.ensures) keeps
+    (leaks-asked g.S.Storage m d t c.flush-answer.ensures.kept state (ap (λ (x : Qcow2 g.row.S.Denot g.S.Storage). x.tables.file.header) is)
+    (ap (λ (x : Qcow2 g.row.S.Denot g.S.Storage). x.tables.space) is) (ap (λ (x : Qcow2 g.row.S.Denot g.S.Storage). x.unspent) is))
     (subst (λ (u : StorageState). CountsFaults (g.S.Storage.state m.tables.file.image).faults u.faults answer) (sym state) c.flush-answer.ensures.faults) failed
     (ap (λ (x : Qcow2 g.row.S.Denot g.S.Storage). x.tables.space) is))

@@ -1,0 +1,144 @@
+-- What calls leave of the leaks of an image.
+use Rattle.std.proofs.Common.{◌≡◌, ℕ, ◌+◌, arith, ap, sym, ◌∙◌, [], Option, Some, None, Result}
+use Rattle.imago_storage.specs.State.{StorageState}
+use Rattle.imago_storage.specs.Calls.{Kept}
+use Rattle.imago_storage.specs.declared.fault.Fault.{Fault}
+use Rattle.imago_storage.specs.declared.storage.Storage.{Ghosts}
+use Rattle.imago_access.specs.Changes.{Asked}
+use Rattle.imago_access.specs.declared.mapping.PreparedDataMapping.{PreparedDataMapping}
+use Rattle.qcow2_types.specs.Bytes.{Bytes, bytes_of}
+use Rattle.qcow2_types.specs.Counts.{count}
+use Rattle.qcow2_types.specs.References.{refs}
+use Rattle.qcow2_alloc.specs.FreeList.{listed}
+use Rattle.qcow2_alloc.specs.Quiet.{counted, referenced, waiting}
+use Rattle.qcow2_clusters.specs.Progress.{Kind, Progresses}
+use Rattle.qcow2_clusters.specs.declared.space.Space.{Space}
+use Rattle.qcow2_image.specs.Holding.{Holding, Notes}
+use Rattle.qcow2_image.specs.Leaking.{KeepsLeaks, KeepsLeaksBut, counts_in, names_in, pending, reserved_as, reserved_in, waiting_in}
+use Rattle.qcow2_image.specs.Preparing.{KeepsMapping}
+use Rattle.qcow2_image.specs.Rooms.{IsSafe, rest_of}
+use Rattle.qcow2_image.specs.Seen.{file_of}
+use Rattle.qcow2_image.specs.Steps.{KeepsImage}
+use Rattle.qcow2_image.specs.Unspent.{holding_in}
+use Rattle.qcow2_image.specs.declared.mappings.Reserved.{Reserved}
+use Rattle.qcow2_image.specs.declared.qcow2.PreparedMappingState.{PreparedMappingState}
+use Rattle.qcow2_image.specs.declared.qcow2.Qcow2.{Qcow2}
+use Rattle.qcow2_image.specs.declared.tables.Tables.{Tables}
+use Rattle.qcow2_image.proofs.KeepingDisks.{rest-memory, safe-sound}
+
+-- What was noted of a mapping is reserved as it was.
+pub noted-reserved : (at n : ℕ) (old new : Option Holding) → Notes at n old new → (c : ℕ) → reserved_in new c ≡ reserved_in old c
+noted-reserved at n None new notes c = ap (λ o. reserved_in o c) notes
+noted-reserved at n (Some hold) new notes c = ap (λ o. reserved_in o c) notes.1
+
+module _ {S : Type 0} (g : Ghosts S) where
+  -- They add up,
+  pub leaks-both : (a b c : Qcow2 S g) → KeepsLeaks g a b → KeepsLeaks g b c → KeepsLeaks g a c
+  leaks-both a b c first second d = let one = first d in let two = second d in omega (arith, one, two)
+
+  pub leaks-then : (reserved : ℕ → ℕ) (a b c : Qcow2 S g) → KeepsLeaks g a b → KeepsLeaksBut g reserved b c → KeepsLeaksBut g reserved a c
+  leaks-then reserved a b c first second d = let one = first d in let two = second d in omega (arith, one, two)
+
+  -- also where nothing is reserved.
+  pub leaks-but : (old new : Qcow2 S g) → KeepsLeaks g old new → KeepsLeaksBut g (λ c. 0) old new
+  leaks-but old new keeps c = let one = keeps c in omega (arith, one)
+
+  pub leaks-all : (old new : Qcow2 S g) → KeepsLeaksBut g (λ c. 0) old new → KeepsLeaks g old new
+  leaks-all old new keeps c = let one = keeps c in omega (arith, one)
+
+  -- Nothing was done.
+  pub leaks-idle : (old new : Qcow2 S g) → new ≡ old → KeepsLeaks g old new
+  leaks-idle old new is c =
+      ap (λ (d : Qcow2 S g). counts_in g d c + names_in g old c + pending g old c) is
+      ∙ sym (ap (λ (d : Qcow2 S g). counts_in g old c + names_in g d c + pending g d c) is)
+
+  -- A file that stays as it was leaks no more.
+  pub leaks-same : (old new : Qcow2 S g) → file_of g new.tables ≡ file_of g old.tables → new.tables.file.header ≡ old.tables.file.header
+      → ((c : ℕ) → pending g new c ≡ pending g old c) → KeepsLeaks g old new
+  leaks-same old new file header same c =
+      let counts : counts_in g new c ≡ counts_in g old c = λ i. count (file i) (header i).fields c in
+      let names : names_in g new c ≡ names_in g old c = λ i. refs (file i) (header i).fields c in
+      let more = same c in
+      omega (arith, counts, names, more)
+
+  -- Nor does a call that only looks,
+  pub leaks-kept : {T : Type 0} (old new : Qcow2 S g) (result : Result T Fault) → KeepsImage g old result new → KeepsLeaks g old new
+  leaks-kept old new result k = leaks-same old new (ap bytes_of k.tables.kept.bytes) k.tables.header
+      (λ c. λ i. waiting_in (k.tables.space i) c + reserved_in (holding_in g (k.unspent i)) c)
+
+  -- or a request that changes nothing.
+  pub leaks-asked : (old new : Qcow2 S g) (s' : StorageState) → Kept (g.state old.tables.file.image) s' → g.state new.tables.file.image ≡ s'
+      → new.tables.file.header ≡ old.tables.file.header → new.tables.space ≡ old.tables.space → new.unspent ≡ old.unspent → KeepsLeaks g old new
+  leaks-asked old new s' kept state header space unspent =
+      leaks-same old new (ap (λ (s : StorageState). bytes_of s.bytes) state ∙ ap bytes_of kept.bytes) header
+      (λ c. λ i. waiting_in (space i) c + reserved_in (holding_in g (unspent i)) c)
+
+  -- Free space that is loaded has nothing that waits.
+  pub leaks-loaded : (old new : Qcow2 S g) (space : Space) → old.tables.space ≡ None → new.tables.space ≡ Some space
+      → Kept (g.state old.tables.file.image) (g.state new.tables.file.image) → new.tables.file.header ≡ old.tables.file.header
+      → new.unspent ≡ old.unspent → space.to_free.entries ≡ [] → KeepsLeaks g old new
+  leaks-loaded old new space none there kept header unspent empty =
+      leaks-same old new (ap bytes_of kept.bytes) header (λ c.
+      let before : waiting_in old.tables.space c ≡ 0 = ap (λ o. waiting_in o c) none in
+      let after : waiting_in new.tables.space c ≡ 0 = ap (λ o. waiting_in o c) there ∙ ap (λ es. listed es c) empty in
+      let held : reserved_in (holding_in g new.unspent) c ≡ reserved_in (holding_in g old.unspent) c = ap (λ u. reserved_in (holding_in g u) c) unspent in
+      omega (arith, before, after, held))
+
+  -- A change of the clusters leaks what it hands out and doesn't take.
+  module _ (old new : Qcow2 S g) (space space' : Space) (there : old.tables.space ≡ Some space) (there' : new.tables.space ≡ Some space') where
+    abbrev now : Bytes
+    now = file_of g new.tables
+
+    abbrev was : Bytes
+    was = file_of g old.tables
+
+    waits-old : (c : ℕ) → waiting_in old.tables.space c ≡ listed space.to_free.entries c
+    waits-old c = ap (λ o. waiting_in o c) there
+
+    waits-new : (c : ℕ) → waiting_in new.tables.space c ≡ listed space'.to_free.entries c
+    waits-new c = ap (λ o. waiting_in o c) there'
+
+    pub advanced-leaks : (ok : Type 0) (kind : Kind) (reserved : ℕ → ℕ) → new.unspent ≡ old.unspent
+        → ((c : ℕ) → kind.handed c ≡ kind.taken c + reserved c)
+        → Progresses ok kind (g.state old.tables.file.image) (rest_of g old.tables space) (g.state new.tables.file.image) (rest_of g new.tables space')
+        → IsSafe g old → ok → KeepsLeaksBut g reserved old new
+    advanced-leaks ok kind reserved unspent given progress safe whole c =
+        let law = (progress.holds safe.keeps (safe-sound g old space there safe) whole).law c in
+        let h = old.tables.file.header.fields in
+        let h' = new.tables.file.header.fields in
+        let counts : counted (rest_of g old.tables space) c ≡ count was h c = ap (λ (b : Bytes). count b h c) (rest-memory g old.tables space) in
+        let counts' : counted (rest_of g new.tables space') c ≡ count now h' c = ap (λ (b : Bytes). count b h' c) (rest-memory g new.tables space') in
+        let names : referenced (rest_of g old.tables space) c ≡ refs was h c = ap (λ (b : Bytes). refs b h c) (rest-memory g old.tables space) in
+        let names' : referenced (rest_of g new.tables space') c ≡ refs now h' c = ap (λ (b : Bytes). refs b h' c) (rest-memory g new.tables space') in
+        let waits = waits-old c in
+        let waits' = waits-new c in
+        let held : reserved_in (holding_in g new.unspent) c ≡ reserved_in (holding_in g old.unspent) c = ap (λ u. reserved_in (holding_in g u) c) unspent in
+        let more = given c in
+        omega (arith, law, counts, counts', names, names', waits, waits', held, more)
+
+  -- What was reserved is held by the mapping that is prepared.
+  pub held-leaks : (asked : Asked) (clusters : Reserved) (old new : Qcow2 S g) (mapping : PreparedDataMapping PreparedMappingState)
+      → KeepsMapping g asked clusters old mapping new → old.unspent ≡ None → (c : ℕ)
+      → (counts_in g new c ≡ counts_in g old c) × (names_in g new c ≡ names_in g old c)
+      × (pending g new c ≡ pending g old c + reserved_as clusters.is_kept clusters.host c)
+  held-leaks asked clusters old new mapping holds free c =
+      let tables : new.tables ≡ old.tables = ap (λ (d : Qcow2 S g). d.tables) holds.now in
+      let held : reserved_in (holding_in g new.unspent) c ≡ reserved_as clusters.is_kept clusters.host c =
+      ap (λ (d : Qcow2 S g). reserved_in (holding_in g d.unspent) c) holds.now ∙ ap (λ (h : Holding). reserved_in (Some h) c) holds.holds in
+      let none : reserved_in (holding_in g old.unspent) c ≡ 0 = ap (λ u. reserved_in (holding_in g u) c) free in
+      let waits : waiting_in new.tables.space c ≡ waiting_in old.tables.space c = ap (λ (t : Tables S g). waiting_in t.space c) tables in (
+        ap (λ (t : Tables S g). count (file_of g t) t.file.header.fields c) tables,
+        ap (λ (t : Tables S g). refs (file_of g t) t.file.header.fields c) tables,
+        omega (arith, held, none, waits),
+      )
+
+  pub leaks-held : (asked : Asked) (clusters : Reserved) (old mid new : Qcow2 S g) (mapping : PreparedDataMapping PreparedMappingState)
+      → KeepsLeaksBut g (reserved_as clusters.is_kept clusters.host) old mid → KeepsMapping g asked clusters mid mapping new → mid.unspent ≡ None
+      → KeepsLeaks g old new
+  leaks-held asked clusters old mid new mapping but holds free c =
+      let one = but c in
+      let two = held-leaks asked clusters mid new mapping holds free c in
+      let counts = two.0 in
+      let names = two.1 in
+      let more = two.2 in
+      omega (arith, one, counts, names, more)

@@ -1,0 +1,59 @@
+-- What images leak: how often their clusters are counted beyond what names them, and beyond what is pending of them.
+use Rattle.std.specs.Prelude.{◌≡◌, ℕ, ◌+◌, Bool, true, false, Option, Some, None, Result, Ok, Err}
+use Rattle.imago_storage.specs.declared.fault.Fault.{Fault}
+use Rattle.imago_storage.specs.declared.storage.Storage.{Ghosts}
+use Rattle.qcow2_types.specs.Counts.{count}
+use Rattle.qcow2_types.specs.References.{refs}
+use Rattle.qcow2_alloc.specs.FreeList.{listed}
+use Rattle.qcow2_alloc.specs.Quiet.{one_at}
+use Rattle.qcow2_clusters.specs.declared.space.Space.{Space}
+use Rattle.qcow2_image.specs.Holding.{Holding}
+use Rattle.qcow2_image.specs.Seen.{file_of}
+use Rattle.qcow2_image.specs.Unspent.{holding_in}
+use Rattle.qcow2_image.specs.declared.qcow2.Qcow2.{Qcow2}
+use Rattle.qcow2_image.specs.declared.mappings.Reserved.{Reserved}
+
+-- how often what waits to be freed names a cluster
+abbrev pub waiting_in : Option Space → ℕ → ℕ
+waiting_in None c = 0
+waiting_in (Some space) c = listed space.to_free.entries c
+
+-- how often a cluster is reserved where this is the host cluster of a mapping: one that was kept for zeroes isn't, as a word names it
+abbrev pub reserved_as : (is_kept : Bool) → (host c : ℕ) → ℕ
+reserved_as true host c = 0
+reserved_as false host c = one_at host c
+
+abbrev pub reserved_in : Option Holding → ℕ → ℕ
+reserved_in None c = 0
+reserved_in (Some hold) c = reserved_as hold.is_kept hold.host c
+
+-- how often a cluster is pending: it waits to be freed, or is reserved for the mapping that is prepared
+abbrev pub pending : {S : Type 0} (g : Ghosts S) → Qcow2 S g → ℕ → ℕ
+pending g d c = waiting_in d.tables.space c + reserved_in (holding_in g d.unspent) c
+
+-- how often a cluster is counted in the file, and how often it is named there
+abbrev pub counts_in : {S : Type 0} (g : Ghosts S) → Qcow2 S g → ℕ → ℕ
+counts_in g d c = count (file_of g d.tables) d.tables.file.header.fields c
+
+abbrev pub names_in : {S : Type 0} (g : Ghosts S) → Qcow2 S g → ℕ → ℕ
+names_in g d c = refs (file_of g d.tables) d.tables.file.header.fields c
+
+-- An image has become another: how often each cluster is counted beyond what names it and what is pending of it is what it was.
+abbrev pub KeepsLeaks : {S : Type 0} (g : Ghosts S) → Qcow2 S g → Qcow2 S g → Type 0
+KeepsLeaks g old new = (c : ℕ)
+    → counts_in g new c + names_in g old c + pending g old c ≡ counts_in g old c + names_in g new c + pending g new c
+
+-- The same but for what was reserved, and isn't held by a mapping yet.
+abbrev pub KeepsLeaksBut : {S : Type 0} (g : Ghosts S) → (reserved : ℕ → ℕ) → Qcow2 S g → Qcow2 S g → Type 0
+KeepsLeaksBut g reserved old new = (c : ℕ)
+    → counts_in g new c + names_in g old c + pending g old c ≡ counts_in g old c + names_in g new c + pending g new c + reserved c
+
+-- what is reserved by a call that answers a host cluster, and whether that was kept
+abbrev pub reserved_by : Result (ℕ × Bool) Fault → ℕ → ℕ
+reserved_by (Ok r) c = reserved_as r.1 r.0 c
+reserved_by (Err fault) c = 0
+
+-- and by one that answers the clusters of a mapping
+abbrev pub reserved_with : Result Reserved Fault → ℕ → ℕ
+reserved_with (Ok r) c = reserved_as r.is_kept r.host c
+reserved_with (Err fault) c = 0
