@@ -143,6 +143,8 @@ impl<S: Storage> FormatDriverInstance for Qcow2<S> {
             → ⟦<Qcow2<S> as Seen>⟧.sees self.old → IfOk result (λ r. r.0 ≡ answer_at S.Storage t self.old.mode offset) }
         ensures whole { let t = self.old.tables in
             ⟦<Qcow2<S> as Seen>⟧.sees self.old → IfOk result (λ r. IsWholeRunIn S.Storage t offset max_length r.1) }
+        // It leaks nothing.
+        ensures leaks { KeepsLeaks S.Storage self.old self.new }
     {
         if self.failed {
             return Err(Fault::Failed);
@@ -174,6 +176,8 @@ impl<S: Storage> FormatDriverInstance for Qcow2<S> {
             → OverflowsIn (files d self.old) storage place (length buf.old) → IsErrOf result Fault.RangeOverflow }
         ensures marks { IfErr result (Marks ⟦<Qcow2<S> as Seen>⟧ self.old self.new) }
         ensures cause { IfErr result (RefusesRead ⟦<Qcow2<S> as Seen>⟧ place (length buf.old) self.old self.new) }
+        // It leaks nothing.
+        ensures leaks { KeepsLeaks S.Storage self.old self.new }
         // It is marked as failed behind a storage's fault alone.
         ensures marked { self.new.failed ≡ failed_behind failed_by result self.old.failed }
     {
@@ -228,7 +232,7 @@ impl<S: Storage> FormatDriverInstance for Qcow2<S> {
         // It is refused with a limit only where the first place can't be written.
         ensures limit { let d = ⟦<Qcow2<S> as Seen>⟧ in
             d.sees self.old → IfErr result (λ e. (n : _) → e ≡ Limit n → (d.layer self.old).home offset ≡ None) }
-        // A cluster that it reserves is pending then, and what is pending leaks no more than it did.
+        // It leaks nothing: a cluster that it reserves is pending then.
         ensures leaks { ⟦<Qcow2<S> as Seen>⟧.safe self.old → WasNotCutOff result → KeepsLeaks S.Storage self.old self.new }
     {
         if self.failed {
@@ -255,7 +259,7 @@ impl<S: Storage> FormatDriverInstance for Qcow2<S> {
     ) -> Result<(), (Fault, Option<PreparedDataMapping<PreparedMappingState>>)>
         ensures commits { Commits ⟦<Qcow2<S> as Seen>⟧ mapping.state result self.old self.new }
         ensures refused { CommitRefused ⟦<Qcow2<S> as Seen>⟧ mapping result self.old self.new }
-        // What it comes to name isn't pending any more, and what it named before is.
+        // It leaks nothing: what it comes to name isn't pending any more, and what was named before is.
         ensures leaks { ⟦<Qcow2<S> as Seen>⟧.safe self.old → IfErr result (λ e. IsMild e.0) → KeepsLeaks S.Storage self.old self.new }
     {
         let storage = mapping.storage();
@@ -288,7 +292,7 @@ impl<S: Storage> FormatDriverInstance for Qcow2<S> {
         mapping: PreparedDataMapping<PreparedMappingState>,
     ) -> Result<(), (Fault, PreparedDataMapping<PreparedMappingState>)>
         ensures cancels { Cancels ⟦<Qcow2<S> as Seen>⟧ mapping result self.old self.new }
-        // A cluster that was reserved waits to be freed then.
+        // It leaks nothing: a cluster that was reserved waits to be freed then.
         ensures leaks { ⟦<Qcow2<S> as Seen>⟧.safe self.old → KeepsLeaks S.Storage self.old self.new }
     {
         let storage = mapping.storage();
@@ -320,7 +324,7 @@ impl<S: Storage> FormatDriverInstance for Qcow2<S> {
         // Its file is as it was, but for these bytes at their place: each of them is there, or what was.
         ensures file { let s = S.state self.old.tables.file.image in
             IsTrue s.shape.keeps → Mixed s.bytes place bytes.now (S.state self.new.tables.file.image).bytes }
-        // Nothing comes to be counted, named or pending.
+        // It leaks nothing: no cluster comes to be counted, named or pending.
         ensures leaks { ⟦<Qcow2<S> as Seen>⟧.safe self.old → WasNotCutOff result → KeepsLeaks S.Storage self.old self.new }
     {
         if self.failed {
@@ -400,7 +404,7 @@ impl<S: Storage> FormatDriverInstance for Qcow2<S> {
         ensures marked { IsUntouched S.Storage self.old → self.new.failed ≡ failed_behind failed_by result self.old.failed }
         // Where it succeeds nothing waits to be freed any more.
         ensures freed { OnOk result (waits_in self.new.tables.space ≡ false) }
-        // What was pending is freed, and leaks no more than it did.
+        // It leaks nothing: what waited isn't counted any more.
         ensures leaks { ⟦<Qcow2<S> as Seen>⟧.safe self.old → WasNotCutOff result → KeepsLeaks S.Storage self.old self.new }
     {
         if self.failed {
@@ -423,6 +427,8 @@ impl<S: Storage> FormatDriverInstance for Qcow2<S> {
         ensures went { Went ⟦<Qcow2<S> as Seen>⟧ (WasNotCutOff result) (WasNotCutOff result) self.old self.new }
         ensures marks { IfErr result (Marks ⟦<Qcow2<S> as Seen>⟧ self.old self.new) }
         ensures cause { IfErr result (RefusesFlush ⟦<Qcow2<S> as Seen>⟧ self.old self.new) }
+        // It leaks nothing.
+        ensures leaks { KeepsLeaks S.Storage self.old self.new }
         // It is marked as failed behind a storage's fault alone.
         ensures marked { self.new.failed ≡ failed_behind failed_by result self.old.failed }
     {

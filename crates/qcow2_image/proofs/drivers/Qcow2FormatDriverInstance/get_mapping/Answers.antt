@@ -1,3 +1,6 @@
+use Rattle.std.proofs.Common.{ℕ}
+use Rattle.imago_access.specs.declared.mapping.ShallowMapping.{ShallowMapping}
+use Rattle.qcow2_image.proofs.Leaks.{leaks-kept}
 use Rattle.qcow2_image.proofs.Settling.{ok-whole}
 use Rattle.qcow2_image.proofs.drivers.Qcow2FormatDriverInstance.get_mapping.Goals as goal
 
@@ -21,3 +24,7 @@ returns-clause-whole g c = λ sees. c.run_from.ensures.whole sees.seen
 
 pub returns-clause-entry : goal.returns-clause-entry
 returns-clause-entry g c = λ some inside sees. c.run_from.ensures.entry sees.seen
+
+pub returns-clause-leaks : goal.returns-clause-leaks
+returns-clause-leaks g c =
+    leaks-kept g.S.Storage {T = ShallowMapping × ℕ} c.args.self.now c.run_from.new.self c.run_from.result c.run_from.ensures.keeps
