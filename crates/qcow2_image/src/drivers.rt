@@ -1,17 +1,19 @@
 // A qcow2 image as the driver of a chain.
 ghost use Rattle.std.proofs.Common.{inr};
-ghost use Rattle.std.specs.Prelude.{◌≡◌, ◌<◌, ◌+◌, ◌-◌, ◌%◌, ◌^◌, min, ◌⊎◌, ⊤, None, List, false, refl, length, IsTrue, IsErr, IsErrOf, IsOk, IsSome, OnOk, IfOk, IfErr};
+ghost use Rattle.std.specs.Prelude.{◌≡◌, ◌<◌, ◌+◌, ◌-◌, ◌%◌, ◌^◌, min, ◌⊎◌, ⊤, None, Some, List, false, refl, length, IsTrue, IsErr, IsErrOf, IsOk, IsSome, OnOk, IfOk, IfErr};
 ghost use Rattle.std.proofs.lemmas.Nat.{pow_pos};
 ghost use Rattle.imago_storage.specs.Calls.{Mixed};
 ghost use Rattle.imago_storage.specs.declared.fault.Fault.TheVariants.{Limit};
 ghost use Rattle.imago_access.specs.Changes.{asking};
 ghost use Rattle.imago_access.specs.Failing.{Fails, RefusesFlush, RefusesLookup, RefusesRead, RefusesReload};
 ghost use Rattle.imago_access.specs.Files.{AreRead, IsKept, IsMild, IsStale, OverflowsIn, Pairs, WasNotCutOff, files};
-ghost use Rattle.imago_access.specs.Going.{AtOnce, KeepsWhatIsFlushed, Looked, LookedUnder, Marks, RangeAtOnce, Went};
+ghost use Rattle.imago_access.specs.Going.{AtOnce, IsUnchanged, KeepsWhatIsFlushed, Looked, LookedUnder, Marks, RangeAtOnce, Went};
 ghost use Rattle.imago_access.specs.Layer.{IsFree, IsLike, Layer};
 ghost use Rattle.imago_access.specs.Mappings.{IsMappedRun, IsOneOf, IsRun, LooksIn, NamesRoomIn, States};
+ghost use Rattle.imago_access.specs.PartCalls.{DoesPart, IsPart, PartRefused, discards_to_any, discards_to_backing, discards_to_zero, ensures_zero};
 ghost use Rattle.imago_access.specs.PreparingCalls.{Cancels, Commits, CommitRefused, IsHeldBy, Prepares, WritesMapped, WritingRefused, nowhere};
 ghost use Rattle.imago_access.specs.Refusals.{barrier, own_refusal};
+ghost use Rattle.imago_access.specs.ResizeCalls.{GrowthRefused, Grows, IsUngrown, Resizes, ShrinkRefused, Shrinks};
 ghost use Rattle.imago_access.specs.Stops.{GivesNone, IsWritten, KeepsStops, MakesNone};
 ghost use Rattle.qcow2_types.specs.Bytes.{bytes_of};
 ghost use Rattle.qcow2_types.specs.Header.{cluster_size};
@@ -195,7 +197,15 @@ impl<S: Storage> FormatDriverInstance for Qcow2<S> {
         self.settle(answer)
     }
 
-    fn read_special(&mut self, _buf: &mut [u8], _offset: u64) -> Result<(), Fault> {
+    fn read_special(&mut self, _buf: &mut [u8], _offset: u64) -> Result<(), Fault>
+        ensures refused { IsErr result }
+        ensures err { IfErr result (λ e. (barrier (⟦<Qcow2<S> as Seen>⟧.layer self.old) ≡ Some e) ⊎ (e ≡ Fault.Barred)) }
+        ensures unusable { (f : _) → barrier (⟦<Qcow2<S> as Seen>⟧.layer self.old) ≡ Some f → IsErrOf result f }
+        ensures unchanged { IsUnchanged ⟦<Qcow2<S> as Seen>⟧ self.old self.new }
+        ensures buffer { _buf.new ≡ _buf.old }
+        // It is declined, and changes nothing.
+        ensures same { self.new ≡ self.old }
+    {
         if self.failed {
             return Err(Fault::Failed);
         }
@@ -356,7 +366,15 @@ impl<S: Storage> FormatDriverInstance for Qcow2<S> {
         _alloc: Global,
         offset: u64,
         length: u64,
-    ) -> Result<(u64, u64), Fault> {
+    ) -> Result<(u64, u64), Fault>
+        requires free { IsFree (⟦<Qcow2<S> as Seen>⟧.layer self.old) }
+        ensures part { IfOk result (IsPart offset length) }
+        ensures does { DoesPart ensures_zero ⟦<Qcow2<S> as Seen>⟧ offset length result self.old self.new }
+        ensures at_once { RangeAtOnce ⟦<Qcow2<S> as Seen>⟧ offset length result self.old self.new }
+        ensures refused { PartRefused ensures_zero ⟦<Qcow2<S> as Seen>⟧ offset length result self.old self.new }
+        // It is declined, and changes nothing.
+        ensures same { self.new ≡ self.old }
+    {
         self.decline(offset, length)
     }
 
@@ -365,7 +383,15 @@ impl<S: Storage> FormatDriverInstance for Qcow2<S> {
         _alloc: Global,
         offset: u64,
         length: u64,
-    ) -> Result<(u64, u64), Fault> {
+    ) -> Result<(u64, u64), Fault>
+        requires free { IsFree (⟦<Qcow2<S> as Seen>⟧.layer self.old) }
+        ensures part { IfOk result (IsPart offset length) }
+        ensures does { DoesPart discards_to_zero ⟦<Qcow2<S> as Seen>⟧ offset length result self.old self.new }
+        ensures at_once { RangeAtOnce ⟦<Qcow2<S> as Seen>⟧ offset length result self.old self.new }
+        ensures refused { PartRefused discards_to_zero ⟦<Qcow2<S> as Seen>⟧ offset length result self.old self.new }
+        // It is declined, and changes nothing.
+        ensures same { self.new ≡ self.old }
+    {
         self.decline(offset, length)
     }
 
@@ -374,7 +400,15 @@ impl<S: Storage> FormatDriverInstance for Qcow2<S> {
         _alloc: Global,
         offset: u64,
         length: u64,
-    ) -> Result<(u64, u64), Fault> {
+    ) -> Result<(u64, u64), Fault>
+        requires free { IsFree (⟦<Qcow2<S> as Seen>⟧.layer self.old) }
+        ensures part { IfOk result (IsPart offset length) }
+        ensures does { DoesPart discards_to_any ⟦<Qcow2<S> as Seen>⟧ offset length result self.old self.new }
+        ensures at_once { RangeAtOnce ⟦<Qcow2<S> as Seen>⟧ offset length result self.old self.new }
+        ensures refused { PartRefused discards_to_any ⟦<Qcow2<S> as Seen>⟧ offset length result self.old self.new }
+        // It is declined, and changes nothing.
+        ensures same { self.new ≡ self.old }
+    {
         self.decline(offset, length)
     }
 
@@ -383,7 +417,15 @@ impl<S: Storage> FormatDriverInstance for Qcow2<S> {
         _alloc: Global,
         offset: u64,
         length: u64,
-    ) -> Result<(u64, u64), Fault> {
+    ) -> Result<(u64, u64), Fault>
+        requires free { IsFree (⟦<Qcow2<S> as Seen>⟧.layer self.old) }
+        ensures part { IfOk result (IsPart offset length) }
+        ensures does { DoesPart discards_to_backing ⟦<Qcow2<S> as Seen>⟧ offset length result self.old self.new }
+        ensures at_once { RangeAtOnce ⟦<Qcow2<S> as Seen>⟧ offset length result self.old self.new }
+        ensures refused { PartRefused discards_to_backing ⟦<Qcow2<S> as Seen>⟧ offset length result self.old self.new }
+        // It is declined, and changes nothing.
+        ensures same { self.new ≡ self.old }
+    {
         self.decline(offset, length)
     }
 
@@ -468,7 +510,16 @@ impl<S: Storage> FormatDriverInstance for Qcow2<S> {
         _below: &mut B,
         size: u64,
         _mode: PreallocateMode,
-    ) -> Result<(), Fault> {
+    ) -> Result<(), Fault>
+        requires free { IsFree (⟦<Qcow2<S> as Seen>⟧.layer self.old) }
+        ensures resizes { let d = ⟦<Qcow2<S> as Seen>⟧ in Resizes d size (d.layer self.old).size result self.old self.new }
+        ensures grows { Grows ⟦<Qcow2<S> as Seen>⟧ B.SeenBelow size _mode result (self.old, _below.old) (self.new, _below.new) }
+        ensures unread { IsUngrown (⟦<Qcow2<S> as Seen>⟧.layer self.old) size → _below.new ≡ _below.old }
+        ensures below { LookedUnder B.SeenBelow (WasNotCutOff result) _below.old _below.new }
+        ensures refused { GrowthRefused ⟦<Qcow2<S> as Seen>⟧ B.SeenBelow size _mode result (self.old, _below.old) (self.new, _below.new) }
+        // It is declined, and changes nothing.
+        ensures same { self.new ≡ self.old }
+    {
         if self.failed {
             return Err(Fault::Failed);
         }
@@ -478,7 +529,14 @@ impl<S: Storage> FormatDriverInstance for Qcow2<S> {
         Err(self.resize_refusal())
     }
 
-    fn resize_shrink(&mut self, _alloc: Global, size: u64) -> Result<(), Fault> {
+    fn resize_shrink(&mut self, _alloc: Global, size: u64) -> Result<(), Fault>
+        requires free { IsFree (⟦<Qcow2<S> as Seen>⟧.layer self.old) }
+        ensures resizes { let d = ⟦<Qcow2<S> as Seen>⟧ in Resizes d (d.layer self.old).size size result self.old self.new }
+        ensures shrinks { Shrinks ⟦<Qcow2<S> as Seen>⟧ size result self.old self.new }
+        ensures refused { ShrinkRefused ⟦<Qcow2<S> as Seen>⟧ size result self.old self.new }
+        // It is declined, and changes nothing.
+        ensures same { self.new ≡ self.old }
+    {
         if self.failed {
             return Err(Fault::Failed);
         }
