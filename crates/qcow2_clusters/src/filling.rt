@@ -11,7 +11,7 @@ use qcow2_types::HostCluster;
 use std::alloc::Global;
 
 /// Writes the content of a guest cluster to the host cluster that it keeps for its zeroes, as copied. It reads as zeroes still, until it
-/// comes to name the cluster as its data. Nothing is allocated. Nothing may be cached, since nothing is asked of what is.
+/// comes to name the cluster as its data. Nothing is allocated, and no table is read or written. Nothing may be cached of the image.
 ///
 /// It refuses with `Fault::Memory` and `Fault::Storage`: a part may be written then, which no place shows.
 pub fn fill<S: Storage>(

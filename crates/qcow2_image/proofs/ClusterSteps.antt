@@ -41,7 +41,7 @@ use Rattle.qcow2_clusters.specs.Rest.{Clusters, IsReady, lent, resting}
 use Rattle.qcow2_clusters.specs.Storing.{Rests, Stores, handed_by, held_by}
 use Rattle.qcow2_clusters.specs.Storing as clusters
 use Rattle.qcow2_clusters.specs.declared.space.Space.{Space}
-use Rattle.qcow2_image.specs.Allocating.{EnsuresTable, FillsContent, FreesPending, HasKept, KeepsTop, LoadsSpace, PlacesContent, StoresContent, WhyNotAllocated, WhyNotFreed, failed_cut, waits_in, EnsuresWord}
+use Rattle.qcow2_image.specs.Allocating.{EnsuresTable, EnsuresWord, FillsContent, FreesPending, HasKept, KeepsTop, LoadsSpace, PlacesContent, StoresContent, WhyNotAllocated, WhyNotFilled, WhyNotFreed, failed_cut, waits_in}
 use Rattle.qcow2_image.specs.Holding.{Holding, IsOwnAs}
 use Rattle.qcow2_image.specs.KeepsDisk.{KeepsDisk, KeepsDiskWhere}
 use Rattle.qcow2_image.specs.Leaking.{KeepsLeaks, KeepsLeaksBut}
@@ -330,7 +330,7 @@ module _ {S : Type 0} (g : Ghosts S) (old : Qcow2 S g) (mid : Tables S g) (space
   l1-filled : sure-kept → WasNotCutOff result → IsL1Of (file_of g mid) mid.file.header.fields old.tables.l1
   l1-filled known whole = fills.l1 (kept-then known) (fill-ready known) (whole-below result whole) old.tables.l1 known.safe.seen.l1
 
-  fill-why : (e : Fault) → Cause (g.state old.tables.file.image).faults (g.state mid.file.image).faults e → WhyNotAllocated g old filled_now e
+  fill-why : (e : Fault) → Cause (g.state old.tables.file.image).faults (g.state mid.file.image).faults e → WhyNotFilled g old filled_now e
   fill-why Memory why = tt
   fill-why Storage why = why
   fill-why e why = absurd why
@@ -358,7 +358,7 @@ module _ {S : Type 0} (g : Ghosts S) (old : Qcow2 S g) (mid : Tables S g) (space
     space = there' ∙ sym there;
     known = known-now result;
     content = λ known. fills.stored known.safe.keeps;
-    cause = if-err result _ (WhyNotAllocated g old filled_now) fill-why fills.cause;
+    cause = if-err result _ (WhyNotFilled g old filled_now) fill-why fills.cause;
   }
 
 -- The content was put in what was kept, or in what was free, or nowhere.
@@ -391,6 +391,12 @@ module _ {S : Type 0} (g : Ghosts S) (guest : ℕ) (bytes : List ℕ) (old new :
     cause = tt;
   }
 
+  filling-why : (e : Fault) → WhyNotFilled g old new e → WhyNotAllocated g old new e
+  filling-why Memory why = why
+  filling-why Storage why = why
+  filling-why DamagedTable why = why
+  filling-why e why = absurd why
+
   pub unfilled : (host : ℕ) (e : Fault) → FillsContent g guest host bytes old (Err e) new → PlacesContent g guest (Some host) bytes old (Err e) new
   unfilled host e f = record {
     keeps = f.keeps;
@@ -401,7 +407,7 @@ module _ {S : Type 0} (g : Ghosts S) (guest : ℕ) (bytes : List ℕ) (old new :
     which = tt;
     own = λ known. tt;
     content = λ known. tt;
-    cause = f.cause;
+    cause = filling-why e f.cause;
   }
 
   -- A cluster is stored in where none is kept.

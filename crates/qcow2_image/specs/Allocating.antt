@@ -170,6 +170,13 @@ pub record StoresContent {S : Type 0} (g : Ghosts S) (bytes : List ℕ) (old : Q
       → file_of g new.tables (x * cluster_size old.tables.file.header.fields + i) ≡ slice_index bytes i)
   pub cause : IfErr result (WhyNotAllocated g old new)
 
+-- Why a cluster that is kept can't be filled, in an image that may be safe: no place is looked for.
+abbrev pub WhyNotFilled : {S : Type 0} (g : Ghosts S) → Qcow2 S g → Qcow2 S g → Fault → Type 0
+WhyNotFilled g old new Memory = ⊤
+WhyNotFilled g old new Storage = Rose (g.state old.tables.file.image).faults (g.state new.tables.file.image).faults
+WhyNotFilled g old new DamagedTable = IsSafe g old × IsSome old.tables.space → ⊥
+WhyNotFilled g old new fault = ⊥
+
 -- Bytes are written to the cluster that a guest cluster keeps for its zeroes: it keeps that still, and what is free stays so.
 pub record FillsContent {S : Type 0} (g : Ghosts S) (guest host : ℕ) (bytes : List ℕ) (old : Qcow2 S g) (result : Result Unit Fault)
     (new : Qcow2 S g) : Type 0 where
@@ -181,7 +188,7 @@ pub record FillsContent {S : Type 0} (g : Ghosts S) (guest host : ℕ) (bytes : 
   pub known : OnOk result (IsSome new.tables.space)
   pub content : HasKept g guest (Some host) old → OnOk result ((i : ℕ) → i < length bytes
       → file_of g new.tables (host * cluster_size old.tables.file.header.fields + i) ≡ slice_index bytes i)
-  pub cause : IfErr result (WhyNotAllocated g old new)
+  pub cause : IfErr result (WhyNotFilled g old new)
 
 -- The content of a guest cluster is put in the cluster that it keeps for its zeroes, or else in one that was free, which is reserved then.
 -- What is answered is that cluster, and whether it was kept.

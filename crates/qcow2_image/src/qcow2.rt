@@ -65,7 +65,7 @@ impl PreparedMappingState {
 /// others may share it (copy on write), then written, and named by the L2 entry as the mapping is committed. What the entry named before,
 /// for data, for zeroes or compressed, and what was reserved and is given up, waits for the next allocation or flush, which counts it down.
 /// A cluster that is kept for zeroes, and marked as copied, is filled and written in the place of one that is allocated, and stays kept
-/// where that is given up.
+/// where that is given up. An L1 table that has no word for the guest cluster is replaced by a longer one before.
 /// A compressed cluster is written only as a whole. Zeroing and discards are declined (a chain writes zeroes then, where it may), and the
 /// size stays.
 #[derive(Drop)]
