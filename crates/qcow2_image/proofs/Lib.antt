@@ -32,3 +32,4 @@ pub mod Commits
 pub mod Spent
 pub mod SpentLeaks
 pub mod Pending
+pub mod SameLeaks

@@ -1,7 +1,8 @@
 -- What images leak: how often their clusters are counted beyond what names them, and beyond what is pending of them.
-use Rattle.std.specs.Prelude.{◌≡◌, ℕ, ◌+◌, Bool, true, false, Option, Some, None, Result, Ok, Err}
+use Rattle.std.specs.Prelude.{◌≡◌, ℕ, ◌+◌, Bool, true, false, List, Option, Some, None, Result, Ok, Err}
 use Rattle.imago_storage.specs.declared.fault.Fault.{Fault}
 use Rattle.imago_storage.specs.declared.storage.Storage.{Ghosts}
+use Rattle.qcow2_types.specs.Consistency.{leaks}
 use Rattle.qcow2_types.specs.Counts.{count}
 use Rattle.qcow2_types.specs.References.{refs}
 use Rattle.qcow2_alloc.specs.FreeList.{listed}
@@ -37,6 +38,10 @@ counts_in g d c = count (file_of g d.tables) d.tables.file.header.fields c
 
 abbrev pub names_in : {S : Type 0} (g : Ghosts S) → Qcow2 S g → ℕ → ℕ
 names_in g d c = refs (file_of g d.tables) d.tables.file.header.fields c
+
+-- what leaks in the file, as a checker tells it
+abbrev pub leaks_of : {S : Type 0} (g : Ghosts S) → Qcow2 S g → List (ℕ × ℕ)
+leaks_of g d = leaks (file_of g d.tables) d.tables.file.header.fields
 
 -- An image has become another: how often each cluster is counted beyond what names it and what is pending of it is what it was.
 abbrev pub KeepsLeaks : {S : Type 0} (g : Ghosts S) → Qcow2 S g → Qcow2 S g → Type 0

@@ -9,8 +9,9 @@ ghost use Rattle.qcow2_types.specs.Disk.{in_qcow2, size_in_header};
 ghost use Rattle.qcow2_types.specs.Header.{Header, has_external_data, header_of};
 ghost use Rattle.qcow2_image.specs.Allocating.{waits_in};
 ghost use Rattle.qcow2_image.specs.ImageLayer.{qcow2_meaning};
-ghost use Rattle.qcow2_image.specs.Leaking.{KeepsLeaks, counts_in, names_in, pending};
+ghost use Rattle.qcow2_image.specs.Leaking.{KeepsLeaks, counts_in, leaks_of, names_in, pending};
 ghost use Rattle.qcow2_image.specs.Opening.{IsOpenedAs};
+ghost use Rattle.qcow2_image.specs.Rooms.{IsSafe};
 ghost use Rattle.qcow2_image.specs.Seen.{layer_of};
 
 use imago_storage::Storage;
@@ -25,13 +26,16 @@ pub fn layers_show_what_images_do()
 {}
 
 /// Calls that keep the leaks of an image keep them together. Where nothing is pending before and behind them, each cluster is counted beyond
-/// what names it as often as it was: the image leaks what it did. Nothing is pending right after
+/// what names it as often as it was: a safe image leaks what it did. Nothing is pending right after
 /// it was opened, and where nothing waits to be freed and nothing is prepared.
 pub fn leaks_add_up<S: Storage>()
     ensures both { (a b c : _) → KeepsLeaks S.Storage a b → KeepsLeaks S.Storage b c → KeepsLeaks S.Storage a c }
     ensures alike { (old new : _) → KeepsLeaks S.Storage old new → ((c : ℕ) → pending S.Storage old c ≡ 0)
         → ((c : ℕ) → pending S.Storage new c ≡ 0)
         → (c : ℕ) → counts_in S.Storage new c + names_in S.Storage old c ≡ counts_in S.Storage old c + names_in S.Storage new c }
+    ensures listed { (old new : _) → IsSafe S.Storage old → IsSafe S.Storage new → KeepsLeaks S.Storage old new
+        → ((c : ℕ) → pending S.Storage old c ≡ 0) → ((c : ℕ) → pending S.Storage new c ≡ 0)
+        → leaks_of S.Storage new ≡ leaks_of S.Storage old }
     ensures opened { (before writable backing number tables blocks d : _)
         → IsOpenedAs S.Storage before writable backing number tables blocks d → (c : ℕ) → pending S.Storage d c ≡ 0 }
     ensures none { (d : _) → waits_in d.tables.space ≡ false → IsFree (layer_of S.Storage d) → (c : ℕ) → pending S.Storage d c ≡ 0 }

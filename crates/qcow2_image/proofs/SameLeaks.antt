@@ -1,0 +1,77 @@
+-- Files that are counted as often beyond what names them leak the same clusters, by whatever headers.
+use Rattle.std.proofs.Common.{◌≡◌, ℕ, zero, suc, ◌+◌, ◌-◌, ◌*◌, ◌<◌, ◌≤◌, add-suc, arith, refl, ap, sym, ◌∙◌, inl, inr, [], ◌∷◌, ◌++◌}
+use Rattle.std.specs.Prelude.{Bool, if◌then◌else◌}
+use Rattle.std.proofs.lemmas.Bool.{cases_lt, lt-ltb, le-ltb}
+use Rattle.std.proofs.lemmas.List.{append-nil}
+use Rattle.imago_storage.specs.declared.storage.Storage.{Ghosts}
+use Rattle.qcow2_types.specs.Bytes.{Bytes}
+use Rattle.qcow2_types.specs.Consistency.{leak_at, leaks, leaks_below}
+use Rattle.qcow2_types.specs.Counts.{count, counters_of_block}
+use Rattle.qcow2_types.specs.Header.{Fields, refcount_table_entries}
+use Rattle.qcow2_types.specs.References.{refs}
+use Rattle.qcow2_types.proofs.Consistent.{consistent-shaped}
+use Rattle.qcow2_types.proofs.Counters.{some-counters}
+use Rattle.qcow2_types.proofs.Leaks.{count-beyond, no-leak}
+use Rattle.qcow2_image.specs.Leaking.{KeepsLeaks, leaks_of, pending}
+use Rattle.qcow2_image.specs.Rooms.{IsSafe}
+use Rattle.qcow2_image.specs.Seen.{file_of}
+use Rattle.qcow2_image.specs.declared.qcow2.Qcow2.{Qcow2}
+use Rattle.qcow2_image.proofs.Pending.{leaks-alike}
+
+-- Clusters that don't leak add nothing.
+skipped : (f : Bytes) (h : Fields) (n k : ℕ) → ((c : ℕ) → n ≤ c → leak_at f h c ≡ []) → leaks_below f h (n + k) ≡ leaks_below f h n
+unfolding leaks_below
+skipped f h n zero none = let same : n + 0 ≡ n = omega arith in ap (leaks_below f h) same
+skipped f h n (suc k) none =
+    let more : n + suc k ≡ suc (n + k) = add-suc n k in
+    let here : leak_at f h (n + k) ≡ [] = none (n + k) (omega arith) in
+    ap (leaks_below f h) more ∙ (ap (λ r. leaks_below f h (n + k) ++ r) here ∙ (append-nil (leaks_below f h (n + k)) ∙ skipped f h n k none))
+
+module _ (f g : Bytes) (h h' : Fields) (same : (c : ℕ) → count g h' c + refs f h c ≡ count f h c + refs g h' c) where
+  leak-same : (c : ℕ) → leak_at g h' c ≡ leak_at f h c
+  leak-same c =
+      let is : count g h' c + refs f h c ≡ count f h c + refs g h' c = same c in
+      elim (cases_lt (refs f h c) (count f h c)) [
+        | inl more ↦
+            let less : refs g h' c < count g h' c = omega arith in
+            let by : count g h' c - refs g h' c ≡ count f h c - refs f h c = omega arith in
+            ap (λ (b : Bool). if b then (c, count g h' c - refs g h' c) ∷ [] else []) (lt-ltb _ _ less)
+            ∙ (ap (λ (n : ℕ). (c, n) ∷ []) by ∙ sym (ap (λ (b : Bool). if b then (c, count f h c - refs f h c) ∷ [] else []) (lt-ltb _ _ more)))
+        | inr few ↦
+            let none : count g h' c ≤ refs g h' c = omega arith in
+            ap (λ (b : Bool). if b then (c, count g h' c - refs g h' c) ∷ [] else []) (le-ltb _ _ none)
+            ∙ sym (ap (λ (b : Bool). if b then (c, count f h c - refs f h c) ∷ [] else []) (le-ltb _ _ few))
+      ]
+
+  below-same : (n : ℕ) → leaks_below g h' n ≡ leaks_below f h n
+  unfolding leaks_below
+  below-same zero = refl
+  below-same (suc n) = ap (λ r. r ++ leak_at g h' n) (below-same n) ∙ ap (λ r. leaks_below f h n ++ r) (leak-same n)
+
+  abbrev reach : ℕ
+  reach = refcount_table_entries h * counters_of_block h
+
+  abbrev reach' : ℕ
+  reach' = refcount_table_entries h' * counters_of_block h'
+
+  pub same-leaks : 0 < counters_of_block h → 0 < counters_of_block h' → leaks g h' ≡ leaks f h
+  same-leaks some some' = elim (cases_lt reach' reach) [
+    | inl less ↦
+        let all : reach' + (reach - reach') ≡ reach = omega (arith, less) in
+        below-same reach'
+        ∙ (sym (skipped f h reach' (reach - reach') (λ c low. sym (leak-same c) ∙ no-leak g h' c (count-beyond g h' c some' low)))
+        ∙ ap (leaks_below f h) all)
+    | inr le ↦
+        let all : reach' ≡ reach + (reach' - reach) = omega (arith, le) in
+        ap (leaks_below g h') all
+        ∙ (skipped g h' reach (reach' - reach) (λ c low. leak-same c ∙ no-leak f h c (count-beyond f h c some low)) ∙ below-same reach)
+  ]
+
+-- So do images of which nothing is pending, behind calls that keep their leaks.
+pub leaks-listed : {S : Type 0} (g : Ghosts S) (old new : Qcow2 S g) → IsSafe g old → IsSafe g new → KeepsLeaks g old new
+    → ((c : ℕ) → pending g old c ≡ 0) → ((c : ℕ) → pending g new c ≡ 0) → leaks_of g new ≡ leaks_of g old
+leaks-listed g old new safe safe' keeps none none' =
+    same-leaks (file_of g old.tables) (file_of g new.tables) old.tables.file.header.fields new.tables.file.header.fields
+    (leaks-alike g old new keeps none none')
+    (some-counters old.tables.file.header.fields (consistent-shaped (file_of g old.tables) old.tables.file.header safe.consistent))
+    (some-counters new.tables.file.header.fields (consistent-shaped (file_of g new.tables) new.tables.file.header safe'.consistent))
