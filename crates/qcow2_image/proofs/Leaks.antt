@@ -10,7 +10,7 @@ use Rattle.qcow2_types.specs.Bytes.{Bytes, bytes_of}
 use Rattle.qcow2_types.specs.Counts.{count}
 use Rattle.qcow2_types.specs.References.{refs}
 use Rattle.qcow2_alloc.specs.FreeList.{listed}
-use Rattle.qcow2_alloc.specs.Quiet.{counted, referenced, waiting}
+use Rattle.qcow2_alloc.specs.Quiet.{counted, referenced}
 use Rattle.qcow2_clusters.specs.Progress.{Kind, Progresses}
 use Rattle.qcow2_clusters.specs.declared.space.Space.{Space}
 use Rattle.qcow2_image.specs.Holding.{Holding, Notes}

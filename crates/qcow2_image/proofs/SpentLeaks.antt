@@ -1,5 +1,5 @@
 -- What commits and cancels leave of the leaks of an image: what was reserved is named then, or waits to be freed.
-use Rattle.std.proofs.Common.{◌≡◌, ◌≢◌, ℕ, ◌+◌, ◌*◌, ◌/◌, ◌%◌, ◌^◌, ◌<◌, ◌≤◌, mul-pos, refl, arith, ap, sym, subst, ◌∙◌, inl, inr, Bool, false, true, [], ◌∷◌, ◌++◌, Option, Some, None, Result, Ok, Err}
+use Rattle.std.proofs.Common.{◌≡◌, ◌≢◌, ℕ, ◌+◌, ◌*◌, ◌/◌, ◌%◌, ◌^◌, ◌<◌, ◌≤◌, mul-pos, refl, arith, ap, subst, ◌∙◌, inl, inr, Bool, false, true, Option, Some, Result, Ok, Err}
 use Rattle.std.proofs.lemmas.Nat.{mod_below, pow_pos}
 use Rattle.std.specs.Prelude.{IfErr, IfSome}
 use Rattle.imago_storage.specs.State.{StorageState}
@@ -11,9 +11,9 @@ use Rattle.qcow2_types.specs.Bytes.{Bytes, bytes_of, word}
 use Rattle.qcow2_types.specs.Counts.{count}
 use Rattle.qcow2_types.specs.Entries.{entry, l2_table}
 use Rattle.qcow2_types.specs.Header.{Fields, cluster_size, layout_of, words_of_cluster}
-use Rattle.qcow2_types.specs.References.{contents, meets, of_mapping, refs}
-use Rattle.qcow2_types.specs.Slots.{Live, over_slots, slot}
-use Rattle.qcow2_types.specs.Words.{Mapping, data_at, mapping_of, zeroes}
+use Rattle.qcow2_types.specs.References.{meets, of_mapping, refs}
+use Rattle.qcow2_types.specs.Slots.{Live, slot}
+use Rattle.qcow2_types.specs.Words.{Mapping, mapping_of}
 use Rattle.qcow2_types.proofs.Consistent.{consistent-shaped, some-words}
 use Rattle.qcow2_types.proofs.Either.{refs-file}
 use Rattle.qcow2_types.proofs.Shows.{guest-slot-there}
@@ -22,7 +22,7 @@ use Rattle.qcow2_types.proofs.Values.{entry-slot}
 use Rattle.qcow2_metadata.specs.Allocations.{allocation_of, freed, newly, replaced}
 use Rattle.qcow2_metadata.specs.Places.{IsInReach}
 use Rattle.qcow2_metadata.proofs.Conservation.{map_conserves}
-use Rattle.qcow2_alloc.specs.FreeList.{covers, listed}
+use Rattle.qcow2_alloc.specs.FreeList.{listed}
 use Rattle.qcow2_alloc.specs.Quiet.{IsSound, Metadata, counted, in_memory, named_at_all, one_at, referenced, waiting}
 use Rattle.qcow2_alloc.proofs.Blocks.CountingClusters.{one-run}
 use Rattle.qcow2_alloc.proofs.Freeing.Listed.{listed_push}
@@ -31,10 +31,9 @@ use Rattle.qcow2_clusters.specs.Naming.{IsUnder, taken_before}
 use Rattle.qcow2_clusters.specs.declared.space.Space.{Space}
 use Rattle.qcow2_clusters.proofs.NamedWords.{kept-newly, names-data, newly-one}
 use Rattle.qcow2_image.specs.Committing.{CancelsUnspent, CommitsUnspent, DropsUnspent, GivesBack, SpendsUnspent, answer_of}
-use Rattle.qcow2_image.specs.Holding.{Holding, IsHeld, IsOwnAs}
-use Rattle.qcow2_image.specs.Leaking.{KeepsLeaks, counts_in, names_in, pending, reserved_as, reserved_in, waiting_in}
-use Rattle.qcow2_image.specs.Rooms.{HoldsIn, IsSafe, rest_of}
-use Rattle.qcow2_image.specs.Seen.{file_of}
+use Rattle.qcow2_image.specs.Holding.{Holding, IsOwnAs}
+use Rattle.qcow2_image.specs.Leaking.{KeepsLeaks, counts_in, names_in, reserved_as, reserved_in, waiting_in}
+use Rattle.qcow2_image.specs.Rooms.{HoldsIn, IsSafe}
 use Rattle.qcow2_image.specs.Unspent.{holding, holding_in}
 use Rattle.qcow2_image.specs.declared.qcow2.PreparedMappingState.{PreparedMappingState}
 use Rattle.qcow2_image.specs.declared.qcow2.Qcow2.{Qcow2}

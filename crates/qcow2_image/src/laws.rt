@@ -26,8 +26,8 @@ pub fn layers_show_what_images_do()
 {}
 
 /// Calls that keep the leaks of an image keep them together. Where nothing is pending before and behind them, each cluster is counted beyond
-/// what names it as often as it was: a safe image leaks what it did. Nothing is pending right after
-/// it was opened, and where nothing waits to be freed and nothing is prepared.
+/// what names it as often as it was: a safe image leaks what it did. Nothing is pending right after it was opened, and where nothing waits
+/// to be freed and nothing is prepared.
 pub fn leaks_add_up<S: Storage>()
     ensures both { (a b c : _) → KeepsLeaks S.Storage a b → KeepsLeaks S.Storage b c → KeepsLeaks S.Storage a c }
     ensures alike { (old new : _) → KeepsLeaks S.Storage old new → ((c : ℕ) → pending S.Storage old c ≡ 0)
