@@ -1,14 +1,15 @@
 -- Lists of names.
-use Rattle.std.proofs.Common.{◌≡◌, ◌≢◌, ℕ, ◌+◌, ◌*◌, ◌/◌, ◌%◌, ◌^◌, ◌<◌, ◌≤◌, arith, ap, sym, subst, ◌∙◌, List, [], ◌∷◌, ◌++◌, length, take, drop, inl, inr}
+use Rattle.std.proofs.Common.{◌≡◌, ◌≢◌, ℕ, ◌+◌, ◌*◌, ◌/◌, ◌%◌, ◌^◌, ◌<◌, ◌≤◌, refl, arith, ap, sym, subst, ◌∙◌, List, [], ◌∷◌, ◌++◌, length, take, drop, inl, inr}
 use Rattle.std.specs.Prelude.{Some, None, slice_index, slice_index_or, if◌then◌else◌}
 use Rattle.std.specs.List.{sum_by}
 use Rattle.std.proofs.Math.Nat.{pow-le-pow_right, div-eq_of_lt}
+use Rattle.std.proofs.lemmas.Grind.{get_or_default_zero}
 use Rattle.std.proofs.lemmas.Bool.{cases_eq, cases_lt, eq-eqb, ne_eqb}
 use Rattle.std.proofs.lemmas.Nat.{mod-pow-add, mul-le}
 use Rattle.std.proofs.lemmas.List.{get_or_default, get_or-drop, get_or-take, length-take, length-drop}
 use Rattle.std.proofs.lemmas.List.Sums.{sum_by_push, sum_by-le, sum_by-take-drop, sum_by_more}
 use Rattle.qimg_core.specs.Names.{cluster_of, count_of, weight_in, weight_of, IsRising, AddsWeight}
-use Rattle.qimg_core.specs.Searches.{IsCut, IsFrom}
+use Rattle.qimg_core.specs.Searches.{IsListed, IsCut, IsFrom}
 
 -- what a name says of its cluster, and of another
 weight-here : (c name : ℕ) → cluster_of name ≡ c → weight_in c name ≡ count_of name
@@ -106,3 +107,7 @@ cut-next list c index some rising small cut = (
 -- there is none
 pub cut-end : (list : List ℕ) (c index : ℕ) → length list ≤ index → IsCut list c (Some c) index → IsCut list c None index × IsFrom c None
 cut-end list c index past cut = (record { bound = cut.bound; before = cut.before; behind = λ i le lt. absurd (omega arith) }, tt)
+
+-- a name of it stands in the list
+pub cut-named : (list : List ℕ) (index : ℕ) → index < length list → IsListed list (cluster_of (slice_index list index))
+cut-named list index some = (index, slice_index list index, some, get_or_default_zero list index (slice_index list index) some, refl)

@@ -3,6 +3,7 @@ use Rattle.std.proofs.Common.{◌≡◌, ◌≢◌, ◌⊎◌, ℕ, List, suc, �
 use Rattle.std.specs.Prelude.{Bool, Option, Some, None, slice_index, IfSome, IsSomeAnd, MatchOption, max}
 use Rattle.std.proofs.lemmas.Bool.{cases_lt, cases_order}
 use Rattle.std.proofs.lemmas.List.{get_or_past}
+use Rattle.std.proofs.lemmas.Option.{IfSome_then}
 use Rattle.qcow2_types.specs.Consistency.{Nowhere, IsLeast}
 use Rattle.qimg_core.specs.declared.check.names.Times.{Times}
 use Rattle.qimg_core.specs.declared.check.names.Tallies.{Tallies}
@@ -11,7 +12,7 @@ use Rattle.qimg_core.specs.declared.check.search.Question.{Question}
 use Rattle.qimg_core.specs.declared.check.search.Way.{Way}
 use Rattle.qimg_core.specs.declared.check.search.Question.TheVariants.{Shared, FalselyCopied, AtAll}
 use Rattle.qimg_core.specs.Names.{no_times, no_few_times, cell_at, cluster_of, other_at, together, times_at, weight_of}
-use Rattle.qimg_core.specs.Searches.{passes, is_such, IsBelow, NoneWithin, IsFirstWithin, IsFrom, IsCut, IsAlong}
+use Rattle.qimg_core.specs.Searches.{passes, is_such, IsBelow, NoneWithin, IsFirstWithin, IsListed, IsEntry, IsFrom, IsCut, IsAlong}
 use Rattle.qimg_core.proofs.NameLemmas.{as-times}
 use Rattle.qimg_core.proofs.EntryLemmas.{weight-none}
 
@@ -26,17 +27,19 @@ cut-least list c index next one below cut = record { bound = cut.bound; before =
 
 -- the way on from where the lists are cut
 pub along-cuts : (others : Others) (c : ℕ) (way : Way) (structure rest mapped copied : Option ℕ) → ((d : ℕ) → IsBelow way.next d → IsBelow structure d × IsBelow rest d) → (way.next ≡ structure) ⊎ (way.next ≡ rest) → ((d : ℕ) → IsBelow rest d → IsBelow mapped d × IsBelow copied d) → (rest ≡ mapped) ⊎ (rest ≡ copied)
-    → IsCut others.structure.items c structure way.structure × IsFrom c structure → IsCut others.mapped.items c mapped way.mapped × IsFrom c mapped → IsCut others.copied.items c copied way.copied × IsFrom c copied → IsAlong others c way
-along-cuts others c way structure rest mapped copied below is below-rest is-rest of-structure of-mapped of-copied = record {
+    → IsCut others.structure.items c structure way.structure × IsFrom c structure → IsCut others.mapped.items c mapped way.mapped × IsFrom c mapped → IsCut others.copied.items c copied way.copied × IsFrom c copied
+    → IfSome structure (IsListed others.structure.items) → IfSome mapped (IsListed others.mapped.items) → IfSome copied (IsListed others.copied.items) → IsAlong others c way
+along-cuts others c way structure rest mapped copied below is below-rest is-rest of-structure of-mapped of-copied in-structure in-mapped in-copied = record {
   structure = cut-least others.structure.items c way.structure way.next structure (λ d lt. (below d lt).0) of-structure.0;
   mapped = cut-least others.mapped.items c way.mapped way.next mapped (λ d lt. (below-rest d (below d lt).1).0) of-mapped.0;
   copied = cut-least others.copied.items c way.copied way.next copied (λ d lt. (below-rest d (below d lt).1).1) of-copied.0;
-  from = one-of way.next structure rest is of-structure.1 (one-of rest mapped copied is-rest of-mapped.1 of-copied.1);
+  from = one-of (λ n. (c ≤ n) × (n < 2 ^ 53)) way.next structure rest is of-structure.1 (one-of (λ n. (c ≤ n) × (n < 2 ^ 53)) rest mapped copied is-rest of-mapped.1 of-copied.1);
+  named = one-of (IsEntry others) way.next structure rest is (IfSome_then structure in-structure (λ n p. inl p)) (one-of (IsEntry others) rest mapped copied is-rest (IfSome_then mapped in-mapped (λ n p. inr (inl p))) (IfSome_then copied in-copied (λ n p. inr (inr p))));
 }
   where
-    one-of : (a b d : Option ℕ) → (a ≡ b) ⊎ (a ≡ d) → IsFrom c b → IsFrom c d → IsFrom c a
-    one-of a b d (inl same) p q = subst (IsFrom c) (sym same) p
-    one-of a b d (inr same) p q = subst (IsFrom c) (sym same) q
+    one-of : (P : ℕ → Type 0) (a b d : Option ℕ) → (a ≡ b) ⊎ (a ≡ d) → IfSome b P → IfSome d P → IfSome a P
+    one-of P a b d (inl same) p q = subst (λ o. IfSome o P) (sym same) p
+    one-of P a b d (inr same) p q = subst (λ o. IfSome o P) (sym same) q
 
 -- no cluster before the next one stands in a list
 cut-none : (list : List ℕ) (c d index : ℕ) (next : Option ℕ) → c ≤ d → IsBelow next d → IsCut list c next index → weight_of list d ≡ 0
@@ -55,7 +58,7 @@ along-none others c d way le below along = as-times (cut-none _ c d way.structur
 
 -- The way goes on over clusters before the next one, up to that,
 pub along-later : (others : Others) (c d : ℕ) (way : Way) → c ≤ d → IsFrom d way.next → IsAlong others c way → IsAlong others d way
-along-later others c d way le from along = record { structure = later _ _ along.structure; mapped = later _ _ along.mapped; copied = later _ _ along.copied; from = from }
+along-later others c d way le from along = record { structure = later _ _ along.structure; mapped = later _ _ along.mapped; copied = later _ _ along.copied; from = from; named = along.named }
   where
     later : (list : List ℕ) (index : ℕ) → IsCut list c way.next index → IsCut list d way.next index
     later list index cut = record { bound = cut.bound; before = λ i lt. omega (arith, cut.before i lt, le); behind = cut.behind }

@@ -1,5 +1,5 @@
 -- Searches for the least cluster whose names are of some kind.
-use Rattle.std.specs.Prelude.{ℕ, ◌+◌, ◌<◌, ◌≤◌, ◌^◌, ⊤, Bool, ◌&&◌, not, ◌==◌, nat_lt, IsTrue, IsFalse, List, length, slice_index, Option, Some, None, IfSome, IsSomeAnd}
+use Rattle.std.specs.Prelude.{◌≡◌, ◌⊎◌, ℕ, ◌+◌, ◌<◌, ◌≤◌, ◌^◌, ⊤, Bool, ◌&&◌, not, ◌==◌, nat_lt, IsTrue, IsFalse, List, Any, length, slice_index, Option, Some, None, IfSome, IsSomeAnd}
 use Rattle.qimg_core.specs.declared.check.names.Times.{Times}
 use Rattle.qimg_core.specs.declared.check.names.Tallies.{Tallies}
 use Rattle.qimg_core.specs.declared.check.names.Others.{Others}
@@ -34,6 +34,13 @@ pub record IsFirstWithin (test : ℕ → Bool) (low : ℕ) (high : Option ℕ) (
   pub is : IsTrue (test c)
   pub before : (d : ℕ) → low ≤ d → d < c → IsFalse (test d)
 
+-- A name of cluster c stands in a list, or in one of them.
+abbrev pub IsListed : List ℕ → ℕ → Type 0
+IsListed list c = Any (λ name. cluster_of name ≡ c) list
+
+abbrev pub IsEntry : Others → ℕ → Type 0
+IsEntry others c = IsListed others.structure.items c ⊎ IsListed others.mapped.items c ⊎ IsListed others.copied.items c
+
 -- The next cluster isn't before this one.
 abbrev pub IsFrom : ℕ → Option ℕ → Type 0
 IsFrom c next = IfSome next (λ n. (c ≤ n) × (n < 2 ^ 53))
@@ -56,3 +63,4 @@ pub record IsAlong (others : Others) (c : ℕ) (way : Way) : Type 0 where
   pub mapped : IsCut others.mapped.items c way.next way.mapped
   pub copied : IsCut others.copied.items c way.next way.copied
   pub from : IsFrom c way.next
+  pub named : IfSome way.next (IsEntry others)

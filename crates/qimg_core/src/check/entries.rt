@@ -1,8 +1,8 @@
 // Lists of names. A name is 2048 times its cluster, 256 times a place below 8, and a digit below 256: it counts for the digit at
 // that place of a number to the base of 256.
-ghost use Rattle.std.specs.Prelude.{◌≡◌, ℕ, ◌+◌, ◌*◌, ◌/◌, ◌<◌, ◌≤◌, ◌^◌, nat_lt, Some, OnOk, IsOkUnless};
+ghost use Rattle.std.specs.Prelude.{◌≡◌, ℕ, ◌+◌, ◌*◌, ◌/◌, ◌<◌, ◌≤◌, ◌^◌, nat_lt, Some, IfSome, OnOk, IsOkUnless};
 ghost use Rattle.qimg_core.specs.Names.{AddsWeight, TakesFew, IsRising, weight_of};
-ghost use Rattle.qimg_core.specs.Searches.{IsCut, IsFrom};
+ghost use Rattle.qimg_core.specs.Searches.{IsListed, IsCut, IsFrom};
 
 use super::CheckFault;
 
@@ -61,7 +61,8 @@ pub fn weight_from(list: &[u64], cut: &mut usize, cluster: u64) -> u128
 /// The cluster of the name behind a cut, if there is one.
 pub fn next_in(list: &[u64], cut: usize) -> Option<u64>
     requires { IsRising list.now }
-    ensures { (c : ℕ) → IsCut list.now c (Some c) cut → IsCut list.now c result cut × IsFrom c result }
+    ensures next { (c : ℕ) → IsCut list.now c (Some c) cut → IsCut list.now c result cut × IsFrom c result }
+    ensures named { IfSome result (IsListed list.now) }
 {
     if cut < list.len() {
         return Some(list[cut] / 2048);
