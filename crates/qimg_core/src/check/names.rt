@@ -1,7 +1,7 @@
 // How often each host cluster is named.
 ghost use Rattle.std.specs.Prelude.{◌≡◌, ℕ, ◌+◌, ◌*◌, ◌<◌, ◌≤◌, ◌^◌, length, OnOk, IfOk, IsOk, IfSome, IsSome, IsOkUnless};
 ghost use Rattle.qimg_core.specs.Entering.{AddsRange};
-ghost use Rattle.qimg_core.specs.Names.{AddsClusters, AddsEntry, KeepsCells, IsFewSum, HasRoom, HasRoomAt, SparesLists, AreRising, TellsNothing, cell_at, times_at as times_told};
+ghost use Rattle.qimg_core.specs.Names.{AddsClusters, AddsEntry, KeepsCells, IsFewSum, HasRoom, HasRoomAt, SparesLists, AreRising, TellsNothing, cell_at, times_at};
 
 use super::CheckFault;
 use super::entries::enter;
@@ -170,7 +170,7 @@ pub fn name_range(
 
 /// Puts the lists in order.
 pub fn sort_names(names: &mut Tallies)
-    ensures same { (c : ℕ) → times_told names.new c ≡ times_told names.old c }
+    ensures same { (c : ℕ) → times_at names.new c ≡ times_at names.old c }
     ensures cells { KeepsCells names.old names.new }
     ensures spares { SparesLists names.old → SparesLists names.new }
     ensures rising { AreRising names.new.others }
