@@ -10,7 +10,7 @@ use Rattle.qcow2_metadata.specs.Places.{IsInReach}
 use Rattle.qcow2_alloc.specs.Allocating.{WhyNotAllocated as WhyNotHandedOut}
 use Rattle.qcow2_alloc.specs.Allocators.{table_of}
 use Rattle.qcow2_alloc.specs.Caches.{HasRoomOf}
-use Rattle.qcow2_alloc.specs.Crowding.{IsCrowded}
+use Rattle.qcow2_alloc.specs.Crowding.{IsCrowded, room_for, space}
 use Rattle.qcow2_alloc.specs.Freeing.{IsLoose}
 use Rattle.qcow2_alloc.specs.Going.{IsMild, WasNotCutOff}
 use Rattle.qcow2_alloc.specs.HandingOut.{AllocatesClusters}
@@ -23,17 +23,19 @@ use Rattle.qcow2_alloc.specs.State.{IsKept, WhereKept}
 use Rattle.qcow2_alloc.proofs.Handing.HandedOut.{unnamed-used}
 use Rattle.qcow2_alloc.proofs.Quiet.QuietThen.{quietly-otherwise, used-then}
 use Rattle.qcow2_clusters.specs.Rest.{AreEmpty, Clusters, HasEntries, IsReady, changed, resting, storage}
+use Rattle.qcow2_clusters.specs.Room.{IsFull, LeavesRoom, mark_in}
 use Rattle.qcow2_clusters.specs.Settling.{AreUnpinned}
 use Rattle.qcow2_clusters.specs.Storing.{AreReserved, StoresRunUnsettled, WhyNotAllocated}
 use Rattle.qcow2_clusters.proofs.Ending.{begun, begun-then, ready-kept}
-use Rattle.qcow2_clusters.proofs.Resting.{begun-quiet, empty-loose, loose-unpinned}
+use Rattle.qcow2_clusters.proofs.LeavingRoom.{allocation-leaves, crowded-there, why-as}
+use Rattle.qcow2_clusters.proofs.Resting.{begun-counts, begun-quiet, empty-loose, loose-unpinned}
 
 -- why no cluster was handed out, where the caches have room to spare
 why-allocated : (sound ready : Type 0) (loose : Bool → Type 0) (full : ℕ → Type 0) → (ready → sound) → loose false → (before after : ℕ) (fault : Fault)
-    → WhyNotHandedOut sound loose full before after fault → WhyNotAllocated ready before after fault
+    → WhyNotHandedOut sound loose full before after fault → WhyNotAllocated ready full before after fault
 why-allocated sound ready loose full is room before after Memory why = tt
 why-allocated sound ready loose full is room before after Storage why = why
-why-allocated sound ready loose full is room before after (Limit number) why = tt
+why-allocated sound ready loose full is room before after (Limit number) why = λ here. why.0
 why-allocated sound ready loose full is room before after DamagedTable why = λ here. why (is here)
 why-allocated sound ready loose full is room before after Counter why = λ here. why (is here)
 why-allocated sound ready loose full is room before after CacheFull why = absurd (why (false, (λ e. absurd (cc e)), room))
@@ -45,11 +47,11 @@ why-full : (sound : Type 0) (loose : Bool → Type 0) (full : ℕ → Type 0) �
 why-full sound loose full room before after fault is why =
     subst (λ (f : Fault). WhyNotHandedOut sound loose full before after f) is why (false, (λ e. absurd (cc e)), room)
 
-module _ {S : Type 0} (state : S → StorageState) (c : Clusters S) (empty : AreEmpty c.caches) (room : HasEntries c.caches) (mark n : ℕ) (mid : Clusters S) (mark' : ℕ) where
+module _ {S : Type 0} (state : S → StorageState) (c : Clusters S) (empty : AreEmpty c.caches) (room : HasEntries c.caches) (n : ℕ) (mid : Clusters S) where
   loose : IsLoose (table_of c.space.allocator) c.caches false
   loose = empty-loose (table_of c.space.allocator) c.caches empty room
 
-  module _ (result : Result FreeEntry Fault) (a : AllocatesClusters state mark n false (begun c) result (begun mid) mark') where
+  module _ (result : Result FreeEntry Fault) (a : AllocatesClusters state (mark_in c) n false (begun c) result (begun mid) (mark_in mid)) where
     -- Nothing is pinned then,
     pub run-unpinned : AreUnpinned mid.caches
     run-unpinned = loose-unpinned (table_of mid.space.allocator) c.caches mid.caches empty a.shape.room (a.shape.loose false loose)
@@ -68,7 +70,7 @@ module _ {S : Type 0} (state : S → StorageState) (c : Clusters S) (empty : Are
     handed-quietly = begun-then state c empty (WasNotCutOff result) (handed_out result a.leaked) (storage state mid) (changed state mid) a.quiet
 
   -- Where it was refused nothing was handed out.
-  module _ (fault : Fault) (a : AllocatesClusters state mark n false (begun c) (Err fault) (begun mid) mark') where
+  module _ (fault : Fault) (a : AllocatesClusters state (mark_in c) n false (begun c) (Err fault) (begun mid) (mark_in mid)) where
     never-full : fault ≡ CacheFull → ⊥
     never-full is =
         why-full (IsKept state (begun c)) (IsLoose (table_of c.space.allocator) c.caches)
@@ -77,6 +79,19 @@ module _ {S : Type 0} (state : S → StorageState) (c : Clusters S) (empty : Are
 
     leaked-none : (k : ℕ) → a.leaked k ≡ 0
     leaked-none = a.leaks.none (λ e. never-full (cc e))
+
+    abbrev asked-full : ℕ → Type 0
+    asked-full number = WhereKept state (begun c) (IsCrowded a.mid a.mid_mark n × IsRunTold (changed state mid) a.mid_mark n number)
+
+    -- There was no room for it then, and a number tells why.
+    full-there : (number : ℕ) → fault ≡ Limit number → IsReady state c → asked-full number → IsFull n (resting state c) (mark_in c) (changed state mid) (mark_in mid) number
+    full-there number is ready full =
+        let kept = ready-kept state c empty ready in
+        let why = full kept.0 kept.1 in
+        record {
+          crowded = crowded-there (resting state c) (changed state c) a.mid (mark_in c) a.mid_mark n refl (begun-counts state c empty) (a.freed kept.0 kept.1 (subst (λ (f : Fault). IsMild f) (sym is) tt)) why.0;
+          told = subst (λ k. IsRunTold (changed state mid) k n number) (sym a.stays) why.1;
+        }
 
     pub run-refused : (content : List ℕ) → mid.space.to_free.held ≡ c.space.to_free.held → StoresRunUnsettled state n content c (Err fault) mid
     run-refused content held = record {
@@ -90,13 +105,15 @@ module _ {S : Type 0} (state : S → StorageState) (c : Clusters S) (empty : Are
       named = tt;
       reserved = λ ready. tt;
       stored = λ ready. tt;
-      cause = why-allocated (IsKept state (begun c)) (IsReady state c) (IsLoose (table_of c.space.allocator) c.caches)
-          (λ number. WhereKept state (begun c) (IsCrowded a.mid a.mid_mark n × IsRunTold (changed state mid) a.mid_mark n number)) (ready-kept state c empty) loose
-          (storage state c).faults (storage state mid).faults fault a.cause;
+      leaves = λ ready. tt;
+      cause = why-as (IsReady state c) (IsReady state c) asked-full (IsFull n (resting state c) (mark_in c) (changed state mid) (mark_in mid)) (λ ready. ready)
+          (storage state c).faults (storage state mid).faults fault full-there
+          (why-allocated (IsKept state (begun c)) (IsReady state c) (IsLoose (table_of c.space.allocator) c.caches) asked-full (ready-kept state c empty) loose
+          (storage state c).faults (storage state mid).faults fault a.cause);
     }
 
   -- Else clusters were:
-  module _ (entry : FreeEntry) (a : AllocatesClusters state mark n false (begun c) (Ok entry) (begun mid) mark') where
+  module _ (entry : FreeEntry) (a : AllocatesClusters state (mark_in c) n false (begun c) (Ok entry) (begun mid) (mark_in mid)) where
     -- these,
     covers-run : (d : ℕ) → covers d (run_of entry.first n) ≡ covers d entry
     covers-run d = rw (sym a.run.0) refl
@@ -121,6 +138,14 @@ module _ {S : Type 0} (state : S → StorageState) (c : Clusters S) (empty : Are
         let zero : counted a.mid d ≡ 0 = a.fresh kept.0 kept.1 d from to in
         let more = there.taken in
         omega (arith, zero, more)
+
+    -- which leave room behind them,
+    pub run-leaves : IsReady state c → LeavesRoom (room_for c.file.header.fields n) (resting state c) (mark_in c) (changed state mid) (mark_in mid)
+    run-leaves ready =
+        let kept = ready-kept state c empty ready in
+        allocation-leaves (resting state c) (changed state c) a.mid (mark_in c) a.mid_mark n refl (begun-counts state c empty) (a.freed kept.0 kept.1 tt)
+        (changed state mid) (mark_in mid) entry (ap (λ (H : Header). space H.fields) a.shape.moved.2)
+        (a.little kept.0 kept.1) (a.taken kept.0 kept.1) a.further
 
     -- and are reserved now.
     pub run-reserved : IsReady state c → AreReserved n (changed state mid) entry.first

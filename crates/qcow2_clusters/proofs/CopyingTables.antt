@@ -1,6 +1,6 @@
 -- How an L2 table is copied, or one is made where there was none.
 use Rattle.std.proofs.Common.{◌≡◌, ◌≢◌, ℕ, ◌+◌, ◌*◌, ◌<◌, refl, arith, ap, sym, subst, ◌∙◌, inl, inr, List, [], ◌∷◌, ◌++◌, Ok, Err, Option, Result, Some, None, true}
-use Rattle.std.specs.Prelude.{◌==◌, ◌&&◌, if◌then◌else◌, IfErr, IfOk, IsTrue, replicate, slice_index}
+use Rattle.std.specs.Prelude.{◌==◌, ◌&&◌, if◌then◌else◌, IfErr, IfOk, IsTrue, OnOk, replicate, slice_index}
 use Rattle.std.proofs.lemmas.Bool.{and_parts, cases_eq, ne_eqb}
 use Rattle.std.proofs.lemmas.Bool.Decides.{nat_tests}
 use Rattle.std.proofs.lemmas.List.{get_or-replicate}
@@ -20,6 +20,7 @@ use Rattle.qcow2_types.proofs.Bounded.{all-below}
 use Rattle.qcow2_metadata.specs.Tables.{TableValue}
 use Rattle.qcow2_alloc.specs.Allocating.{MovedTable}
 use Rattle.qcow2_alloc.specs.Allocators.{table_of}
+use Rattle.qcow2_alloc.specs.Crowding.{room_for}
 use Rattle.qcow2_alloc.specs.FreeList.{FreeList, covers}
 use Rattle.qcow2_alloc.specs.Going.{WasNotCutOff}
 use Rattle.qcow2_alloc.specs.Opening.{IsL1Of}
@@ -34,8 +35,10 @@ use Rattle.qcow2_steps.proofs.Steps.{meets-one, put-off-advances}
 use Rattle.qcow2_clusters.specs.MakingTables.{CopiesTable, FindsTable, HasTable, IsClusterOf, IsContent, IsTableless, IsTopWord, MakesTable, NamesNewTable, PlacesTable, copying, given_up, making, replacing, table_entry}
 use Rattle.qcow2_clusters.specs.Progress.{Kind, Progresses, both, handing}
 use Rattle.qcow2_clusters.specs.Rest.{AreEmpty, Clusters, IsReady, lent, nothing_cached, resting, storage}
+use Rattle.qcow2_clusters.specs.Room.{IsFull, LeavesRoom, mark_in}
 use Rattle.qcow2_clusters.specs.Storing.{WhyNotAllocated, handed_by}
 use Rattle.qcow2_clusters.proofs.Adding.{AdvancesBy, IsWider, progresses-in-memory, progresses-otherwise, progresses-then-given, wider-both, wider-handing}
+use Rattle.qcow2_clusters.proofs.LeavingRoom.{leaves-as}
 use Rattle.qcow2_clusters.proofs.MakingTables.{IsKept, held-aside, if-refused, kept-itself, narrowed, not-begun, why-put, why-wider, with_held}
 use Rattle.qcow2_clusters.proofs.NamingTables.{bytes-mean, from-zero, l1-table, l1-word, zeroes-map}
 
@@ -127,7 +130,7 @@ module _ {S : Type 0} (state : S → StorageState) (l1 : TableValue) (i : ℕ) (
     named = not-begun state (HasTable state l1 i c) (copying (resting state c) i (Err fault)) i c fault l1 c' empty kept
         (λ ready is whole. cut-off (storage state c).faults (storage state c').faults fault why whole)
         (λ whole. absurd (cut-off (storage state c).faults (storage state c').faults fault why whole))
-        (why-put (IsReady state c × HasTable state l1 i c) (storage state c).faults (storage state c).faults (storage state c').faults fault
+        (why-put (IsReady state c × HasTable state l1 i c) (IsFull 1 (resting state c) (mark_in c) (resting state c') (mark_in c')) (storage state c).faults (storage state c).faults (storage state c').faults fault
         refl why);
     held = held;
     waits = λ is. tt;
@@ -241,6 +244,8 @@ module _ {S : Type 0} (state : S → StorageState) (l1 : TableValue) (i : ℕ) (
         l1 = λ ready has. places.named.l1 ready (copied-content has);
         there = λ ready has. places.named.there ready (copied-content has);
         copied = λ ready has. places.named.copied ready (copied-content has);
+        leaves = λ ready has. leaves-as (room_for h' 1) m m m1 (resting state c2) (mark_in c) (mark_in c1) refl (λ d. refl) refl (λ d. refl)
+            (places.named.leaves ready (copied-content has));
         cause = tt;
       };
       held = let more = places.held in omega (arith, one-less, more);
@@ -313,8 +318,12 @@ module _ {S : Type 0} (state : S → StorageState) (c : Clusters S) (file : Imag
           (copies.named.there (ready-behind ready) (table-behind has));
       copied = λ ready has. before (λ s H. IfOk result (λ t. is_copied (word (resting state c').file H.fields.l1_offset i) ≡ true))
           (copies.named.copied (ready-behind ready) (table-behind has));
-      cause = before (λ s H. IfErr result (WhyNotAllocated (IsReady state c × HasTable state l1 i c) s.faults (storage state c').faults))
+      leaves = λ ready has. before (λ s H. OnOk result (LeavesRoom (room_for H.fields 1) (at_rest s H) (mark_in c) (resting state c') (mark_in c')))
+          (copies.named.leaves (ready-behind ready) (table-behind has));
+      cause = before (λ s H. IfErr result (WhyNotAllocated (IsReady state c × HasTable state l1 i c)
+          (IsFull 1 (at_rest s H) (mark_in c) (resting state c') (mark_in c')) s.faults (storage state c').faults))
           (if-refused result _ _ (λ fault. why-wider (IsReady state cr × HasTable state l1 i cr) (IsReady state c × HasTable state l1 i c)
+          (IsFull 1 (resting state cr) (mark_in c) (resting state c') (mark_in c'))
           (λ both. (ready-behind both.0, table-behind both.1)) (storage state cr).faults (storage state c').faults fault)
           copies.named.cause);
     };

@@ -25,6 +25,7 @@ use Rattle.qcow2_types.proofs.Over.{words-length}
 use Rattle.qcow2_types.proofs.WriteBack.{place-whole}
 use Rattle.qcow2_metadata.specs.Tables.{TableValue, grown_l1, padded, table_place}
 use Rattle.qcow2_alloc.specs.declared.file.ImageFile.{ImageFile}
+use Rattle.qcow2_alloc.specs.Crowding.{room_for, space}
 use Rattle.qcow2_alloc.specs.FreeList.{covers}
 use Rattle.qcow2_alloc.specs.Going.{WasNotCutOff}
 use Rattle.qcow2_alloc.specs.MakingRoom.{run_of}
@@ -37,15 +38,17 @@ use Rattle.qcow2_steps.specs.Advancing.{KeepsHeader}
 use Rattle.qcow2_steps.specs.LongerL1.{old_l1}
 use Rattle.qcow2_steps.proofs.Headers.{header-counts, header-l1, header-same, header-then}
 use Rattle.qcow2_steps.proofs.Steps.{put-off-advances, quiet-advances}
-use Rattle.qcow2_clusters.specs.Lengthening.{IsTop, LengthensL1, NamesL1, StandsIn, clusters_for, l1_run, lengthening, naming_l1}
+use Rattle.qcow2_clusters.specs.Lengthening.{IsTooLong, IsTop, LengthensL1, NamesL1, StandsIn, clusters_for, l1_clusters, l1_run, lengthening, naming_l1}
 use Rattle.qcow2_clusters.specs.MakingTables.{HasWordsOf, PlacesL1}
 use Rattle.qcow2_clusters.specs.Progress.{Kind, Progresses, both, handing}
 use Rattle.qcow2_clusters.specs.Rest.{AreEmpty, Clusters, IsReady, lent, resting, storage}
+use Rattle.qcow2_clusters.specs.Room.{IsFull, LeavesRoom, mark_in}
 use Rattle.qcow2_clusters.specs.declared.space.Space.{Space}
 use Rattle.qcow2_clusters.specs.Storing.{AreReserved, StoresRun, WhyNotAllocated, run_handed_by}
 use Rattle.qcow2_clusters.proofs.Adding.{AdvancesBy, progresses-halted, progresses-in-memory, progresses-otherwise, progresses-then-given, progresses-weaker, quiet-progresses, wider-both, wider-handing}
-use Rattle.qcow2_clusters.proofs.LongerTables.{IsStoredL1, later, part-meets, stored-advances, stored-entered, stored-unnamed}
-use Rattle.qcow2_clusters.proofs.MakingTables.{l1-placed, once-progresses, why-put, why-wider}
+use Rattle.qcow2_clusters.proofs.LeavingRoom.{leaves-as, why-as}
+use Rattle.qcow2_clusters.proofs.LongerTables.{IsStoredL1, later, part-meets, stored-advances, stored-counts, stored-entered, stored-unnamed}
+use Rattle.qcow2_clusters.proofs.MakingTables.{l1-placed, once-progresses, why-put}
 use Rattle.qcow2_clusters.proofs.NamingTables.{l1-long, l1-same}
 use Rattle.qcow2_clusters.proofs.Resting.{begun-quiet, begun-quietly}
 
@@ -79,12 +82,16 @@ stands-still h table was (Ok first) table' same stands = subst (λ (r : Result �
 stands-still h table was (Err fault) table' same stands = record { layout = stands.layout; words = stands.words; placed = tt }
 
 -- Why no longer table can be made: it would be too long, or there is no memory.
-pub grow-refused : {T : Type 0} (ready : Type 0) (at number faults : ℕ) (fault : Fault) → (2 ^ 22 < at + 1 → IsErrOf {T = T} (Err fault) (Limit number))
-    → (at + 1 ≤ 2 ^ 22 → IsOkUnless {T = T} (Err fault) Memory) → WhyNotAllocated ready faults faults fault
-grow-refused {T} ready at number faults fault far near = elim (cases_lt (2 ^ 22) (at + 1)) [
-  | inl long ↦ let e = far long in let same : fault ≡ Limit number = cc e in subst (WhyNotAllocated ready faults faults) (sym same) tt
-  | inr short ↦ let e = near short in let same : fault ≡ Memory = cc e in subst (WhyNotAllocated ready faults faults) (sym same) tt
+pub grow-refused : {T : Type 0} (ready : Type 0) (full : ℕ → Type 0) (at number faults : ℕ) (fault : Fault)
+    → (2 ^ 22 < at + 1 → IsErrOf {T = T} (Err fault) (Limit number)) → (at + 1 ≤ 2 ^ 22 → IsOkUnless {T = T} (Err fault) Memory)
+    → (2 ^ 22 < at + 1 → full number) → WhyNotAllocated ready full faults faults fault
+grow-refused {T} ready full at number faults fault far near told = elim (cases_lt (2 ^ 22) (at + 1)) [
+  | inl long ↦ let e = far long in let same : fault ≡ Limit number = cc e in subst (WhyNotAllocated ready full faults faults) (sym same) (λ is. told long)
+  | inr short ↦ let e = near short in let same : fault ≡ Memory = cc e in subst (WhyNotAllocated ready full faults faults) (sym same) tt
 ]
+
+short-enough : (i : ℕ) → (2 ^ 22 < i + 1 → ⊥) → i + 1 ≤ 2 ^ 22
+short-enough i near = elim (cases_lt (2 ^ 22) (i + 1)) [ inl long ↦ absurd (near long) | inr short ↦ short ]
 
 module _ {S : Type 0} (state : S → StorageState) (top : TableValue) (i : ℕ) (c : Clusters S) where
   abbrev Asked : Type 0
@@ -93,7 +100,7 @@ module _ {S : Type 0} (state : S → StorageState) (top : TableValue) (i : ℕ) 
   -- The call is refused before it changes anything.
   pub l1-not-begun : (fault : Fault) (top' : TableValue) → AreEmpty c.caches → HasWordsOf top top'
       → (IsReady state c → Asked → 2 ^ 22 < i + 1 → fault ≡ Limit (min (i + 1) (2 ^ 64 - 1)))
-      → WhyNotAllocated (IsReady state c × Asked) (storage state c).faults (storage state c).faults fault
+      → WhyNotAllocated (IsReady state c × Asked) (IsTooLong state top i c c) (storage state c).faults (storage state c).faults fault
       → LengthensL1 state top i c (Err fault) top' c
   l1-not-begun fault top' empty same far why = record {
     progress = λ asked. quiet-progresses (WasNotCutOff {T = Unit} (Err fault)) (λ _. 0) (λ _. 0) (storage state c) (resting state c) (storage state c) (resting state c)
@@ -110,6 +117,7 @@ module _ {S : Type 0} (state : S → StorageState) (top : TableValue) (i : ℕ) 
     words = tt;
     waits = λ asked. tt;
     far = λ ready asked long. ap (λ (f : Fault). Err f) (far ready asked long);
+    leaves = λ ready asked. tt;
     cause = why;
   }
 
@@ -120,13 +128,14 @@ module _ {S : Type 0} (state : S → StorageState) (top : TableValue) (i : ℕ) 
       let is : Err fault ≡ Err DamagedTable = places.err in
       let damaged : fault ≡ DamagedTable = cc is in
       l1-not-begun fault top' empty places.same (λ ready asked long. absurd (places.cause asked.layout (l1-placed (resting state c) ready.sound)))
-      (subst (WhyNotAllocated (IsReady state c × Asked) (storage state c).faults (storage state c).faults) (sym damaged)
+      (subst (WhyNotAllocated (IsReady state c × Asked) (IsTooLong state top i c c) (storage state c).faults (storage state c).faults) (sym damaged)
       (λ both. places.cause both.1.layout (l1-placed (resting state c) both.0.sound)))
 
   -- The longer table isn't stored.
   pub l1-not-stored : (n : ℕ) (content : List ℕ) (fault : Fault) (top' : TableValue) (c1 : Clusters S) → HasWordsOf top top'
-      → (2 ^ 22 < i + 1 → ⊥) → StoresRun state n content c (Err fault) c1 → LengthensL1 state top i c (Err fault) top' c1
-  l1-not-stored n content fault top' c1 same near stores = record {
+      → (2 ^ 22 < i + 1 → ⊥) → n ≡ l1_clusters c.file.header.fields top i → StoresRun state n content c (Err fault) c1
+      → LengthensL1 state top i c (Err fault) top' c1
+  l1-not-stored n content fault top' c1 same near taken stores = record {
     progress = λ asked. progresses-weaker (WasNotCutOff {T = ℕ} (Err fault)) (WasNotCutOff {T = Unit} (Err fault))
         (handing (run_handed_by n (Err fault)) (λ _. 0)) (handing (λ _. 0) (λ _. 0)) (storage state c) (resting state c) (storage state c1) (resting state c1)
         (wider-handing (run_handed_by n (Err fault)) (λ _. 0) (handing (λ _. 0) (λ _. 0))) (λ whole. whole) (λ d. refl) (λ d. refl) stores.progress;
@@ -142,7 +151,11 @@ module _ {S : Type 0} (state : S → StorageState) (top : TableValue) (i : ℕ) 
     words = tt;
     waits = λ asked. tt;
     far = λ ready asked long. absurd (near long);
-    cause = why-wider (IsReady state c) (IsReady state c × Asked) (λ both. both.0) (storage state c).faults (storage state c1).faults fault stores.cause;
+    leaves = λ ready asked. tt;
+    cause = why-as (IsReady state c) (IsReady state c × Asked) (IsFull n (resting state c) (mark_in c) (resting state c1) (mark_in c1))
+        (IsTooLong state top i c c1) (λ both. both.0) (storage state c).faults (storage state c1).faults fault
+        (λ number at is full. inr (short-enough i near, subst (λ k. IsFull k (resting state c) (mark_in c) (resting state c1) (mark_in c1) number) taken full))
+        stores.cause;
   }
 
 -- Each place of a file has a byte.
@@ -185,6 +198,13 @@ put-off-run m bits place n taken sound quiet is enough unnamed = elim (cases_eq 
       (put-off-advances m e sound (λ d. let le = enough d in let same = here d in omega (arith, le, same))
       (λ d there. unnamed d (let same = here d in omega (arith, there, same)))))
 ]
+
+-- The clusters that a longer table takes are told by how long it comes to be.
+pub clusters-taken : (h : Fields) (top placed grown : TableValue) (i : ℕ) → placed.words ≡ top.words → grown ≡ grown_l1 (layout_of h) placed i
+    → clusters_for h (length grown.words) ≡ l1_clusters h top i
+clusters-taken h top placed grown i same grows = ap (clusters_for h)
+    (ap (λ (t : TableValue). length t.words) grows ∙ padded-long placed.words (max (length placed.words) (i + 1)) (le-max_left (length placed.words) (i + 1))
+    ∙ ap (λ (ws : List ℕ). max (length ws) (i + 1)) same)
 
 -- The longer table is stored, and the header is to name it.
 module _ {S : Type 0} (state : S → StorageState) (top placed grown : TableValue) (i : ℕ) (c : Clusters S) (first : ℕ) (c1 : Clusters S)
@@ -315,7 +335,8 @@ module _ {S : Type 0} (state : S → StorageState) (top placed grown : TableValu
       words = tt;
       waits = λ asked. tt;
       far = λ ready asked long. absurd (near long);
-      cause = why-put (IsReady state c × Given) (storage state c).faults (storage state c1).faults (state file.image).faults fault (stores.rests.faults tt).0
+      leaves = λ ready asked. tt;
+      cause = why-put (IsReady state c × Given) (IsTooLong state top i c (lent file c1.caches space)) (storage state c).faults (storage state c1).faults (state file.image).faults fault (stores.rests.faults tt).0
           (cause-of answer names.put refused);
     }
 
@@ -401,6 +422,22 @@ module _ {S : Type 0} (state : S → StorageState) (top placed grown : TableValu
     words-are : table.words ≡ padded placed.words n
     words-are = stands.words ∙ ap (λ (t : TableValue). t.words) grows
 
+    -- As much is counted as before.
+    counts-still : IsReady state c → Given → (d : ℕ) → counted m2 d ≡ counted m1 d
+    counts-still ready given d =
+        let sound1 = (stores.progress.holds ready.keeps ready.sound tt).sound in
+        subst (λ (x : Metadata). counted x d ≡ counted m1 d) (sym (later-there ready given sound1))
+        (stored-counts m1 table placed n first sound1 (stored-so ready given) d)
+
+    leaves-there : IsReady state c → Given
+        → LeavesRoom (room_for h (l1_clusters h top i)) (resting state c) (mark_in c) (resting state c2) (mark_in c2)
+    leaves-there ready given =
+        subst (λ k. LeavesRoom (room_for h k) (resting state c) (mark_in c) (resting state c2) (mark_in c2))
+        (clusters-taken h top placed grown i places.same.words grows)
+        (leaves-as (room_for h k) m m m1 (resting state c2) (mark_in c) (mark_in c1) refl (λ d. refl)
+        (ap (λ (H : Header). space H.fields) header)
+        (λ d. subst (λ (x : Metadata). counted x d ≡ counted m1 d) (sym resting-is) (counts-still ready given d)) (stores.leaves ready))
+
     abbrev kind : Kind
     kind = lengthening (resting state c) (resting state c2) (Ok tt)
 
@@ -429,5 +466,6 @@ module _ {S : Type 0} (state : S → StorageState) (top placed grown : TableValu
       words = words-are ∙ ap (λ (ws : List ℕ). padded ws (max (length ws) (i + 1))) places.same.words;
       waits = λ given. (c1.space.to_free.entries, ap (λ (l : List FreeEntry). c1.space.to_free.entries ++ l) (waits-is given));
       far = λ ready asked long. absurd (near long);
+      leaves = λ ready given. (short-enough i near, leaves-there ready given);
       cause = tt;
     }

@@ -3,6 +3,7 @@ pub mod Settled
 pub mod Resting
 pub mod Ending
 pub mod FreeingWaiting
+pub mod LeavingRoom
 pub mod AllocatingRuns
 pub mod StoringRuns
 pub mod StoringSettled

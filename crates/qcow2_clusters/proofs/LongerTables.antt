@@ -30,9 +30,9 @@ use Rattle.qcow2_metadata.proofs.TableFacts.{words_at, words_long}
 use Rattle.qcow2_alloc.specs.FreeList.{covers}
 use Rattle.qcow2_alloc.specs.MakingRoom.{run_of}
 use Rattle.qcow2_alloc.specs.Opening.{IsL1Of}
-use Rattle.qcow2_alloc.specs.Quiet.{Metadata, IsSound, named_at_all, waiting}
+use Rattle.qcow2_alloc.specs.Quiet.{Metadata, IsSound, counted, named_at_all, waiting}
 use Rattle.qcow2_steps.specs.LongerL1.{IsReadyL1Table, NamesL1Table, new_l1, old_l1, with_longer_l1}
-use Rattle.qcow2_steps.proofs.LongerL1.{longer-advances, old-unnamed}
+use Rattle.qcow2_steps.proofs.LongerL1.{counts-there, longer-advances, old-unnamed}
 use Rattle.qcow2_clusters.specs.Lengthening.{clusters_for, l1_run, naming_l1}
 use Rattle.qcow2_clusters.specs.Progress.{handing}
 use Rattle.qcow2_clusters.specs.Rest.{nothing_cached}
@@ -207,6 +207,10 @@ module _ (m : Metadata) (table old : TableValue) (n first : ℕ) (sound : IsSoun
 
   pub stored-unnamed : (d : ℕ) → old_l1 m d ≡ 1 → named_at_all later d ≡ 0
   stored-unnamed d own = subst (λ (k : Metadata). named_at_all k d ≡ 0) later-is (old-unnamed m (table_place table) more x sound ready names d own)
+
+  -- and as much is counted.
+  pub stored-counts : (d : ℕ) → counted later d ≡ counted m d
+  stored-counts d = subst (λ (k : Metadata). counted k d ≡ counted m d) later-is (counts-there m (table_place table) more x sound ready names d)
 
   far : 64 ≤ first * cluster_size h
   far =

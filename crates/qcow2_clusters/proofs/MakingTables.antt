@@ -6,7 +6,7 @@ use Rattle.imago_storage.specs.State.{StorageState, Rose, Shape}
 use Rattle.imago_storage.specs.Calls.{Cause, IsFaultless, Kept, Later}
 use Rattle.imago_storage.specs.Through.{Put, PutAtOnce}
 use Rattle.imago_storage.specs.declared.fault.Fault.{Fault}
-use Rattle.imago_storage.specs.declared.fault.Fault.TheVariants.{Counter, DamagedTable, Limit, Memory, Storage}
+use Rattle.imago_storage.specs.declared.fault.Fault.TheVariants.{DamagedTable, Memory, Storage}
 use Rattle.imago_storage.proofs.Composing.{keeps_on, later_both, later_same, no_stops, one_stop, tells_on}
 use Rattle.qcow2_types.specs.Bytes.{Bytes, bytes_of, splice, word}
 use Rattle.qcow2_types.specs.Entries.{entry, l2_mapping, l2_table}
@@ -18,11 +18,13 @@ use Rattle.qcow2_types.proofs.HeaderLimits.{header-limited}
 use Rattle.qcow2_metadata.specs.Places.{IsInReach}
 use Rattle.qcow2_metadata.specs.Tables.{TableValue, table_place}
 use Rattle.qcow2_alloc.specs.declared.cache.MetadataCaches.{MetadataCaches}
+use Rattle.qcow2_alloc.specs.Allocators.{mark_of}
 use Rattle.qcow2_alloc.specs.Caches.{HasRoomOf}
+use Rattle.qcow2_alloc.specs.Crowding.{room_for, space}
 use Rattle.qcow2_alloc.specs.Allocating.{MovedTable}
 use Rattle.qcow2_alloc.specs.Going.{WasNotCutOff}
 use Rattle.qcow2_alloc.specs.Opening.{IsL1Of}
-use Rattle.qcow2_alloc.specs.Quiet.{Metadata, IsIn, IsSound, named_at_all, one_at}
+use Rattle.qcow2_alloc.specs.Quiet.{Metadata, IsIn, IsSound, counted, named_at_all, one_at}
 use Rattle.qcow2_alloc.proofs.Flushing.Faultless.{faultless-then, put-faultless}
 use Rattle.qcow2_alloc.proofs.Quiet.AtOnce.{at-once-file, put-done}
 use Rattle.qcow2_steps.specs.Advancing.{MayBeLeft}
@@ -30,9 +32,11 @@ use Rattle.qcow2_steps.specs.NewTables.{old_table, slot_or_none}
 use Rattle.qcow2_clusters.specs.MakingTables.{EntersTable, HasWordsOf, IsContent, NamesNewTable, PlacesTable, replacing}
 use Rattle.qcow2_clusters.specs.Progress.{Kind, Progresses, both, handing}
 use Rattle.qcow2_clusters.specs.Rest.{AreEmpty, Clusters, IsReady, lent, resting, storage}
+use Rattle.qcow2_clusters.specs.Room.{IsFull, LeavesRoom, mark_in}
 use Rattle.qcow2_clusters.specs.Storing.{Stores, WhyNotAllocated, handed_by}
 use Rattle.qcow2_clusters.proofs.Adding.{AdvancesBy, IsWider, LeftBy, progresses-halted, progresses-otherwise, progresses-then-given, progresses-weaker, wider-both, wider-handing}
-use Rattle.qcow2_clusters.proofs.NamingTables.{IsReplacement, bytes-mean, from-zero, l1-moved, l1-same, l1-table, naming_word, replaced-advances, replaced-copied, replaced-entered, replaced-named, replaced-unnamed, resting-memory, slots-kept}
+use Rattle.qcow2_clusters.proofs.LeavingRoom.{leaves-as, why-as}
+use Rattle.qcow2_clusters.proofs.NamingTables.{IsReplacement, bytes-mean, from-zero, l1-moved, l1-same, l1-table, naming_word, replaced-advances, replaced-copied, replaced-counts, replaced-entered, replaced-named, replaced-unnamed, resting-memory, slots-kept}
 
 -- By one request the image comes to be what its file then makes it.
 module _ (m : Metadata) (kind : Kind) (at : ℕ) (bytes : List ℕ) (some : 0 < length bytes) (old new : StorageState) (is_in : IsIn old m) (H' : Header)
@@ -75,21 +79,16 @@ pub l1-placed : (m : Metadata) → IsSound m → IsTrue (is_place m.header.field
 l1-placed m sound = (header-limited true m.file m.header sound.safe.consistent.readable.loads).l1_place
 
 -- A cause stays one where less is ready,
-pub why-wider : (ready less : Type 0) → (less → ready) → (before after : ℕ) (fault : Fault) → WhyNotAllocated ready before after fault
-    → WhyNotAllocated less before after fault
-why-wider ready less from before after Memory why = tt
-why-wider ready less from before after Storage why = why
-why-wider ready less from before after (Limit number) why = tt
-why-wider ready less from before after DamagedTable why = λ is. why (from is)
-why-wider ready less from before after Counter why = λ is. why (from is)
-why-wider ready less from before after fault why = absurd why
+pub why-wider : (ready less : Type 0) (full : ℕ → Type 0) → (less → ready) → (before after : ℕ) (fault : Fault)
+    → WhyNotAllocated ready full before after fault → WhyNotAllocated less full before after fault
+why-wider ready less full from before after fault = why-as ready less full full from before after fault (λ number at is told. told)
 
 -- and that of a write is one.
-pub why-put : (ready : Type 0) (before mid after : ℕ) (fault : Fault) → mid ≡ before → Cause mid after fault
-    → WhyNotAllocated ready before after fault
-why-put ready before mid after Memory same why = tt
-why-put ready before mid after Storage same why = subst (λ n. Rose n after) same why
-why-put ready before mid after fault same why = absurd why
+pub why-put : (ready : Type 0) (full : ℕ → Type 0) (before mid after : ℕ) (fault : Fault) → mid ≡ before → Cause mid after fault
+    → WhyNotAllocated ready full before after fault
+why-put ready full before mid after Memory same why = tt
+why-put ready full before mid after Storage same why = subst (λ n. Rose n after) same why
+why-put ready full before mid after fault same why = absurd why
 
 -- In whatever the answer is refused, it is for a cause of that kind.
 pub if-refused : (result : Result ℕ Fault) (P Q : Fault → Type 0) → ((fault : Fault) → P fault → Q fault) → IfErr result P → IfErr result Q
@@ -116,7 +115,8 @@ pub not-begun : {S : Type 0} (state : S → StorageState) (asked : Type 0) (kind
     (top' : TableValue) (c' : Clusters S) → AreEmpty c.caches → IsKept state c c'
     → (IsReady state c → asked → WasNotCutOff {T = ℕ} (Err fault) → ⊥)
     → (WasNotCutOff {T = ℕ} (Err fault) → IsFaultless (storage state c) (storage state c'))
-    → WhyNotAllocated (IsReady state c × asked) (storage state c).faults (storage state c').faults fault
+    → WhyNotAllocated (IsReady state c × asked) (IsFull 1 (resting state c) (mark_in c) (resting state c') (mark_in c'))
+    (storage state c).faults (storage state c').faults fault
     → NamesNewTable state asked kind i c (Err fault) top' c'
 not-begun {S} state asked kind i c fault top' c' empty is never faultless why = record {
   progress = λ asks. record {
@@ -141,6 +141,7 @@ not-begun {S} state asked kind i c fault top' c' empty is never faultless why = 
   l1 = λ ready asks whole. absurd (never ready asks whole);
   there = λ ready asks. tt;
   copied = λ ready asks. tt;
+  leaves = λ ready asks. tt;
   cause = why;
 }
 
@@ -158,7 +159,9 @@ narrowed state asked asked' kind kind' i c result top' c' from wider same spared
   l1 = λ ready asks. named.l1 ready (from asks);
   there = λ ready asks. named.there ready (from asks);
   copied = λ ready asks. named.copied ready (from asks);
-  cause = if-refused result _ _ (λ fault. why-wider (IsReady state c × asked) (IsReady state c × asked') (λ both. (both.0, from both.1))
+  leaves = λ ready asks. named.leaves ready (from asks);
+  cause = if-refused result _ _ (λ fault. why-wider (IsReady state c × asked) (IsReady state c × asked')
+      (IsFull 1 (resting state c) (mark_in c) (resting state c') (mark_in c')) (λ both. (both.0, from both.1))
       (storage state c).faults (storage state c').faults fault) named.cause;
 }
 
@@ -183,6 +186,7 @@ held-aside state asked kind i c result top' c' n named = record {
   l1 = named.l1;
   there = named.there;
   copied = named.copied;
+  leaves = named.leaves;
   cause = named.cause;
 }
 
@@ -199,18 +203,19 @@ module _ {S : Type 0} (state : S → StorageState) (content : List ℕ) (l1 : Ta
   never-begun fault (inl memory) ready asked whole = subst (λ (x : Fault). WasNotCutOff {T = ℕ} (Err x)) memory whole
   never-begun fault (inr damaged) ready asked whole = damaged.1 asked.top_word.l1.layout (l1-placed (resting state c) ready.sound)
 
-  why-not-begun : (fault : Fault) (before after : ℕ) → WhyNotBegun c.file.header.fields l1 fault
-      → WhyNotAllocated (IsReady state c × Asked) before after fault
-  why-not-begun fault before after (inl memory) = subst (WhyNotAllocated (IsReady state c × Asked) before after) (sym memory) tt
-  why-not-begun fault before after (inr damaged) =
-      subst (WhyNotAllocated (IsReady state c × Asked) before after) (sym damaged.0)
+  why-not-begun : (full : ℕ → Type 0) (fault : Fault) (before after : ℕ) → WhyNotBegun c.file.header.fields l1 fault
+      → WhyNotAllocated (IsReady state c × Asked) full before after fault
+  why-not-begun full fault before after (inl memory) = subst (WhyNotAllocated (IsReady state c × Asked) full before after) (sym memory) tt
+  why-not-begun full fault before after (inr damaged) =
+      subst (WhyNotAllocated (IsReady state c × Asked) full before after) (sym damaged.0)
       (λ both. damaged.1 both.1.top_word.l1.layout (l1-placed (resting state c) both.0.sound))
 
   pub not-placed : (fault : Fault) (l1' : TableValue) → AreEmpty c.caches → WhyNotBegun c.file.header.fields l1 fault
       → PlacesTable state content l1 i c (Err fault) l1' c
   not-placed fault l1' empty why = record {
     named = not-begun state Asked (replacing (resting state c) i (Err fault)) i c fault l1' c empty (kept-itself state c)
-        (never-begun fault why) (λ whole. (refl, refl)) (why-not-begun fault (storage state c).faults (storage state c).faults why);
+        (never-begun fault why) (λ whole. (refl, refl))
+        (why-not-begun (IsFull 1 (resting state c) (mark_in c) (resting state c) (mark_in c)) fault (storage state c).faults (storage state c).faults why);
     held = refl;
     old = λ ready asked. tt;
   }
@@ -232,8 +237,9 @@ module _ {S : Type 0} (state : S → StorageState) (content : List ℕ) (l1 : Ta
           stores.rests.header.2 (stores.l1 ready whole l1 asked.top_word.l1));
       there = λ ready asked. tt;
       copied = λ ready asked. tt;
-      cause = why-wider (IsReady state c) (IsReady state c × Asked) (λ both. both.0)
-          (storage state c).faults (storage state c1).faults fault stores.cause;
+      leaves = λ ready asked. tt;
+      cause = why-wider (IsReady state c) (IsReady state c × Asked) (IsFull 1 (resting state c) (mark_in c) (resting state c1) (mark_in c1))
+          (λ both. both.0) (storage state c).faults (storage state c1).faults fault stores.cause;
     };
     held = stores.held;
     old = λ ready asked. tt;
@@ -405,6 +411,18 @@ module _ {S : Type 0} (state : S → StorageState) (content : List ℕ) (l1 : Ta
         subst (λ (x : Metadata). named_at_all x d ≡ 0) (sym resting-is)
         (subst (λ (x : Bytes). named_at_all (record m1 { file = x }) d ≡ 0) (sym file-is) is)
 
+    -- As much is counted as before.
+    counts-still : (d : ℕ) → counted (resting state c2) d ≡ counted m1 d
+    counts-still d =
+        let is = replaced-counts m1 i t sound1 (replacement ready given) d in
+        subst (λ (x : Metadata). counted x d ≡ counted m1 d) (sym resting-is)
+        (subst (λ (x : Bytes). counted (record m1 { file = x }) d ≡ counted m1 d) (sym file-is) is)
+
+    leaves-there : LeavesRoom (room_for h 1) m (mark_in c) (resting state c2) (mark_in c2)
+    leaves-there = subst (λ k. LeavesRoom (room_for h 1) m (mark_in c) (resting state c2) k) (sym (ap mark_of left.allocator))
+        (leaves-as (room_for h 1) m m m1 (resting state c2) (mark_in c) (mark_in c1) refl (λ d. refl)
+        (ap (λ (H : Header). space H.fields) left.header) counts-still (stores.leaves ready))
+
   empty-still : AreEmpty c2.caches
   empty-still = subst (λ (caches : MetadataCaches S). AreEmpty caches) (sym left.caches) stores.rests.empty
 
@@ -441,6 +459,7 @@ module _ {S : Type 0} (state : S → StorageState) (content : List ℕ) (l1 : Ta
       l1 = λ ready given whole. entered done ready given;
       there = λ ready given. (stores.named.0, named done ready given);
       copied = λ ready given. marked done ready given;
+      leaves = leaves-there done;
       cause = tt;
     };
     held = held ∙ stores.held;
@@ -466,7 +485,8 @@ module _ {S : Type 0} (state : S → StorageState) (content : List ℕ) (l1 : Ta
       l1 = λ ready given whole. absurd (never whole);
       there = λ ready given. tt;
       copied = λ ready given. tt;
-      cause = why-put (IsReady state c × Given)
+      leaves = λ ready given. tt;
+      cause = why-put (IsReady state c × Given) (IsFull 1 (resting state c) (mark_in c) (resting state c2) (mark_in c2))
           (storage state c).faults (storage state c1).faults (storage state c2).faults fault (stores.rests.faults tt).0
           (cause-of answer put refused);
     };

@@ -25,11 +25,11 @@ use Rattle.qcow2_metadata.specs.Tables.{TableValue, words_in}
 use Rattle.qcow2_metadata.proofs.TableFacts.{words_at, words_long}
 use Rattle.qcow2_alloc.specs.Memory.{memory}
 use Rattle.qcow2_alloc.specs.Opening.{IsL1Of}
-use Rattle.qcow2_alloc.specs.Quiet.{Metadata, IsSound, in_memory, named_at_all, one_at, waiting}
+use Rattle.qcow2_alloc.specs.Quiet.{Metadata, IsSound, counted, in_memory, named_at_all, one_at, waiting}
 use Rattle.qcow2_alloc.proofs.Memory.SafeLaws.{clean-memory}
 use Rattle.qcow2_steps.specs.NewTables.{IsReadyL2Table, NamesTable, old_table, slot_or_none, with_l1_word}
 use Rattle.qcow2_steps.specs.Words.{IsReserved}
-use Rattle.qcow2_steps.proofs.NewTables.{old-unnamed, table-advances, table-sound}
+use Rattle.qcow2_steps.proofs.NewTables.{counts-there, old-unnamed, table-advances, table-sound}
 use Rattle.qcow2_clusters.specs.Progress.{handing}
 use Rattle.qcow2_clusters.specs.Rest.{nothing_cached}
 use Rattle.qcow2_clusters.proofs.Adding.{AdvancesBy}
@@ -185,6 +185,10 @@ module _ (m : Metadata) (i t : ℕ) (sound : IsSound m) (new : IsReplacement m i
   replaced-entered l1 l1' of layout words =
       l1-entered m.file h l1 l1' i w of new.inside names.fits layout words
       (table-sound m true i t w sound ready names).safe.consistent.readable.tables
+
+  -- as much is counted;
+  pub replaced-counts : (d : ℕ) → counted (with_l1_word m i w) d ≡ counted m d
+  replaced-counts d = counts-there m true i t w sound ready names d
 
   -- and nothing names the old table.
   pub replaced-unnamed : (d : ℕ) → d ≢ 0 → l2_table m.file h i ≡ d * cluster_size h → named_at_all (with_l1_word m i w) d ≡ 0

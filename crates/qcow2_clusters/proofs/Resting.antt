@@ -6,6 +6,7 @@ use Rattle.std.proofs.lemmas.List.Sums.{sum_by-cons}
 use Rattle.imago_storage.specs.State.{StorageState}
 use Rattle.imago_storage.specs.declared.fault.Fault.{Fault}
 use Rattle.qcow2_types.specs.Bytes.{Bytes, word}
+use Rattle.qcow2_types.specs.Counts.{count}
 use Rattle.qcow2_types.specs.Entries.{l1_table_sound}
 use Rattle.qcow2_types.specs.Header.{Fields, Header}
 use Rattle.qcow2_types.specs.Words.{l1_word_sound}
@@ -24,11 +25,11 @@ use Rattle.qcow2_alloc.specs.Freeing.{IsLoose}
 use Rattle.qcow2_alloc.specs.Going.{WasNotCutOff}
 use Rattle.qcow2_alloc.specs.Memory.{Cached, memory}
 use Rattle.qcow2_alloc.specs.Opening.{IsL1Of}
-use Rattle.qcow2_alloc.specs.Quiet.{IsQuiet, IsSound, Metadata, Quietly}
+use Rattle.qcow2_alloc.specs.Quiet.{IsQuiet, IsSound, Metadata, Quietly, counted}
 use Rattle.qcow2_alloc.specs.Safety.{IsOrdered, Safe}
 use Rattle.qcow2_alloc.proofs.Caching.Loose.{loose-none}
 use Rattle.qcow2_alloc.proofs.Quiet.QuietFlushes.{memory-quietly, order-quiet}
-use Rattle.qcow2_clusters.specs.Rest.{AreEmpty, Clusters, HasEntries, KeepsL1, nothing_cached, resting, storage}
+use Rattle.qcow2_clusters.specs.Rest.{AreEmpty, Clusters, HasEntries, KeepsL1, changed, nothing_cached, resting, storage}
 use Rattle.qcow2_clusters.specs.Settling.{AreUnpinned, at_rest}
 use Rattle.qcow2_clusters.proofs.Settled.{Unpinned, unpinned-tables}
 
@@ -60,6 +61,12 @@ begun-sound m none sound = (begun-quiet m none sound).0
 
 pub begun-quietly : (ok : Type 0) (s : StorageState) (m : Metadata) → m.cached ≡ nothing_cached → Quietly ok (λ _. 0) (λ _. 0) s (at_rest m) s m
 begun-quietly ok s m none = memory-quietly ok (λ _. 0) (λ _. 0) s (at_rest m) m (λ sound done. begun-quiet m none sound)
+
+-- In it each cluster is counted as often.
+pub begun-counts : {S : Type 0} (state : S → StorageState) (c : Clusters S) → AreEmpty c.caches → (d : ℕ)
+    → counted (changed state c) d ≡ counted (resting state c) d
+begun-counts state c empty d =
+    ap (λ (cached : Cached). count (memory (resting state c).file c.file.header.fields cached) c.file.header.fields d) empty
 
 -- Of no entries none is pinned,
 pub empty-unpinned : {S : Type 0} (caches : MetadataCaches S) → AreEmpty caches → AreUnpinned caches

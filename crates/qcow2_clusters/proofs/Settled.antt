@@ -1,6 +1,6 @@
 -- What is cached is written, and then dropped.
 use Rattle.std.proofs.Common.{◌≡◌, ℕ, refl, ap, sym, subst, ◌∙◌, List, [], ◌∷◌, Result, Ok, Err, inl, inr}
-use Rattle.std.specs.Prelude.{⊤, OnOk, map}
+use Rattle.std.specs.Prelude.{⊤, IsTrue, OnOk, map}
 use Rattle.std.specs.List.{AllByRecursion}
 use Rattle.imago_storage.specs.Calls.{IsFaultless}
 use Rattle.imago_storage.specs.State.{StorageState}
@@ -8,6 +8,7 @@ use Rattle.imago_storage.specs.declared.fault.Fault.{Fault}
 use Rattle.imago_storage.specs.declared.fault.Fault.TheVariants.{DamagedTable, Memory, Storage}
 use Rattle.imago_storage.proofs.Composing.{later_same, no_stops}
 use Rattle.qcow2_types.specs.Bytes.{Bytes, bytes_of}
+use Rattle.qcow2_types.specs.Counts.{count}
 use Rattle.qcow2_types.specs.Header.{Header}
 use Rattle.qcow2_types.specs.Over.{over}
 use Rattle.qcow2_types.specs.Pending.{FreeEntry}
@@ -22,7 +23,7 @@ use Rattle.qcow2_alloc.specs.Cache.{kept_pinned}
 use Rattle.qcow2_alloc.specs.Caches.{HasRoomOf, cached_in}
 use Rattle.qcow2_alloc.specs.Going.{Always, AreBlocksInReach, AreTablesInReach, CountsWrites, Going, IsMild, WasNotCutOff, WhyNotWritten}
 use Rattle.qcow2_alloc.specs.Memory.{Cached, memory, written_block, written_table}
-use Rattle.qcow2_alloc.specs.Quiet.{IsIn, IsQuiet, IsSound, Metadata, Quietly}
+use Rattle.qcow2_alloc.specs.Quiet.{IsIn, IsQuiet, IsSound, Metadata, Quietly, counted}
 use Rattle.qcow2_alloc.specs.Safety.{AreBlocksClean, AreTablesClean, IsLeft, IsSettled, Safe}
 use Rattle.qcow2_alloc.proofs.Caching.Empty.{empty-safe}
 use Rattle.qcow2_alloc.proofs.Memory.SafeLaws.{clean-memory, safe-reach}
@@ -93,6 +94,26 @@ rests-quietly m flushed old new cached' at going counts tables blocks = record {
       (subst (λ (r : Result Unit Fault). OnOk r (AreTablesClean cached')) done tables) (subst (λ (r : Result Unit Fault). OnOk r (AreBlocksClean cached')) done blocks);
 }
 
+-- Each cluster is counted as often then.
+counts-kept : (m : Metadata) (old new : List ℕ) (cached' : Cached) → m.file ≡ bytes_of old → IsSettled m.header m.order old m.cached new cached'
+    → AreTablesClean cached' → AreBlocksClean cached' → (c : ℕ) → counted (at_rest (record m { file = bytes_of new })) c ≡ counted m c
+unfolding over
+counts-kept m old new cached' at settled tables blocks c = ap (λ (g : Bytes). count g m.header.fields c)
+    (sym (clean-memory (bytes_of new) m.header.fields cached' tables blocks) ∙ settled.memory_same ∙ sym (ap (λ (f : Bytes). memory f m.header.fields m.cached) at))
+
+pub rests-counting : (m : Metadata) (flushed : Result Unit Fault) (old new : StorageState) (cached' : Cached) → IsIn old m
+    → Going m.header m.order Always (flushed ≡ Ok tt) old m.cached new cached'
+    → CountsWrites (AreTablesInReach m.cached × AreBlocksInReach m.cached) old.faults new.faults flushed
+    → OnOk flushed (AreTablesClean cached') → OnOk flushed (AreBlocksClean cached')
+    → IsTrue old.shape.keeps → IsSound m → WasNotCutOff flushed → (c : ℕ)
+    → counted (at_rest (record m { file = bytes_of new.bytes })) c ≡ counted m c
+rests-counting m flushed old new cached' at going counts tables blocks keeps sound whole =
+    let reach = safe-reach m.file m.header m.cached m.order sound.safe in
+    let done = written-whole (AreTablesInReach m.cached × AreBlocksInReach m.cached) old.faults new.faults flushed counts reach whole in
+    let safe : Safe (bytes_of old.bytes) m.header m.cached m.order = subst (λ (f : Bytes). Safe f m.header m.cached m.order) at sound.safe in
+    counts-kept m old.bytes new.bytes cached' at (going.holds keeps safe tt (inl done))
+    (subst (λ (r : Result Unit Fault). OnOk r (AreTablesClean cached')) done tables) (subst (λ (r : Result Unit Fault). OnOk r (AreBlocksClean cached')) done blocks)
+
 -- Where nothing was done before it was cut off, no request is made.
 pub cut-quietly : (ok : Type 0) (s : StorageState) (m m' : Metadata) → (ok → ⊥) → Quietly ok (λ _. 0) (λ _. 0) s m s m'
 cut-quietly ok s m m' never = record {
@@ -131,6 +152,7 @@ module _ {S T : Type 0} (state : S → StorageState) (given : Result T Fault) (b
     header = refl;
     quiet = λ table pending.
         cut-quietly (WasNotCutOff given) (state before.image) (metadata_of state before old table pending) (at_rest (metadata_of state before old table pending)) cut;
+    counts = λ table pending keeps sound whole. absurd (cut whole);
     faults = λ whole. absurd (cut whole);
     cut = λ _. (refl, refl);
     ok = ok-same given;
@@ -150,6 +172,14 @@ module _ {S T : Type 0} (state : S → StorageState) (given : Result T Fault) (b
           (at_rest (record (metadata_of state after old table pending) { header = H }))) (sym header)
           (rests-quietly (metadata_of state before old table pending) flushed (state before.image) (state after.image) cached' refl going counts tables blocks)
 
+      settled-counts : (table : TableValue) (pending : List FreeEntry) → IsTrue (state before.image).shape.keeps
+          → IsSound (metadata_of state before old table pending) → WasNotCutOff flushed → (c : ℕ)
+          → counted (at_rest (metadata_of state after old table pending)) c ≡ counted (metadata_of state before old table pending) c
+      settled-counts table pending keeps sound done c =
+          subst (λ (H : Header). counted (at_rest (record (metadata_of state after old table pending) { header = H })) c ≡ counted (metadata_of state before old table pending) c)
+          (sym header)
+          (rests-counting (metadata_of state before old table pending) flushed (state before.image) (state after.image) cached' refl going counts tables blocks keeps sound done c)
+
     -- with the same answer where that succeeded,
     pub settled-whole : Going before.header old.order Always (done_so ≡ done_so) (state before.image) (cached_in old) (state after.image) cached'
         → (state after.image).faults ≡ (state before.image).faults → AreTablesClean cached' → AreBlocksClean cached' → IsFaultless (state before.image) (state after.image)
@@ -161,6 +191,7 @@ module _ {S T : Type 0} (state : S → StorageState) (given : Result T Fault) (b
       quiet = λ table pending.
           quietly-weaker ⊤ (WasNotCutOff given) (λ _. 0) (λ _. 0) (state before.image) (metadata_of state before old table pending) (state after.image)
           (at_rest (metadata_of state after old table pending)) (λ sound done. tt) (quietly-settled done_so going counts tables blocks table pending);
+      counts = λ table pending keeps sound done. settled-counts done_so going counts tables blocks table pending keeps sound tt;
       faults = λ done. faultless;
       cut = λ cut. absurd (cut whole);
       ok = ok-same given;
@@ -176,6 +207,7 @@ module _ {S T : Type 0} (state : S → StorageState) (given : Result T Fault) (b
       room = room;
       header = header;
       quiet = quietly-settled (refused_so fault) going counts tt tt;
+      counts = settled-counts (refused_so fault) going counts tt tt;
       faults = faultless;
       cut = λ cut. absurd (cut whole);
       ok = tt;

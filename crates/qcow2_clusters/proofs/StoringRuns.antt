@@ -13,6 +13,7 @@ use Rattle.qcow2_types.specs.Bytes.{bytes_of}
 use Rattle.qcow2_types.specs.Header.{Header, cluster_size}
 use Rattle.qcow2_types.specs.Pending.{FreeEntry}
 use Rattle.qcow2_alloc.specs.declared.file.ImageFile.{ImageFile}
+use Rattle.qcow2_alloc.specs.Crowding.{room_for}
 use Rattle.qcow2_alloc.specs.Going.{IsMild, WasNotCutOff}
 use Rattle.qcow2_alloc.specs.FreeList.{covers}
 use Rattle.qcow2_alloc.specs.HandingOut.{AllocatesClusters}
@@ -28,18 +29,21 @@ use Rattle.qcow2_alloc.proofs.Quiet.QuietThen.{quietly-otherwise, quietly-then}
 use Rattle.qcow2_steps.specs.Data.{WritesBeside}
 use Rattle.qcow2_steps.proofs.DataRuns.{beside-reserved, beside-words}
 use Rattle.qcow2_clusters.specs.Rest.{AreEmpty, Clusters, HasEntries, IsReady, changed, lent, resting, storage}
+use Rattle.qcow2_clusters.specs.Room.{LeavesRoom, mark_in}
 use Rattle.qcow2_clusters.specs.Storing.{AreReserved, StoresRunUnsettled, WhyNotAllocated}
-use Rattle.qcow2_clusters.proofs.AllocatingRuns.{run-named, run-quietly-handed, run-reserved, run-room, run-size, run-unpinned, run-unused}
+use Rattle.qcow2_clusters.proofs.AllocatingRuns.{run-leaves, run-named, run-quietly-handed, run-reserved, run-room, run-size, run-unpinned, run-unused}
 use Rattle.qcow2_clusters.proofs.Ending.{begun, quiet-halted}
+use Rattle.qcow2_clusters.proofs.LeavingRoom.{leaves-as}
 
 -- why it couldn't be written
-why-written : (ready : Type 0) (before mid after : ℕ) → before ≤ mid → (fault : Fault) → Cause mid after fault → WhyNotAllocated ready before after fault
-why-written ready before mid after later Memory why = tt
-why-written ready before mid after later Storage why = rose_behind before mid after later why
-why-written ready before mid after later _ why = absurd why
+why-written : (ready : Type 0) (full : ℕ → Type 0) (before mid after : ℕ) → before ≤ mid → (fault : Fault) → Cause mid after fault
+    → WhyNotAllocated ready full before after fault
+why-written ready full before mid after later Memory why = tt
+why-written ready full before mid after later Storage why = rose_behind before mid after later why
+why-written ready full before mid after later _ why = absurd why
 
-module _ {S : Type 0} (state : S → StorageState) (c : Clusters S) (empty : AreEmpty c.caches) (room : HasEntries c.caches) (mark n : ℕ) (mid : Clusters S) (mark' : ℕ)
-    (entry : FreeEntry) (a : AllocatesClusters state mark n false (begun c) (Ok entry) (begun mid) mark') (some : 0 < n) (content : List ℕ)
+module _ {S : Type 0} (state : S → StorageState) (c : Clusters S) (empty : AreEmpty c.caches) (room : HasEntries c.caches) (n : ℕ) (mid : Clusters S)
+    (entry : FreeEntry) (a : AllocatesClusters state (mark_in c) n false (begun c) (Ok entry) (begun mid) (mark_in mid)) (some : 0 < n) (content : List ℕ)
     (long : length content ≤ n * cluster_size c.file.header.fields) (after : ImageFile S) (header : after.header ≡ mid.file.header) where
   abbrev x : ℕ
   x = entry.first
@@ -57,20 +61,20 @@ module _ {S : Type 0} (state : S → StorageState) (c : Clusters S) (empty : Are
   run d = covers d (run_of entry.first n)
 
   first : Quietly ⊤ run (λ _. 0) (storage state c) (resting state c) (storage state mid) m1
-  first = run-quietly-handed state c empty room mark n mid mark' entry a
+  first = run-quietly-handed state c empty room n mid entry a
 
   size : cluster_size mid.file.header.fields ≡ cluster_size c.file.header.fields
-  size = run-size state c empty room mark n mid mark' (Ok entry) a
+  size = run-size state c empty room n mid (Ok entry) a
 
   reserved : IsReady state c → AreReserved n m1 x
-  reserved = run-reserved state c empty room mark n mid mark' entry a
+  reserved = run-reserved state c empty room n mid entry a
 
   -- A cluster is one of these, or it isn't.
   unused : IsReady state c → (d : ℕ) → IsUsed (resting state c) d → run d ≡ 0
   unused ready d used = elim (cases_lt d x) [
     | inl before ↦ covers-before d x n before
     | inr from ↦ elim (cases_lt d (x + n)) [
-      | inl to ↦ absurd (run-unused state c empty room mark n mid mark' entry a ready d from to used)
+      | inl to ↦ absurd (run-unused state c empty room n mid entry a ready d from to used)
       | inr behind ↦ covers-behind d x n behind
     ]
   ]
@@ -122,6 +126,11 @@ module _ {S : Type 0} (state : S → StorageState) (c : Clusters S) (empty : Are
     still ready d from to =
         beside-reserved m1 m2.file (beside-words m1 (sound-there ready) x (n - 1) place (length content) m2.file (beside ready)) d (reserved ready d from to)
 
+    leaves-there : IsReady state c → LeavesRoom (room_for c.file.header.fields n) (resting state c) (mark_in c) m2 (mark_in mid)
+    leaves-there ready = leaves-as (room_for c.file.header.fields n) (resting state c) (resting state c) m1 m2 (mark_in c) (mark_in mid) refl (λ d. refl) refl
+        (beside-words m1 (sound-there ready) x (n - 1) place (length content) m2.file (beside ready)).counts
+        (run-leaves state c empty room n mid entry a ready)
+
     bytes-there : IsReady state c → (i : ℕ) → i < length content → m2.file (place + i) ≡ slice_index content i
     bytes-there ready i lt =
         (spliced ready).inside (place + i) (omega arith) (omega (arith, lt)) ∙ ap (λ n. slice_index content n) (let same : place + i - place ≡ i = omega arith in same)
@@ -130,14 +139,16 @@ module _ {S : Type 0} (state : S → StorageState) (c : Clusters S) (empty : Are
     stored-unsettled held = record {
       quiet = subst (λ (H : Header). Quietly ⊤ run (λ _. 0) (storage state c) (resting state c) (state after.image) (record m2 { header = H })) (sym header)
           (both-quietly (Ok tt) put);
-      unpinned = run-unpinned state c empty room mark n mid mark' (Ok entry) a;
-      room = run-room state c empty room mark n mid mark' (Ok entry) a;
+      unpinned = run-unpinned state c empty room n mid (Ok entry) a;
+      room = run-room state c empty room n mid (Ok entry) a;
       header = (a.shape.moved.0, a.shape.moved.1, header ∙ a.shape.moved.2);
       faults = λ whole. faultless-then (a.faults tt) (put-faultless (storage state mid) (state after.image) place content (Ok tt) put tt);
       held = held;
-      named = run-named state c empty room mark n mid mark' entry a some;
+      named = run-named state c empty room n mid entry a some;
       reserved = λ ready. subst (λ (H : Header). AreReserved n (record m2 { header = H }) x) (sym header) (still ready);
       stored = λ ready i lt. subst (λ n. m2.file (x * n + i) ≡ slice_index content i) size (bytes-there ready i lt);
+      leaves = λ ready. subst (λ (H : Header). LeavesRoom (room_for c.file.header.fields n) (resting state c) (mark_in c) (record m2 { header = H }) (mark_in mid))
+          (sym header) (leaves-there ready);
       cause = tt;
     }
 
@@ -148,15 +159,16 @@ module _ {S : Type 0} (state : S → StorageState) (c : Clusters S) (empty : Are
   stored-refused fault put = record {
     quiet = quiet-halted (IsMild fault) (IsMild fault) run (λ _. 0) (λ _. 0) (λ _. 0) (storage state c) (resting state c) (state after.image) m2 (record m2 { header = after.header })
         never (both-quietly (Err fault) put);
-    unpinned = run-unpinned state c empty room mark n mid mark' (Ok entry) a;
-    room = run-room state c empty room mark n mid mark' (Ok entry) a;
+    unpinned = run-unpinned state c empty room n mid (Ok entry) a;
+    room = run-room state c empty room n mid (Ok entry) a;
     header = (a.shape.moved.0, a.shape.moved.1, header ∙ a.shape.moved.2);
     faults = λ mild. absurd (never mild);
     held = refl;
     named = tt;
     reserved = λ ready. tt;
     stored = λ ready. tt;
-    cause = why-written (IsReady state c) (storage state c).faults (storage state mid).faults (state after.image).faults first.later.faults fault put.answer.cause;
+    leaves = λ ready. tt;
+    cause = why-written (IsReady state c) _ (storage state c).faults (storage state mid).faults (state after.image).faults first.later.faults fault put.answer.cause;
   }
     where
       never : IsMild fault → ⊥

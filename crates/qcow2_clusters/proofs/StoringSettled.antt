@@ -1,6 +1,6 @@
 -- What was stored in clusters in a row is settled.
 use Rattle.std.proofs.Common.{◌≡◌, ℕ, ◌+◌, ◌-◌, ◌*◌, ◌/◌, ◌%◌, ◌<◌, ◌≤◌, refl, arith, ap, sym, subst, ◌∙◌, inl, inr, List, length, Result, Ok, Err}
-use Rattle.std.specs.Prelude.{IfOk, OnOk, slice_index}
+use Rattle.std.specs.Prelude.{IfErr, IfOk, OnOk, slice_index}
 use Rattle.std.proofs.Math.Nat.{add-mul, div-lt_iff_lt-mul, div-mul-le_self, mod-eq-sub-div-mul}
 use Rattle.std.proofs.lemmas.Nat.{mod_below, pow_pos}
 use Rattle.imago_storage.specs.State.{StorageState}
@@ -14,28 +14,31 @@ use Rattle.qcow2_alloc.specs.declared.cache.MetadataCaches.{MetadataCaches}
 use Rattle.qcow2_alloc.specs.declared.file.ImageFile.{ImageFile}
 use Rattle.qcow2_alloc.specs.Allocators.{table_of}
 use Rattle.qcow2_alloc.specs.Caches.{cached_in}
+use Rattle.qcow2_alloc.specs.Crowding.{room_for, space}
 use Rattle.qcow2_alloc.specs.Going.{AreBlocksInReach, AreTablesInReach, IsMild, WasNotCutOff}
 use Rattle.qcow2_alloc.specs.MakingRoom.{run_of}
-use Rattle.qcow2_alloc.specs.Quiet.{IsQuiet, IsSound, Quietly}
+use Rattle.qcow2_alloc.specs.Quiet.{IsQuiet, IsSound, Quietly, counted}
 use Rattle.qcow2_alloc.proofs.Freeing.Listed.{covers-one}
 use Rattle.qcow2_alloc.proofs.Memory.SafeLaws.{safe-reach}
 use Rattle.qcow2_alloc.proofs.Quiet.QuietGiven.{quietly-given}
 use Rattle.qcow2_steps.proofs.AddingUp.{reserved-still}
 use Rattle.qcow2_steps.proofs.Steps.{quiet-advances}
 use Rattle.qcow2_clusters.specs.Rest.{Clusters, IsReady, changed, lent, resting, storage}
+use Rattle.qcow2_clusters.specs.Room.{IsFull, LeavesRoom, mark_in}
 use Rattle.qcow2_clusters.specs.Settling.{Settles, WhyNotSettled}
 use Rattle.qcow2_clusters.specs.Storing.{AreReserved, Stores, StoresRun, StoresRunUnsettled, WhyNotAllocated, handed_by, held_by, run_handed_by}
 use Rattle.qcow2_clusters.proofs.Adding.{progresses-weaker, quiet-progresses, wider-handing}
 use Rattle.qcow2_clusters.specs.Progress.{handing}
 use Rattle.qcow2_clusters.proofs.Ending.{quiet-halted, settled-cases, settled-cause, settled-faultless, settled-if-ok, settled-quietly}
+use Rattle.qcow2_clusters.proofs.LeavingRoom.{full-as, leaves-as, why-as}
 use Rattle.qcow2_clusters.proofs.Resting.{l1-kept}
 
 -- why what was stored couldn't be settled
-why-flushed : (reach ready : Type 0) → (ready → reach) → (before mid after : ℕ) → before ≤ mid → (fault : Fault) → WhyNotSettled reach mid after fault → WhyNotAllocated ready before after fault
-why-flushed reach ready is before mid after later Memory why = tt
-why-flushed reach ready is before mid after later Storage why = rose_behind before mid after later why
-why-flushed reach ready is before mid after later DamagedTable why = λ here. why (is here)
-why-flushed reach ready is before mid after later _ why = absurd why
+why-flushed : (reach ready : Type 0) (full : ℕ → Type 0) → (ready → reach) → (before mid after : ℕ) → before ≤ mid → (fault : Fault) → WhyNotSettled reach mid after fault → WhyNotAllocated ready full before after fault
+why-flushed reach ready full is before mid after later Memory why = tt
+why-flushed reach ready full is before mid after later Storage why = rose_behind before mid after later why
+why-flushed reach ready full is before mid after later DamagedTable why = λ here. why (is here)
+why-flushed reach ready full is before mid after later _ why = absurd why
 
 -- A mild one comes only where something is out of reach.
 mild-reach : (reach : Type 0) (mid after : ℕ) (fault : Fault) → WhyNotSettled reach mid after fault → reach → IsMild fault → ⊥
@@ -43,6 +46,13 @@ mild-reach reach mid after Memory why near mild = mild
 mild-reach reach mid after Storage why near mild = mild
 mild-reach reach mid after DamagedTable why near mild = why near
 mild-reach reach mid after _ why near mild = why
+
+-- A cause that says so only of a call that wasn't cut off says so.
+if-mild : (ready : Type 0) (full : ℕ → Type 0) (before after : ℕ) (r : Result ℕ Fault)
+    → IfErr r (WhyNotAllocated ready (λ number. WasNotCutOff r → full number) before after) → IfErr r (WhyNotAllocated ready full before after)
+if-mild ready full before after (Ok x) why = tt
+if-mild ready full before after (Err fault) why = why-as ready ready (λ number. WasNotCutOff {T = ℕ} (Err fault) → full number) full (λ is. is) before after fault
+    (λ number at is told. told (subst (λ (f : Fault). IsMild f) (sym at) tt)) why
 
 module _ {S : Type 0} (state : S → StorageState) (n : ℕ) (content : List ℕ) (c : Clusters S) (long : length content ≤ n * cluster_size c.file.header.fields) (was : Result ℕ Fault) (mid : Clusters S)
     (stored : StoresRunUnsettled state n content c was mid) (result : Result ℕ Fault) (after : ImageFile S) (new : MetadataCaches S) (settles : Settles state was mid.file mid.caches result after new)
@@ -134,6 +144,38 @@ module _ {S : Type 0} (state : S → StorageState) (n : ℕ) (content : List ℕ
   bytes-if (Ok x) is ready = bytes-there x is ready
   bytes-if (Err fault) is ready = tt
 
+  -- As much is counted once it is settled.
+  counts-there : IsReady state c → WasNotCutOff was → WasNotCutOff result → (d : ℕ) → counted (resting state c') d ≡ counted (changed state mid) d
+  counts-there ready whole done d = settles.counts (table_of mid.space.allocator) mid.space.to_free.entries
+      (keeps_on (storage state c) (storage state mid) stored.quiet.shape ready.keeps) (stored.quiet.holds ready.keeps ready.sound whole).0 done d
+
+  leaves-ok : (x : ℕ) → result ≡ Ok x → (ready : IsReady state c)
+      → LeavesRoom (room_for c.file.header.fields n) (resting state c) (mark_in c) (resting state c') (mark_in mid)
+  leaves-ok x is ready = leaves-as (room_for c.file.header.fields n) (resting state c) (resting state c) (changed state mid) (resting state c') (mark_in c) (mark_in mid)
+      refl (λ d. refl) (ap (λ (H : Header). space H.fields) settles.header)
+      (counts-there ready (subst (λ (r : Result ℕ Fault). WasNotCutOff r) (sym (before x is ready)) tt) (done x is ready))
+      (subst (λ (r : Result ℕ Fault). OnOk r (LeavesRoom (room_for c.file.header.fields n) (resting state c) (mark_in c) (changed state mid) (mark_in mid)))
+      (before x is ready) (stored.leaves ready))
+
+  leaves-if : (r : Result ℕ Fault) → result ≡ r → IsReady state c
+      → OnOk r (LeavesRoom (room_for c.file.header.fields n) (resting state c) (mark_in c) (resting state c') (mark_in mid))
+  leaves-if (Ok x) is ready = leaves-ok x is ready
+  leaves-if (Err fault) is ready = tt
+
+  -- Where there was no place, and that is answered, a number tells the same.
+  abbrev full-if : ℕ → Type 0
+  full-if number = WasNotCutOff result → IsFull n (resting state c) (mark_in c) (resting state c') (mark_in mid) number
+
+  full-was : (r : Result ℕ Fault) → was ≡ r
+      → IfErr r (WhyNotAllocated (IsReady state c) (IsFull n (resting state c) (mark_in c) (changed state mid) (mark_in mid)) (storage state c).faults (storage state mid).faults)
+      → IfErr r (WhyNotAllocated (IsReady state c) full-if (storage state c).faults (storage state mid).faults)
+  full-was (Ok x) is why = tt
+  full-was (Err fault) is why = why-as (IsReady state c) (IsReady state c)
+      (IsFull n (resting state c) (mark_in c) (changed state mid) (mark_in mid)) full-if (λ ready. ready)
+      (storage state c).faults (storage state mid).faults fault (λ number at ready full done.
+      full-as n (resting state c) (changed state mid) (resting state c') (mark_in c) (mark_in mid) number (sym settles.header) refl
+      (λ d. sym (counts-there ready (subst (λ (r : Result ℕ Fault). WasNotCutOff r) (sym is) (subst (λ (f : Fault). IsMild f) (sym at) tt)) done d)) full) why
+
   pub run-settled : held ≡ held_by result c.space.to_free.held → StoresRun state n content c result c'
   run-settled room = record {
     progress = quiet-progresses (WasNotCutOff result) (run_handed_by n result) (λ _. 0) (storage state c) (resting state c) (storage state c') (resting state c') (λ sound k some. refl) all-quietly;
@@ -150,8 +192,11 @@ module _ {S : Type 0} (state : S → StorageState) (n : ℕ) (content : List ℕ
     named = settled-if-ok state was mid.file mid.caches result after new settles _ stored.named;
     reserved = reserved-if result refl;
     stored = bytes-if result refl;
-    cause = settled-cause state was mid.file mid.caches result after new settles (WhyNotAllocated (IsReady state c) (storage state c).faults) stored.cause (λ whole fault why.
-        why-flushed Reach (IsReady state c) (λ ready. in-reach ready whole) (storage state c).faults (storage state mid).faults (storage state c').faults stored.quiet.later.faults fault why);
+    leaves = leaves-if result refl;
+    cause = if-mild (IsReady state c) (IsFull n (resting state c) (mark_in c) (resting state c') (mark_in mid)) (storage state c).faults (storage state c').faults result
+        (settled-cause state was mid.file mid.caches result after new settles (WhyNotAllocated (IsReady state c) full-if (storage state c).faults)
+        (full-was was refl stored.cause) (λ whole fault why.
+        why-flushed Reach (IsReady state c) full-if (λ ready. in-reach ready whole) (storage state c).faults (storage state mid).faults (storage state c').faults stored.quiet.later.faults fault why));
   }
 
 -- No room is held for what was refused before.
@@ -172,6 +217,7 @@ one-stored state content c (Ok x) c' run = record {
   named = (run.named.0, subst (λ n. IsInReach c.file.header.fields.cluster_bits n) (let same : x + (1 - 1) ≡ x = omega arith in same) run.named.1);
   reserved = λ ready. run.reserved ready x (omega arith) (omega arith);
   stored = run.stored;
+  leaves = run.leaves;
   cause = run.cause;
 }
 one-stored state content c (Err fault) c' run = record {
@@ -182,5 +228,6 @@ one-stored state content c (Err fault) c' run = record {
   named = tt;
   reserved = λ ready. tt;
   stored = run.stored;
+  leaves = run.leaves;
   cause = run.cause;
 }

@@ -1,5 +1,5 @@
 -- How the L1 table comes to be longer.
-use Rattle.std.specs.Prelude.{◌≡◌, ◌+◌, ◌-◌, ◌*◌, ◌/◌, ◌^◌, ◌<◌, ◌==◌, ℕ, List, length, [], ◌∷◌, ◌++◌, if◌then◌else◌}
+use Rattle.std.specs.Prelude.{◌≡◌, ◌+◌, ◌-◌, ◌*◌, ◌/◌, ◌^◌, ◌<◌, ◌≤◌, ◌⊎◌, ◌==◌, ℕ, List, length, [], ◌∷◌, ◌++◌, if◌then◌else◌}
 use Rattle.std.specs.Prelude.{max, min, slice_index, EachIndex, None, Result, Ok, Err, OnOk, OnErr, IfOk, IfErr}
 use Rattle.imago_storage.specs.State.{StorageState}
 use Rattle.imago_storage.specs.Calls.{IsFaultless, Later}
@@ -13,6 +13,7 @@ use Rattle.qcow2_types.specs.Switched.{with_l1_table}
 use Rattle.qcow2_metadata.specs.Tables.{TableValue, IsPlacedTable, padded, table_place}
 use Rattle.qcow2_alloc.specs.declared.file.ImageFile.{ImageFile}
 use Rattle.qcow2_alloc.specs.Caches.{HasRoomOf}
+use Rattle.qcow2_alloc.specs.Crowding.{room_for}
 use Rattle.qcow2_alloc.specs.Going.{WasNotCutOff}
 use Rattle.qcow2_alloc.specs.MakingRoom.{run_of}
 use Rattle.qcow2_alloc.specs.Opening.{IsL1Of}
@@ -21,6 +22,7 @@ use Rattle.qcow2_steps.specs.Advancing.{KeepsHeader}
 use Rattle.qcow2_steps.specs.LongerL1.{old_l1}
 use Rattle.qcow2_clusters.specs.Progress.{Kind, Progresses, handing}
 use Rattle.qcow2_clusters.specs.Rest.{AreEmpty, Clusters, IsReady, resting, storage}
+use Rattle.qcow2_clusters.specs.Room.{IsFull, LeavesRoom, mark_in}
 use Rattle.qcow2_clusters.specs.Storing.{WhyNotAllocated}
 
 -- how many clusters so many words take, of which the last may be filled in part
@@ -58,6 +60,16 @@ abbrev pub lengthening : Metadata → Metadata → Result Unit Fault → Kind
 lengthening m m' (Ok done) = handing (λ d. old_l1 m d + old_l1 m' d) (λ d. old_l1 m d + old_l1 m' d)
 lengthening m m' (Err fault) = handing (λ _. 0) (λ _. 0)
 
+-- how many clusters the L1 table takes that comes to have a word at index i
+abbrev pub l1_clusters : Fields → TableValue → (i : ℕ) → ℕ
+l1_clusters h top i = clusters_for h (max (length top.words) (i + 1))
+
+-- It would have more than 2^22 words, of which the number is told, or there was no room for its clusters.
+abbrev pub IsTooLong : {S : Type 0} → (S → StorageState) → TableValue → (i : ℕ) → Clusters S → Clusters S → ℕ → Type 0
+IsTooLong state top i c c' number = ((2 ^ 22 < i + 1) × (number ≡ min (i + 1) (2 ^ 64 - 1)))
+    ⊎ ((i + 1 ≤ 2 ^ 22)
+    × IsFull (l1_clusters c.file.header.fields top i) (resting state c) (mark_in c) (resting state c') (mark_in c') number)
+
 -- Where the L1 table in memory is the file's,
 abbrev pub IsTop : {S : Type 0} → (S → StorageState) → TableValue → Clusters S → Type 0
 IsTop state top c = IsL1Of (resting state c).file c.file.header.fields top
@@ -80,4 +92,8 @@ pub record LengthensL1 {S : Type 0} (state : S → StorageState) (top : TableVal
   pub waits : IsTop state top c → OnOk result (let h = c.file.header.fields in (before : List FreeEntry)
       × (c'.space.to_free.entries ≡ before ++ l1_run h.cluster_bits h.l1_offset h.l1_entries))
   pub far : IsReady state c → IsTop state top c → 2 ^ 22 < i + 1 → result ≡ Err (Limit (min (i + 1) (2 ^ 64 - 1)))
-  pub cause : IfErr result (WhyNotAllocated (IsReady state c × IsTop state top c) (storage state c).faults (storage state c').faults)
+  pub leaves : IsReady state c → IsTop state top c → OnOk result ((i + 1 ≤ 2 ^ 22)
+      × LeavesRoom (room_for c.file.header.fields (l1_clusters c.file.header.fields top i)) (resting state c) (mark_in c) (resting state c')
+      (mark_in c'))
+  pub cause : IfErr result (WhyNotAllocated (IsReady state c × IsTop state top c) (IsTooLong state top i c c')
+      (storage state c).faults (storage state c').faults)

@@ -1,4 +1,5 @@
 pub mod Rest
+pub mod Room
 pub mod Progress
 pub mod Settling
 pub mod Storing

@@ -1,5 +1,5 @@
 -- How changes end at rest.
-use Rattle.std.specs.Prelude.{◌≡◌, ◌⊎◌, ⊤, ℕ, List, Result, Err, OnOk}
+use Rattle.std.specs.Prelude.{◌≡◌, ◌⊎◌, ⊤, ℕ, List, IsTrue, Result, Err, OnOk}
 use Rattle.std.specs.List.{AllByRecursion}
 use Rattle.imago_storage.specs.State.{StorageState, Rose}
 use Rattle.imago_storage.specs.Calls.{IsFaultless}
@@ -13,7 +13,7 @@ use Rattle.qcow2_alloc.specs.declared.file.ImageFile.{ImageFile}
 use Rattle.qcow2_alloc.specs.Allocators.{metadata_of}
 use Rattle.qcow2_alloc.specs.Caches.{cached_in, HasRoomOf}
 use Rattle.qcow2_alloc.specs.Going.{AreBlocksInReach, AreTablesInReach, WasNotCutOff}
-use Rattle.qcow2_alloc.specs.Quiet.{Metadata, Quietly}
+use Rattle.qcow2_alloc.specs.Quiet.{IsSound, Metadata, Quietly, counted}
 use Rattle.qcow2_clusters.specs.Rest.{AreEmpty, nothing_cached}
 
 -- nothing of the caches is pinned
@@ -33,7 +33,7 @@ WhyNotSettled reach before after DamagedTable = reach → ⊥
 WhyNotSettled reach before after fault = ⊥
 
 -- A change that was answered so ends: unless it was cut off, what is modified is written, and a fault of that takes the place of the
--- answer; then nothing is cached. The disk stays as it was.
+-- answer; then nothing is cached. The disk stays as it was, and each cluster is counted as often.
 pub record Settles {S T : Type 0} (state : S → StorageState) (given : Result T Fault) (before : ImageFile S) (old : MetadataCaches S)
     (result : Result T Fault) (after : ImageFile S) (new : MetadataCaches S) : Type 0 where
   pub empty : AreEmpty new
@@ -41,6 +41,9 @@ pub record Settles {S T : Type 0} (state : S → StorageState) (given : Result T
   pub header : after.header ≡ before.header
   pub quiet : (table : TableValue) (pending : List FreeEntry) → Quietly (WasNotCutOff result) (λ _. 0) (λ _. 0) (state before.image)
       (metadata_of state before old table pending) (state after.image) (at_rest (metadata_of state after old table pending))
+  pub counts : (table : TableValue) (pending : List FreeEntry) → IsTrue (state before.image).shape.keeps
+      → IsSound (metadata_of state before old table pending) → WasNotCutOff result → (c : ℕ)
+      → counted (at_rest (metadata_of state after old table pending)) c ≡ counted (metadata_of state before old table pending) c
   pub faults : WasNotCutOff result → IsFaultless (state before.image) (state after.image)
   pub cut : (WasNotCutOff given → ⊥) → (result ≡ given) × (after ≡ before)
   pub ok : OnOk result (result ≡ given)

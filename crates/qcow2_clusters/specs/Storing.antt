@@ -1,5 +1,5 @@
 -- How bytes are stored in a cluster that was free.
-use Rattle.std.specs.Prelude.{◌≡◌, ◌≢◌, ⊤, ◌+◌, ◌-◌, ◌*◌, ◌<◌, ◌≤◌, ℕ, List, length, slice_index, Result, Ok, Err, IfOk, IfErr}
+use Rattle.std.specs.Prelude.{◌≡◌, ◌≢◌, ⊤, ◌+◌, ◌-◌, ◌*◌, ◌<◌, ◌≤◌, ℕ, List, length, slice_index, Result, Ok, Err, IfOk, IfErr, OnOk}
 use Rattle.imago_storage.specs.State.{StorageState, Rose}
 use Rattle.imago_storage.specs.Calls.{IsFaultless, Later}
 use Rattle.imago_storage.specs.declared.fault.Fault.{Fault}
@@ -8,6 +8,7 @@ use Rattle.qcow2_types.specs.Header.{cluster_size}
 use Rattle.qcow2_metadata.specs.Places.{IsInReach}
 use Rattle.qcow2_alloc.specs.Allocating.{MovedTable}
 use Rattle.qcow2_alloc.specs.Caches.{HasRoomOf}
+use Rattle.qcow2_alloc.specs.Crowding.{room_for}
 use Rattle.qcow2_alloc.specs.FreeList.{covers}
 use Rattle.qcow2_alloc.specs.Going.{WasNotCutOff}
 use Rattle.qcow2_alloc.specs.MakingRoom.{run_of}
@@ -15,17 +16,18 @@ use Rattle.qcow2_alloc.specs.Quiet.{Metadata, Quietly, one_at}
 use Rattle.qcow2_steps.specs.Words.{IsReserved}
 use Rattle.qcow2_clusters.specs.Progress.{Progresses, handing}
 use Rattle.qcow2_clusters.specs.Rest.{Clusters, AreEmpty, IsReady, KeepsL1, changed, resting, storage}
+use Rattle.qcow2_clusters.specs.Room.{IsFull, LeavesRoom, mark_in}
 use Rattle.qcow2_clusters.specs.Settling.{AreUnpinned}
 
--- Why a call is refused that allocates: for want of memory, by a storage that failed, or since there is no place left; as a damaged table
--- or a counter that can't change only where the image isn't ready.
-abbrev pub WhyNotAllocated : (ready : Type 0) → (before after : ℕ) → Fault → Type 0
-WhyNotAllocated ready before after Memory = ⊤
-WhyNotAllocated ready before after Storage = Rose before after
-WhyNotAllocated ready before after (Limit number) = ⊤
-WhyNotAllocated ready before after DamagedTable = ready → ⊥
-WhyNotAllocated ready before after Counter = ready → ⊥
-WhyNotAllocated ready before after fault = ⊥
+-- Why a call is refused that allocates: for want of memory, by a storage that failed, or since there is no place left, of which `full` says
+-- what number tells it where the image is ready; as a damaged table or a counter that can't change only where it isn't.
+abbrev pub WhyNotAllocated : (ready : Type 0) → (full : ℕ → Type 0) → (before after : ℕ) → Fault → Type 0
+WhyNotAllocated ready full before after Memory = ⊤
+WhyNotAllocated ready full before after Storage = Rose before after
+WhyNotAllocated ready full before after (Limit number) = ready → full number
+WhyNotAllocated ready full before after DamagedTable = ready → ⊥
+WhyNotAllocated ready full before after Counter = ready → ⊥
+WhyNotAllocated ready full before after fault = ⊥
 
 -- what a call hands out that answers a cluster
 abbrev pub handed_by : Result ℕ Fault → ℕ → ℕ
@@ -69,7 +71,10 @@ pub record StoresRunUnsettled {S : Type 0} (state : S → StorageState) (n : ℕ
   pub reserved : IsReady state c → IfOk result (AreReserved n (changed state c'))
   pub stored : IsReady state c → IfOk result (λ x. (i : ℕ) → i < length content
       → (changed state c').file (x * cluster_size c.file.header.fields + i) ≡ slice_index content i)
-  pub cause : IfErr result (WhyNotAllocated (IsReady state c) (storage state c).faults (storage state c').faults)
+  pub leaves : IsReady state c → OnOk result (LeavesRoom (room_for c.file.header.fields n) (resting state c) (mark_in c) (changed state c')
+      (mark_in c'))
+  pub cause : IfErr result (WhyNotAllocated (IsReady state c) (IsFull n (resting state c) (mark_in c) (changed state c') (mark_in c'))
+      (storage state c).faults (storage state c').faults)
 
 -- The same once that is settled: they are reserved, nothing names them, and the disk stays as it was.
 pub record StoresRun {S : Type 0} (state : S → StorageState) (n : ℕ) (content : List ℕ) (c : Clusters S) (result : Result ℕ Fault)
@@ -83,7 +88,10 @@ pub record StoresRun {S : Type 0} (state : S → StorageState) (n : ℕ) (conten
   pub reserved : IsReady state c → IfOk result (AreReserved n (resting state c'))
   pub stored : IsReady state c → IfOk result (λ x. (i : ℕ) → i < length content
       → (resting state c').file (x * cluster_size c.file.header.fields + i) ≡ slice_index content i)
-  pub cause : IfErr result (WhyNotAllocated (IsReady state c) (storage state c).faults (storage state c').faults)
+  pub leaves : IsReady state c → OnOk result (LeavesRoom (room_for c.file.header.fields n) (resting state c) (mark_in c) (resting state c')
+      (mark_in c'))
+  pub cause : IfErr result (WhyNotAllocated (IsReady state c) (IsFull n (resting state c) (mark_in c) (resting state c') (mark_in c'))
+      (storage state c).faults (storage state c').faults)
 
 -- The same of one cluster.
 pub record Stores {S : Type 0} (state : S → StorageState) (content : List ℕ) (c : Clusters S) (result : Result ℕ Fault)
@@ -97,4 +105,7 @@ pub record Stores {S : Type 0} (state : S → StorageState) (content : List ℕ)
   pub reserved : IsReady state c → IfOk result (IsReserved (resting state c'))
   pub stored : IsReady state c → IfOk result (λ x. (i : ℕ) → i < length content
       → (resting state c').file (x * cluster_size c.file.header.fields + i) ≡ slice_index content i)
-  pub cause : IfErr result (WhyNotAllocated (IsReady state c) (storage state c).faults (storage state c').faults)
+  pub leaves : IsReady state c → OnOk result (LeavesRoom (room_for c.file.header.fields 1) (resting state c) (mark_in c) (resting state c')
+      (mark_in c'))
+  pub cause : IfErr result (WhyNotAllocated (IsReady state c) (IsFull 1 (resting state c) (mark_in c) (resting state c') (mark_in c'))
+      (storage state c).faults (storage state c').faults)

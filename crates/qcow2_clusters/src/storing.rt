@@ -91,8 +91,9 @@ pub(crate) fn settle_stored<S: Storage>(
 /// Stores the content of a guest cluster in a host cluster that was free, which nothing names yet. Room is held for it then on the list of
 /// clusters to free, as `ClustersToFreeList::hold` does. Nothing may be cached before, and nothing is then.
 ///
-/// It refuses with `Fault::Limit` where there is no place left; with `Fault::Memory` and `Fault::Storage`; and with `Fault::Counter` and
-/// `Fault::DamagedTable`, which no sound image has. No room is held then.
+/// It refuses with `Fault::Limit` only where a sixteenth of the space and three clusters weren't free in a row as the call began, and tells
+/// why the first free cluster that there is by then can't be taken, as `Allocator::allocate_clusters` does; with `Fault::Memory` and
+/// `Fault::Storage`; and with `Fault::Counter` and `Fault::DamagedTable`, which no sound image has. No room is held then.
 pub fn store<S: Storage>(
     alloc: Global,
     file: &mut ImageFile<S>,

@@ -203,7 +203,7 @@ module _ (m : Metadata) (o more : ℕ) (x : Bytes) (sound : IsSound m) (ready : 
   file-counts : (d : ℕ) → count x new d ≡ count f h d
   file-counts = in-file.counts
 
-  counts-there : (d : ℕ) → counted later d ≡ counted m d
+  pub counts-there : (d : ℕ) → counted later d ≡ counted m d
   counts-there = over-there.counts
 
   references-there : (d : ℕ) → referenced later d + old_l1 m d ≡ referenced m d + new_l1 m o more d

@@ -279,7 +279,7 @@ module _ (m : Metadata) (marks : Bool) (i c w : ℕ) (sound : IsSound m) (ready 
   unnamed-at : (d : ℕ) → d ≡ c → (named_at_all m d ≡ 0) × (waiting m d ≡ 0) × (1 ≤ count f h d) × (1 ≤ counted m d)
   unnamed-at d same = subst (λ k. (named_at_all m k ≡ 0) × (waiting m k ≡ 0) × (1 ≤ count f h k) × (1 ≤ counted m k)) (sym same) (ready.reserved.unnamed, ready.reserved.waits, ready.counts, counted-there)
 
-  counts-there : (d : ℕ) → counted later d ≡ counted m d
+  pub counts-there : (d : ℕ) → counted later d ≡ counted m d
   counts-there d = ap (λ (z : Bytes). count z h d) memory-is ∙ over-there.replaced.counts d
 
   references-there : (d : ℕ) → referenced later d + old_table m i d ≡ referenced m d + meets h d t (cluster_size h)

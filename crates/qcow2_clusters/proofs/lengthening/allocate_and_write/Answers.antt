@@ -4,7 +4,6 @@ use Rattle.qcow2_types.specs.Header.{cluster_size}
 use Rattle.qcow2_types.specs.Pending.{FreeEntry}
 use Rattle.qcow2_types.specs.TableBytes.{table_bytes}
 use Rattle.qcow2_metadata.specs.Tables.{TableValue, table_place}
-use Rattle.qcow2_alloc.specs.Allocators.{mark_of}
 use Rattle.qcow2_alloc.specs.FreeList.{FreeList}
 use Rattle.qcow2_clusters.specs.Lengthening.{clusters_for}
 use Rattle.qcow2_clusters.specs.Rest.{lent}
@@ -26,18 +25,17 @@ returns-in-Ok-write-clause-stores g c =
     let ws = c.args.table.now.words in
     let new = c.allocate_clusters.new in
     let mid = lent new.file new.caches (record { allocator = new.self; to_free = new.list }) in
-    let mark = mark_of c.args.space.now.allocator in
     let n = c.cluster_count-count.result in
     let after = record new.file { image = c.write.new.image } in
     let taken : n ≡ clusters_for h (length ws) = c.cluster_count-count.ensures ∙ ap (λ b. (8 * length ws + (2 ^ b - 1)) / 2 ^ b) c.requires.bits in
-    let bits = run-bits state old c.requires.rest c.requires.room mark n mid (mark_of new.self) (Ok c.in-Ok.pending) c.in-Ok.ensures.allocates in
+    let bits = run-bits state old c.requires.rest c.requires.room n mid (Ok c.in-Ok.pending) c.in-Ok.ensures.allocates in
     let at : c.cluster-cluster.result * 2 ^ c.args.table.now.layout.cluster_bits ≡ c.in-Ok.pending.first * cluster_size new.file.header.fields =
     ap (λ k. k * 2 ^ c.args.table.now.layout.cluster_bits) c.cluster-cluster.ensures ∙ ap (λ b. c.in-Ok.pending.first * 2 ^ b) (c.requires.bits ∙ sym bits) in
     let put = subst (λ p. Put (state new.file.image) (state after.image) p (table_bytes ws) done_so) at
     (subst (λ (t : TableValue). Put (state new.file.image) (state after.image) (table_place t) (table_bytes t.words) done_so) c.set_cluster.ensures c.in-Ok-write.ensures.request) in
     let some : 0 < n = (let more = some-taken h (length ws) c.requires.some in omega (arith, more, taken)) in
     let long : length (table_bytes ws) ≤ n * cluster_size h = subst (λ k. length (table_bytes ws) ≤ k * cluster_size h) (sym taken) (words-fit h ws) in
-    let stores = stored-unsettled state old c.requires.rest c.requires.room mark n mid (mark_of new.self) c.in-Ok.pending c.in-Ok.ensures.allocates some
+    let stores = stored-unsettled state old c.requires.rest c.requires.room n mid c.in-Ok.pending c.in-Ok.ensures.allocates some
     (table_bytes ws) long after refl put c.in-Ok.ensures.held in
     subst (λ k. StoresRunUnsettled state k (table_bytes ws) old (Ok c.cluster-cluster.result) (lent after new.caches (record { allocator = new.self; to_free = new.list }))) taken
     (subst (λ k. StoresRunUnsettled state n (table_bytes ws) old (Ok k) (lent after new.caches (record { allocator = new.self; to_free = new.list }))) (sym c.cluster-cluster.ensures) stores)
@@ -50,12 +48,11 @@ returns-in-Err-write-clause-stores g c =
     let ws = c.args.table.now.words in
     let new = c.allocate_clusters.new in
     let mid = lent new.file new.caches (record { allocator = new.self; to_free = new.list }) in
-    let mark = mark_of c.args.space.now.allocator in
     let n = c.cluster_count-count.result in
     let after = record new.file { image = c.write.new.image } in
     let fault = c.in-Err-write.fault in
     let taken : n ≡ clusters_for h (length ws) = c.cluster_count-count.ensures ∙ ap (λ b. (8 * length ws + (2 ^ b - 1)) / 2 ^ b) c.requires.bits in
-    let bits = run-bits state old c.requires.rest c.requires.room mark n mid (mark_of new.self) (Ok c.in-Ok.pending) c.in-Ok.ensures.allocates in
+    let bits = run-bits state old c.requires.rest c.requires.room n mid (Ok c.in-Ok.pending) c.in-Ok.ensures.allocates in
     let at : c.cluster-cluster.result * 2 ^ c.args.table.now.layout.cluster_bits ≡ c.in-Ok.pending.first * cluster_size new.file.header.fields =
     ap (λ k. k * 2 ^ c.args.table.now.layout.cluster_bits) c.cluster-cluster.ensures ∙ ap (λ b. c.in-Ok.pending.first * 2 ^ b) (c.requires.bits ∙ sym bits) in
     let put = subst (λ p. Put (state new.file.image) (state after.image) p (table_bytes ws) (refused_so fault)) at
@@ -64,7 +61,7 @@ returns-in-Err-write-clause-stores g c =
     let long : length (table_bytes ws) ≤ n * cluster_size h = subst (λ k. length (table_bytes ws) ≤ k * cluster_size h) (sym taken) (words-fit h ws) in
     let held : new.list.held - 1 ≡ c.args.space.now.to_free.held = (let more = c.in-Ok.ensures.held in omega (arith, more)) in
     let left : c.release.new.self ≡ room_for new.list.entries c.args.space.now.to_free.held = c.release.ensures ∙ ap (λ (k : ℕ). room_for new.list.entries k) held in
-    let stores = stored-refused state old c.requires.rest c.requires.room mark n mid (mark_of new.self) c.in-Ok.pending c.in-Ok.ensures.allocates some
+    let stores = stored-refused state old c.requires.rest c.requires.room n mid c.in-Ok.pending c.in-Ok.ensures.allocates some
     (table_bytes ws) long after refl fault put in
     subst (λ k. StoresRunUnsettled state k (table_bytes ws) old (Err fault) (lent after new.caches (record { allocator = new.self; to_free = c.release.new.self }))) taken
     (subst (λ (l : FreeList). StoresRunUnsettled state n (table_bytes ws) old (Err fault) (lent after new.caches (record { allocator = new.self; to_free = l }))) (sym left) stores)
@@ -80,5 +77,5 @@ returns-in-Err-clause-stores g c =
     let n = c.cluster_count-count.result in
     let taken : n ≡ clusters_for h (length ws) = c.cluster_count-count.ensures ∙ ap (λ b. (8 * length ws + (2 ^ b - 1)) / 2 ^ b) c.requires.bits in
     subst (λ k. StoresRunUnsettled state k (table_bytes ws) old (Err c.in-Err.fault) mid) taken
-    (run-refused state old c.requires.rest c.requires.room (mark_of c.args.space.now.allocator) n mid (mark_of new.self) c.in-Err.fault c.in-Err.ensures.allocates
+    (run-refused state old c.requires.rest c.requires.room n mid c.in-Err.fault c.in-Err.ensures.allocates
     (table_bytes ws) c.in-Err.ensures.held)

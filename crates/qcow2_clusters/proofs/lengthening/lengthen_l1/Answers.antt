@@ -1,11 +1,11 @@
-use Rattle.std.proofs.Common.{◌≡◌, ℕ, ◌+◌, ◌-◌, ◌^◌, List, length, arith, ap, refl, sym, subst, ◌∙◌, Err, Ok}
+use Rattle.std.proofs.Common.{◌≡◌, ℕ, ◌+◌, ◌-◌, ◌^◌, List, length, arith, ap, refl, sym, subst, ◌∙◌, inl, Err, Ok}
 use Rattle.std.specs.Prelude.{min}
 use Rattle.qcow2_types.specs.TableBytes.{table_bytes}
 use Rattle.qcow2_types.specs.Pending.{FreeEntry}
 use Rattle.qcow2_alloc.specs.FreeList.{FreeList}
-use Rattle.qcow2_clusters.specs.Lengthening.{IsTop, LengthensL1, clusters_for}
+use Rattle.qcow2_clusters.specs.Lengthening.{IsTooLong, IsTop, LengthensL1, clusters_for}
 use Rattle.qcow2_clusters.specs.Rest.{IsReady, lent}
-use Rattle.qcow2_clusters.proofs.LengtheningL1.{grow-refused, l1-named, l1-not-begun, l1-not-named, l1-not-placed, l1-not-stored}
+use Rattle.qcow2_clusters.proofs.LengtheningL1.{clusters-taken, grow-refused, l1-named, l1-not-begun, l1-not-named, l1-not-placed, l1-not-stored}
 use Rattle.qcow2_clusters.proofs.lengthening.lengthen_l1.Goals as goal
 
 pub returns-in-Err : goal.returns-in-Err
@@ -16,15 +16,16 @@ pub returns-in-Err-clone_and_grow : goal.returns-in-Err-clone_and_grow
 returns-in-Err-clone_and_grow g c =
     l1-not-begun g.S.Storage.state c.args.l1.now c.args.index (lent c.args.file.now c.args.caches.now c.args.space.now) c.in-Err-clone_and_grow.fault c.place_l1.new.l1 c.requires.rest
     c.place_l1.ensures.same (λ ready asked long. let e = c.in-Err-clone_and_grow.ensures.limit (omega (arith, long)) in cc e) (grow-refused (IsReady g.S.Storage.state (lent c.args.file.now c.args.caches.now c.args.space.now) × IsTop g.S.Storage.state c.args.l1.now (lent c.args.file.now c.args.caches.now c.args.space.now))
-    c.args.index (min (c.args.index + 1) (2 ^ 64 - 1)) (g.S.Storage.state c.args.file.now.image).faults c.in-Err-clone_and_grow.fault
-    (λ far. c.in-Err-clone_and_grow.ensures.limit (omega (arith, far))) (λ near. c.in-Err-clone_and_grow.ensures.few (omega (arith, near))))
+    (IsTooLong g.S.Storage.state c.args.l1.now c.args.index (lent c.args.file.now c.args.caches.now c.args.space.now) (lent c.args.file.now c.args.caches.now c.args.space.now)) c.args.index (min (c.args.index + 1) (2 ^ 64 - 1)) (g.S.Storage.state c.args.file.now.image).faults c.in-Err-clone_and_grow.fault
+    (λ far. c.in-Err-clone_and_grow.ensures.limit (omega (arith, far))) (λ near. c.in-Err-clone_and_grow.ensures.few (omega (arith, near))) (λ far. inl (far, refl)))
 
 pub returns-in-Err-store_l1 : goal.returns-in-Err-store_l1
 returns-in-Err-store_l1 g c =
     let new = c.store_l1.new in
     let ws = c.in-Ok.grown.words in
     l1-not-stored g.S.Storage.state c.args.l1.now c.args.index (lent c.args.file.now c.args.caches.now c.args.space.now) (clusters_for c.args.file.now.header.fields (length ws)) (table_bytes ws)
-    c.in-Err-store_l1.fault c.place_l1.new.l1 (lent new.file new.caches new.space) c.place_l1.ensures.same (λ long. let e = c.in-Ok.ensures.limit (omega (arith, long)) in absurd (cc e)) c.in-Err-store_l1.ensures.stores
+    c.in-Err-store_l1.fault c.place_l1.new.l1 (lent new.file new.caches new.space) c.place_l1.ensures.same (λ long. let e = c.in-Ok.ensures.limit (omega (arith, long)) in absurd (cc e))
+    (clusters-taken c.args.file.now.header.fields c.args.l1.now c.place_l1.new.l1 c.in-Ok.grown c.args.index c.place_l1.ensures.same.words c.in-Ok.ensures.ok) c.in-Err-store_l1.ensures.stores
 
 abbrev room_for : List FreeEntry → ℕ → FreeList
 room_for entries held = record { entries = entries; held = held }

@@ -1,8 +1,10 @@
-use Rattle.std.proofs.Common.{◌≡◌, ◌∙◌, ◌*◌, ◌^◌, ℕ, refl, ap, arith, Some, true, inl, inr}
+use Rattle.std.proofs.Common.{◌≡◌, ◌∙◌, ◌*◌, ◌^◌, ℕ, refl, ap, arith, sym, subst, Option, Some, true, inl, inr}
+use Rattle.std.proofs.lemmas.Nat.{pow_pos}
 use Rattle.qcow2_types.specs.Header.{Fields, cluster_size, layout_of}
 use Rattle.qcow2_types.specs.Words.{Layout}
-use Rattle.qcow2_metadata.specs.Tables.{TableValue, table_place}
+use Rattle.qcow2_metadata.specs.Tables.{IsNamable, TableValue, table_place}
 use Rattle.qcow2_alloc.specs.FreeList.{FreeList}
+use Rattle.qcow2_alloc.proofs.Memory.Patches.{place-there}
 use Rattle.qcow2_clusters.specs.declared.space.Space.{Space}
 use Rattle.qcow2_clusters.specs.Rest.{lent}
 use Rattle.qcow2_clusters.proofs.MakingTables.{entered-so, not-entered, not-placed, not-stored}
@@ -32,6 +34,17 @@ begins : (h : Fields) (table table' : TableValue) (cluster : ℕ) → table.layo
     → table' ≡ record { layout = table.layout; words = table.words; cluster = Some cluster; modified = true }
     → table_place table' ≡ cluster * cluster_size h
 begins h table table' cluster layout is = ap table_place is ∙ ap (λ (l : Layout). cluster * 2 ^ l.cluster_bits) layout
+
+pub enter_table-requires-clause-namable : goal.enter_table-requires-clause-namable
+enter_table-requires-clause-namable g c =
+    let h = c.args.file.now.header.fields in
+    let t = c.in-Ok-store.cluster in
+    let named = c.in-Ok-store.ensures.named in
+    let bits : c.place_l1.new.l1.layout.cluster_bits ≡ h.cluster_bits =
+    ap (λ (l : Layout). l.cluster_bits) c.place_l1.ensures.same.layout ∙ c.in_default.ensures.bits in
+    let there = place-there (2 ^ h.cluster_bits) t (pow_pos h.cluster_bits) named.0 in
+    subst (λ (o : Option ℕ). IsNamable c.place_l1.new.l1.layout.cluster_bits o) (sym (ap (λ (table : TableValue). table.cluster) c.set_cluster.ensures))
+    (subst (λ b. IsNamable b (Some t)) (sym bits) record { placed = named.1; some = omega (arith, there) })
 
 pub returns-in-Ok-enter_table : goal.returns-in-Ok-enter_table
 returns-in-Ok-enter_table g c =

@@ -2,7 +2,6 @@ use Rattle.std.proofs.Common.{◌≡◌, ℕ, ◌-◌, ◌*◌, arith, ap, sym, 
 use Rattle.imago_storage.specs.Through.{Put}
 use Rattle.qcow2_types.specs.Header.{cluster_size}
 use Rattle.qcow2_types.specs.Pending.{FreeEntry}
-use Rattle.qcow2_alloc.specs.Allocators.{mark_of}
 use Rattle.qcow2_alloc.specs.FreeList.{FreeList}
 use Rattle.qcow2_clusters.specs.Rest.{lent}
 use Rattle.qcow2_clusters.specs.Storing.{StoresRunUnsettled}
@@ -23,7 +22,7 @@ returns-in-Ok-write_cluster g c =
     let after = c.write_cluster.new.file in
     let put = subst (λ (n : ℕ). Put (state new.file.image) (state after.image) (n * cluster_size new.file.header.fields) c.args.content.now done_so) c.cluster-cluster.ensures c.in-Ok-write_cluster.ensures.put in
     subst (λ (n : ℕ). StoresRunUnsettled state 1 c.args.content.now old (Ok n) (lent after new.caches (record { allocator = new.self; to_free = new.list }))) (sym c.cluster-cluster.ensures)
-    (stored-unsettled state old c.requires.rest c.requires.room (mark_of c.args.space.now.allocator) 1 mid (mark_of new.self) c.in-Ok.pending c.in-Ok.ensures.allocates (omega arith)
+    (stored-unsettled state old c.requires.rest c.requires.room 1 mid c.in-Ok.pending c.in-Ok.ensures.allocates (omega arith)
     c.args.content.now (let whole = c.requires.whole in omega (arith, whole)) after c.write_cluster.ensures.header put c.in-Ok.ensures.held)
 
 pub returns-in-Err-write_cluster : goal.returns-in-Err-write_cluster
@@ -39,11 +38,11 @@ returns-in-Err-write_cluster g c =
     let left : c.release.new.self ≡ record { entries = new.list.entries; held = c.args.space.now.to_free.held } =
     c.release.ensures ∙ ap (λ (n : ℕ). room_for new.list.entries n) held in
     subst (λ (l : FreeList). StoresRunUnsettled state 1 c.args.content.now old (Err fault) (lent after new.caches (record { allocator = new.self; to_free = l }))) (sym left)
-    (stored-refused state old c.requires.rest c.requires.room (mark_of c.args.space.now.allocator) 1 mid (mark_of new.self) c.in-Ok.pending c.in-Ok.ensures.allocates (omega arith)
+    (stored-refused state old c.requires.rest c.requires.room 1 mid c.in-Ok.pending c.in-Ok.ensures.allocates (omega arith)
     c.args.content.now (let whole = c.requires.whole in omega (arith, whole)) after c.write_cluster.ensures.header fault put)
 
 pub returns-in-Err : goal.returns-in-Err
 returns-in-Err g c =
     let new = c.allocate_clusters.new in
-    run-refused g.S.Storage.state (lent c.args.file.now c.args.caches.now c.args.space.now) c.requires.rest c.requires.room (mark_of c.args.space.now.allocator) 1
-    (lent new.file new.caches (record { allocator = new.self; to_free = new.list })) (mark_of new.self) c.in-Err.fault c.in-Err.ensures.allocates c.args.content.now c.in-Err.ensures.held
+    run-refused g.S.Storage.state (lent c.args.file.now c.args.caches.now c.args.space.now) c.requires.rest c.requires.room 1
+    (lent new.file new.caches (record { allocator = new.self; to_free = new.list })) c.in-Err.fault c.in-Err.ensures.allocates c.args.content.now c.in-Err.ensures.held

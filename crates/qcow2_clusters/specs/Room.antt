@@ -1,0 +1,32 @@
+-- Which room an image has for allocations, what they leave of it, and when there is none.
+use Rattle.std.specs.Prelude.{◌≡◌, ◌+◌, ◌<◌, ◌≤◌, ℕ}
+use Rattle.qcow2_alloc.specs.Allocators.{mark_of}
+use Rattle.qcow2_alloc.specs.Crowding.{IsCrowded, space}
+use Rattle.qcow2_alloc.specs.Quiet.{Metadata, counted}
+use Rattle.qcow2_alloc.specs.ReadyingRuns.{IsRunTold}
+use Rattle.qcow2_clusters.specs.Rest.{Clusters}
+
+-- where the search for free clusters begins
+abbrev pub mark_in : {S : Type 0} → Clusters S → ℕ
+mark_in c = mark_of c.space.allocator
+
+-- So many clusters in a row aren't counted, from the mark on and below this end.
+pub record HasFree (counts : ℕ → ℕ) (mark end total : ℕ) : Type 0 where
+  pub first : ℕ
+  pub behind : mark ≤ first
+  pub below : first + total ≤ end
+  pub free : (c : ℕ) → first ≤ c → c < first + total → counts c ≡ 0
+
+-- So many aren't in an image, of all that a file of its kind can have.
+abbrev pub HasRoom : Metadata → (mark total : ℕ) → Type 0
+HasRoom m mark total = HasFree (counted m) mark (space m.header.fields) total
+
+-- Of clusters in a row that are free it has left all but so many.
+pub record LeavesRoom (taken : ℕ) (m : Metadata) (mark : ℕ) (m' : Metadata) (mark' : ℕ) : Type 0 where
+  pub as_large : space m'.header.fields ≡ space m.header.fields
+  pub left : (total : ℕ) → 0 < total → HasRoom m mark (taken + total) → HasRoom m' mark' total
+
+-- It had no room for n clusters in a row, and a number tells why the first run of n that it has by now can't be taken.
+pub record IsFull (n : ℕ) (m : Metadata) (mark : ℕ) (m' : Metadata) (mark' number : ℕ) : Type 0 where
+  pub crowded : IsCrowded m mark n
+  pub told : IsRunTold m' mark' n number
