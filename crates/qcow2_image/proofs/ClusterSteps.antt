@@ -1,9 +1,10 @@
 -- What single changes of its clusters leave of an image.
-use Rattle.std.proofs.Common.{◌≡◌, ◌≢◌, ℕ, ◌+◌, ◌*◌, ◌/◌, ◌^◌, ◌<◌, refl, arith, ap, sym, subst, ◌∙◌, inl, inr, Bool, true, false, List, [], length, Option, Some, None, Result, Ok, Err}
+use Rattle.std.proofs.Common.{◌≡◌, ◌≢◌, ℕ, ◌+◌, ◌*◌, ◌/◌, ◌^◌, ◌<◌, refl, arith, ap, sym, subst, ◌∙◌, inl, inr, Bool, true, false, List, [], ◌++◌, ◌-◌, length, Option, Some, None, Result, Ok, Err}
 use Rattle.std.proofs.Math.Nat.{le-max_left, le-max_right}
 use Rattle.std.proofs.lemmas.Bool.{cases_eq, cases_lt, le-ltb, ne_eqb}
+use Rattle.std.proofs.lemmas.List.{append-nil}
 use Rattle.std.proofs.lemmas.Nat.{pow_pos}
-use Rattle.std.specs.Prelude.{⊤, IsTrue, IsSome, IfSome, is_some, IfOk, IfErr, OnOk, max, slice_index, ◌==◌, if◌then◌else◌}
+use Rattle.std.specs.Prelude.{⊤, IsTrue, IsSome, IfSome, is_some, IfOk, IfErr, OnOk, max, replicate, slice_index, ◌==◌, if◌then◌else◌}
 use Rattle.imago_storage.specs.State.{Rose, StorageState}
 use Rattle.imago_storage.specs.Calls.{Cause}
 use Rattle.imago_storage.specs.Disk.{Value}
@@ -12,13 +13,14 @@ use Rattle.imago_storage.specs.declared.fault.Fault.{Fault}
 use Rattle.imago_storage.specs.declared.fault.Fault.TheVariants.{Counter, DamagedTable, Limit, Memory, Storage}
 use Rattle.imago_storage.specs.declared.storage.Storage.{Ghosts}
 use Rattle.imago_access.specs.Files.{WasNotCutOff}
-use Rattle.qcow2_types.specs.Bytes.{Bytes, word}
+use Rattle.qcow2_types.specs.Bytes.{Bytes, bytes_of, word}
 use Rattle.qcow2_types.specs.Entries.{l1_table_sound, l2_table}
 use Rattle.qcow2_types.specs.Header.{Fields, Header, cluster_size, words_of_cluster}
 use Rattle.qcow2_types.specs.Words.{is_copied, table_offset}
 use Rattle.qcow2_metadata.specs.Tables.{TableValue, padded}
 use Rattle.qcow2_alloc.specs.Allocating.{MovedTable}
-use Rattle.qcow2_alloc.specs.Allocators.{LoadsAllocator}
+use Rattle.qcow2_alloc.specs.Allocators.{LoadsAllocator, mark_of}
+use Rattle.qcow2_alloc.specs.Crowding.{space as space_of}
 use Rattle.qcow2_alloc.specs.Going as going
 use Rattle.qcow2_alloc.specs.Opening.{IsL1Of}
 use Rattle.qcow2_alloc.specs.Quiet.{Metadata}
@@ -34,10 +36,11 @@ use Rattle.qcow2_steps.specs.LongerL1.{old_l1}
 use Rattle.qcow2_steps.proofs.Headers.{header-counts}
 use Rattle.qcow2_clusters.specs.Freeing.{FreesWaiting}
 use Rattle.qcow2_clusters.specs.Freeing as freeing
-use Rattle.qcow2_clusters.specs.Lengthening.{IsTop, LengthensL1}
+use Rattle.qcow2_clusters.specs.Lengthening.{IsTooLong, IsTop, LengthensL1, l1_clusters}
 use Rattle.qcow2_clusters.specs.MakingTables.{CopiesTable, HasTable, IsTableless, IsTopWord, MakesTable, NamesNewTable, given_up}
 use Rattle.qcow2_clusters.specs.Progress.{Kind, Progresses, handing}
 use Rattle.qcow2_clusters.specs.Rest.{Clusters, IsReady, lent, resting}
+use Rattle.qcow2_clusters.specs.Room as room
 use Rattle.qcow2_clusters.specs.Storing.{Rests, Stores, handed_by, held_by}
 use Rattle.qcow2_clusters.specs.Storing as clusters
 use Rattle.qcow2_clusters.specs.declared.space.Space.{Space}
@@ -46,6 +49,8 @@ use Rattle.qcow2_image.specs.Holding.{Holding, IsOwnAs}
 use Rattle.qcow2_image.specs.KeepsDisk.{KeepsDisk, KeepsDiskWhere}
 use Rattle.qcow2_image.specs.Leaking.{KeepsLeaks, KeepsLeaksBut}
 use Rattle.qcow2_clusters.proofs.LengtheningL1.{padded-long}
+use Rattle.qcow2_image.specs.FreeSpace.{HasNoPlace, IsFull, LeavesFree, enough_for_one, enough_for_table, enough_for_word, searched_from}
+use Rattle.qcow2_image.proofs.FreeRuns.{full-behind, full-in-run, full-more, leaves-in-run, leaves-more, leaves-none, leaves-then, run-fewer, run-same, safe-short, some-enough, why-full}
 use Rattle.qcow2_image.specs.Looking.{place_of_table}
 use Rattle.qcow2_image.specs.Rooms.{IsSafe, rest_of}
 use Rattle.qcow2_image.specs.Seen.{file_of}
@@ -71,6 +76,11 @@ some-there (Some space) is = (space, refl)
 pub none-some : {A : Type 0} (o : Option Space) → o ≡ None → IsSome o → A
 none-some None is some = absurd (cc some)
 none-some (Some x) is some = absurd (cc is)
+
+-- Nothing is added to a list that is as long.
+padded-none : (ws : List ℕ) (n : ℕ) → n ≡ length ws → padded ws n ≡ ws
+padded-none ws n is =
+    ap (λ k. ws ++ replicate k 0) (let none : n - length ws ≡ 0 = omega (arith, is) in none) ∙ append-nil ws
 
 -- An image whose free space wasn't loaded: what was in memory is what was, and a storage's fault marks it.
 module _ {S : Type 0} (g : Ghosts S) (old new : Qcow2 S g) (fault : Fault) (mid : Tables S g)
@@ -99,12 +109,17 @@ module _ {S : Type 0} (g : Ghosts S) (old new : Qcow2 S g) (fault : Fault) (mid 
         seen = seen-same g old.tables mid loads.kept later header l1 caches;
       }) is
 
-  why-from : (e : Fault) → WhyNoSpace unloaded_from.faults (g.state new.tables.file.image).faults e → WhyNotAllocated g old new e
-  why-from Memory why = tt
-  why-from Storage why = why
-  why-from (Limit number) why = tt
-  why-from DamagedTable why = λ known. none-some old.tables.space none known.1
-  why-from e why = absurd why
+  why-from : (e : Fault) → (IsSafe g old → Cause unloaded_from.faults (g.state new.tables.file.image).faults e)
+      → WhyNoSpace unloaded_from.faults (g.state new.tables.file.image).faults e → WhyNotAllocated g (λ number. ⊥) old new e
+  why-from Memory safely why = tt
+  why-from Storage safely why = why
+  why-from (Limit number) safely why = λ safe. safely safe
+  why-from DamagedTable safely why = λ known. none-some old.tables.space none known.1
+  why-from e safely why = absurd why
+
+  why-safe : IsSafe g old → Cause unloaded_from.faults (g.state new.tables.file.image).faults fault
+  why-safe safe = subst (λ (s : StorageState). Cause unloaded_from.faults s.faults fault) (sym state-same)
+      (allocator-refused (file_of g old.tables) old.tables.file.header safe.consistent unloaded_from unloaded_to fault refl loads)
 
   pub unloaded : LoadsSpace g old (Err fault) new
   unloaded = record {
@@ -113,10 +128,11 @@ module _ {S : Type 0} (g : Ghosts S) (old new : Qcow2 S g) (fault : Fault) (mid 
     known = tt;
     stays = none-some old.tables.space none;
     same = keeps-unloaded;
-    cause = why-from fault (subst (λ (s : StorageState). WhyNoSpace unloaded_from.faults s.faults fault) (sym state-same)
+    top = tt;
+    leaves = tt;
+    cause = why-from fault why-safe (subst (λ (s : StorageState). WhyNoSpace unloaded_from.faults s.faults fault) (sym state-same)
         (space-refused unloaded_from unloaded_to old.tables.file.header.fields fault loads));
-    known_cause = λ safe. subst (λ (s : StorageState). Cause unloaded_from.faults s.faults fault) (sym state-same)
-        (allocator-refused (file_of g old.tables) old.tables.file.header safe.consistent unloaded_from unloaded_to fault refl loads);
+    known_cause = why-safe;
     faults = tt;
   }
 
@@ -132,6 +148,12 @@ loaded g old new space none there mode number unspent failed l1 caches header lo
   known = subst IsSome (sym there) refl;
   stays = none-some old.tables.space none;
   same = tt;
+  top = (l1, header);
+  leaves = record {
+    as_large = ap (λ (H : Header). space_of H.fields) header;
+    left = λ total some run. run-same g old.tables new.tables total (ap bytes_of loads.kept.bytes) header
+        (ap searched_from there ∙ loads.ok.2 ∙ sym (ap searched_from none)) (run-fewer g old.tables total (0 + total) (omega arith) run);
+  };
   cause = tt;
   known_cause = λ safe. tt;
   faults = failed;
@@ -257,15 +279,20 @@ module _ {S T : Type 0} (g : Ghosts S) (old : Qcow2 S g) (mid : Tables S g) (spa
 none-spared : {S : Type 0} (g : Ghosts S) (old : Qcow2 S g) (P : Holding → Type 0) → old.unspent ≡ None → IfSome (holding_in g old.unspent) P
 none-spared g old P free = subst (λ u. IfSome (holding_in g u) P) (sym free) tt
 
-allocated-why : {S : Type 0} (g : Ghosts S) (old new : Qcow2 S g) (is-ready : Type 0) (before after : ℕ) (fault : Fault) → (IsSafe g old → is-ready)
-    → before ≡ (g.state old.tables.file.image).faults → after ≡ (g.state new.tables.file.image).faults
-    → clusters.WhyNotAllocated is-ready before after fault → WhyNotAllocated g old new fault
-allocated-why g old new is-ready before after Memory from was is why = tt
-allocated-why g old new is-ready before after Storage from was is why = rw (sym was, sym is) why
-allocated-why g old new is-ready before after (Limit number) from was is why = tt
-allocated-why g old new is-ready before after DamagedTable from was is why = λ known. why (from known.0)
-allocated-why g old new is-ready before after Counter from was is why = λ known. why (from known.0)
-allocated-why g old new is-ready before after fault from was is why = absurd why
+allocated-why : {S : Type 0} (g : Ghosts S) (old new : Qcow2 S g) (is-ready : Type 0) (full full' : ℕ → Type 0) (before after : ℕ) (fault : Fault)
+    → (IsSafe g old → is-ready) → before ≡ (g.state old.tables.file.image).faults → after ≡ (g.state new.tables.file.image).faults
+    → ((number : ℕ) → IsSafe g old → full number → full' number)
+    → clusters.WhyNotAllocated is-ready full before after fault → WhyNotAllocated g full' old new fault
+allocated-why g old new is-ready full full' before after Memory from was is told why = tt
+allocated-why g old new is-ready full full' before after Storage from was is told why = rw (sym was, sym is) why
+allocated-why g old new is-ready full full' before after (Limit number) from was is told why = λ safe. told number safe (why (from safe))
+allocated-why g old new is-ready full full' before after DamagedTable from was is told why = λ known. why (from known.0)
+allocated-why g old new is-ready full full' before after Counter from was is told why = λ known. why (from known.0)
+allocated-why g old new is-ready full full' before after fault from was is told why = absurd why
+
+on-ok : {T : Type 0} (r : Result T Fault) (P Q : Type 0) → (P → Q) → OnOk r P → OnOk r Q
+on-ok (Ok v) P Q each holds = each holds
+on-ok (Err e) P Q each holds = tt
 
 if-err : {T : Type 0} (r : Result T Fault) (P Q : Fault → Type 0) → ((e : Fault) → P e → Q e) → IfErr r P → IfErr r Q
 if-err (Ok v) P Q each holds = tt
@@ -305,9 +332,13 @@ module _ {S : Type 0} (g : Ghosts S) (old : Qcow2 S g) (mid : Tables S g) (space
     named = stores.named;
     reserved = λ safe. reserved-now result (stores.reserved (ready g old mid space space' caches result there there' stores.rests safe)) stores.held;
     content = λ safe. stores.stored (ready g old mid space space' caches result there there' stores.rests safe);
-    cause = if-err result _ (WhyNotAllocated g old stored_now) (λ e. allocated-why g old stored_now (IsReady g.state (lent old.tables.file caches space))
+    cause = if-err result _ (WhyNotAllocated g (IsFull g (enough_for_one old.tables) old.tables mid) old stored_now) (λ e.
+        allocated-why g old stored_now (IsReady g.state (lent old.tables.file caches space))
+        (room.IsFull 1 (rest_of g old.tables space) (mark_of space.allocator) (rest_of g mid space') (mark_of space'.allocator))
+        (IsFull g (enough_for_one old.tables) old.tables mid)
         (g.state old.tables.file.image).faults (g.state mid.file.image).faults e
-        (ready g old mid space space' caches result there there' stores.rests) refl refl) stores.cause;
+        (ready g old mid space space' caches result there there' stores.rests) refl refl
+        (λ number safe full. full-in-run g old.tables mid space space' there there' 1 number full)) stores.cause;
   }
 
 -- Bytes were written to the cluster that a guest cluster keeps for its zeroes.
@@ -391,7 +422,7 @@ module _ {S : Type 0} (g : Ghosts S) (guest : ℕ) (bytes : List ℕ) (old new :
     cause = tt;
   }
 
-  filling-why : (e : Fault) → WhyNotFilled g old new e → WhyNotAllocated g old new e
+  filling-why : (e : Fault) → WhyNotFilled g old new e → WhyNotAllocated g (IsFull g (enough_for_one old.tables) old.tables new.tables) old new e
   filling-why Memory why = why
   filling-why Storage why = why
   filling-why DamagedTable why = why
@@ -530,7 +561,31 @@ module _ {S : Type 0} (g : Ghosts S) (old : Qcow2 S g) (mid : Tables S g) (space
       ∙ subst (λ (K : Header). is_copied (word (file_of g mid) K.fields.l1_offset i) ≡ true) (sym names.rests.header.2) marked
   copied-now (Err fault) marked = tt
 
-  pub made : EnsuresTable g guest old result made_now
+  row-inside : IsSafe g old → guest / words_of_cluster was < was.l1_entries
+  row-inside safe = let long = top-long (file_of g old.tables) was old.tables.l1 safe.seen.l1 in omega (arith, inside, index, long)
+
+  -- The L1 table stays as long as it is,
+  long-now : (r : Result ℕ Fault) → result ≡ r → IsSafe g old
+      → OnOk r (length mid.l1.words ≡ max (length old.tables.l1.words) (guest / words_of_cluster was + 1))
+  long-now (Ok t) same safe =
+      let whole : going.WasNotCutOff result = subst (λ (r : Result ℕ Fault). going.WasNotCutOff r) (sym same) tt in
+      let of = names.l1 (is-ready safe) (as-asked safe) whole in
+      let new = top-long (file_of g mid) was mid.l1 of in
+      let long = top-long (file_of g old.tables) was old.tables.l1 safe.seen.l1 in
+      let row = row-inside safe in
+      omega (arith, new, long, row)
+  long-now (Err fault) same safe = tt
+
+  -- and there was no room where no table could be made.
+  no-place : (number : ℕ) → IsSafe g old
+      → room.IsFull 1 (rest_of g old.tables space) (mark_of space.allocator) (rest_of g mid space') (mark_of space'.allocator) number
+      → HasNoPlace g (guest / words_of_cluster was) (enough_for_one old.tables) old.tables mid number
+  no-place number safe full = inr (
+    safe-short g old (guest / words_of_cluster was) safe (row-inside safe),
+    full-in-run g old.tables mid space space' there there' 1 number full,
+  )
+
+  pub made : EnsuresTable g (enough_for_one old.tables) guest old result made_now
   made = record {
     keeps = advanced g old mid space space' caches result there there' names.rests handed taken
         (none-spared g old (Spares g (WasNotCutOff result) (handing handed taken) old made_now space space') free)
@@ -543,9 +598,14 @@ module _ {S : Type 0} (g : Ghosts S) (old : Qcow2 S g) (mid : Tables S g) (space
     known = λ was. subst IsSome (sym there') refl;
     there = λ safe some. there-now safe result (names.there (is-ready safe) (as-asked safe));
     own = λ safe some. copied-now result (names.copied (is-ready safe) (as-asked safe));
-    cause = if-err result _ (WhyNotAllocated g old made_now) (λ e. allocated-why g old made_now
-        (IsReady g.state (lent old.tables.file caches space) × asked)
-        (g.state old.tables.file.image).faults (g.state mid.file.image).faults e (λ safe. (is-ready safe, as-asked safe)) refl refl) names.cause;
+    long = long-now result refl;
+    leaves = λ safe. on-ok result _ (LeavesFree g (enough_for_one old.tables) old.tables mid)
+        (leaves-in-run g old.tables mid space space' there there' (enough_for_one old.tables)) (names.leaves (is-ready safe) (as-asked safe));
+    cause = if-err result _ (WhyNotAllocated g (HasNoPlace g (guest / words_of_cluster was) (enough_for_one old.tables) old.tables mid) old made_now) (λ e.
+        allocated-why g old made_now (IsReady g.state (lent old.tables.file caches space) × asked)
+        (room.IsFull 1 (rest_of g old.tables space) (mark_of space.allocator) (rest_of g mid space') (mark_of space'.allocator))
+        (HasNoPlace g (guest / words_of_cluster was) (enough_for_one old.tables) old.tables mid)
+        (g.state old.tables.file.image).faults (g.state mid.file.image).faults e (λ safe. (is-ready safe, as-asked safe)) refl refl no-place) names.cause;
   }
 
 -- It is a copy where there was a table, and else one in which nothing is mapped.
@@ -564,7 +624,7 @@ module _ {S : Type 0} (g : Ghosts S) (old : Qcow2 S g) (mid : Tables S g) (space
   pub renewed : (named : Option ℕ) → place_of_table old.tables.l1.words old.tables.file.header.fields.cluster_bits guest ≡ named
       → (is_some named ≡ true → CopiesTable g.state old.tables.l1 i before result mid.l1 after)
       → (is_some named ≡ false → MakesTable g.state old.tables.l1 i before result mid.l1 after)
-      → EnsuresTable g guest old result (record old { tables = mid; failed = failed_cut result old.failed })
+      → EnsuresTable g (enough_for_one old.tables) guest old result (record old { tables = mid; failed = failed_cut result old.failed })
   renewed None is copies makes =
       made g old mid space space' caches guest i result (IsTableless g.state old.tables.l1 i before) (handed_by result) (handed_by result)
       (λ c. omega arith)
@@ -584,7 +644,7 @@ module _ {S : Type 0} (g : Ghosts S) (d : Qcow2 S g) (guest table : ℕ)
       × (l2_table (file_of g d.tables) own_h (guest / words_of_cluster own_h) ≡ table * cluster_size own_h)
   over safe = table-over (file_of g d.tables) own_h d.tables.l1 safe.seen.l1 guest table named
 
-  pub table-there : EnsuresTable g guest d (Ok table) d
+  pub table-there : EnsuresTable g (enough_for_one d.tables) guest d (Ok table) d
   table-there = record {
     keeps = keeps-disk-same g ⊤ d;
     leaks = λ safe whole c. refl;
@@ -593,6 +653,11 @@ module _ {S : Type 0} (g : Ghosts S) (d : Qcow2 S g) (guest table : ℕ)
     there = λ safe some. over safe;
     own = λ safe some.
         ap is_copied (sym (top-word (file_of g d.tables) own_h d.tables.l1 safe.seen.l1 (guest / words_of_cluster own_h) (over safe).1)) ∙ marked;
+    long = λ safe.
+        let row = (over safe).1 in
+        let long = top-long (file_of g d.tables) own_h d.tables.l1 safe.seen.l1 in
+        omega (arith, row, long);
+    leaves = λ safe. leaves-more g 0 (enough_for_one d.tables) d.tables d.tables (omega arith) (leaves-none g d.tables);
     cause = tt;
   }
 
@@ -719,6 +784,12 @@ module _ {S : Type 0} (g : Ghosts S) (old : Qcow2 S g) (mid : Tables S g) (space
       let all : length mid.l1.words ≡ max (length words) (i + 1) = ap length is ∙ padded-long words (max (length words) (i + 1)) (le-max_left (length words) (i + 1)) in
       omega (arith, more, all)
 
+  no-word : (number : ℕ) → IsTooLong g.state old.tables.l1 i (lent old.tables.file caches space) (lent mid.file mid.caches space') number
+      → HasNoPlace g i (enough_for_word old.tables i) old.tables mid number
+  no-word number (inl far) = inl far
+  no-word number (inr (near, full)) =
+      inr (near, full-in-run g old.tables mid space space' there there' (l1_clusters old.tables.file.header.fields old.tables.l1 i) number full)
+
   pub lengthened : (result : Result Unit Fault) → Longer result → EnsuresWord g i old result (with_l1 result)
   lengthened (Ok done) longer = record {
     keeps = longer-keeps (Ok done) both_tables both_tables longer (λ safe. longer.progress safe.seen.l1);
@@ -726,6 +797,9 @@ module _ {S : Type 0} (g : Ghosts S) (old : Qcow2 S g) (mid : Tables S g) (space
     marks = refl;
     known = λ was. subst IsSome (sym there') refl;
     inside = word-there old.tables.l1.words longer.words;
+    words = longer.words;
+    leaves = λ safe. leaves-in-run g old.tables mid space space' there there' (enough_for_word old.tables i)
+        (longer.leaves (longer-ready safe) safe.seen.l1).1;
     cause = tt;
   }
   lengthened (Err fault) longer = record {
@@ -734,28 +808,123 @@ module _ {S : Type 0} (g : Ghosts S) (old : Qcow2 S g) (mid : Tables S g) (space
     marks = refl;
     known = λ was. subst IsSome (sym there') refl;
     inside = tt;
+    words = tt;
+    leaves = λ safe. tt;
     cause = allocated-why g old (with_l1 (Err fault)) (IsReady g.state (lent old.tables.file caches space) × IsTop g.state old.tables.l1 (lent old.tables.file caches space))
-        (g.state old.tables.file.image).faults (g.state mid.file.image).faults fault (λ safe. (longer-ready safe, safe.seen.l1)) refl refl longer.cause;
+        (IsTooLong g.state old.tables.l1 i (lent old.tables.file caches space) (lent mid.file mid.caches space'))
+        (HasNoPlace g i (enough_for_word old.tables i) old.tables mid)
+        (g.state old.tables.file.image).faults (g.state mid.file.image).faults fault (λ safe. (longer-ready safe, safe.seen.l1)) refl refl
+        (λ number safe full. no-word number full) longer.cause;
   }
 
--- A table of its own is ensured once there is a word for it.
-module _ {S : Type 0} (g : Ghosts S) (guest i : ℕ) (old mid new : Qcow2 S g) where
-  why-behind : (fault : Fault) → EnsuresWord g i old (Ok tt) mid → WhyNotAllocated g mid new fault → WhyNotAllocated g old new fault
-  why-behind Memory word why = tt
-  why-behind Storage word why = subst (λ n. Rose n (g.state new.tables.file.image).faults) (word.keeps.faults tt).0 why
-  why-behind (Limit number) word why = tt
-  why-behind DamagedTable word why = λ is. why (word.keeps.safely is.0 tt, word.known is.1)
-  why-behind Counter word why = λ is. why (word.keeps.safely is.0 tt, word.known is.1)
-  why-behind fault word why = absurd why
+-- There was a word.
+pub word-there-already : {S : Type 0} (g : Ghosts S) (i : ℕ) (d : Qcow2 S g) → i < length d.tables.l1.words → EnsuresWord g i d (Ok tt) d
+word-there-already g i d inside = record {
+  keeps = keeps-disk-same g ⊤ d;
+  leaks = λ safe whole c. refl;
+  marks = refl;
+  known = λ some. some;
+  inside = inside;
+  words = sym (padded-none d.tables.l1.words (max (length d.tables.l1.words) (i + 1)) (omega (arith, inside)));
+  leaves = λ safe. leaves-more g 0 (enough_for_word d.tables i) d.tables d.tables (omega arith) (leaves-none g d.tables);
+  cause = tt;
+}
 
-  pub table-behind-word : (result : Result ℕ Fault) → EnsuresWord g i old (Ok tt) mid → EnsuresTable g guest mid result new
-      → EnsuresTable g guest old result new
-  table-behind-word result word table = record {
+-- A table of its own is ensured once there is a word for it.
+module _ {S : Type 0} (g : Ghosts S) (guest i : ℕ) (old mid new : Qcow2 S g) (index : i ≡ guest / words_of_cluster old.tables.file.header.fields)
+    (word : EnsuresWord g i old (Ok tt) mid) where
+  why-behind : (full full' : ℕ → Type 0) (fault : Fault) → ((number : ℕ) → IsSafe g old → full number → full' number)
+      → WhyNotAllocated g full mid new fault → WhyNotAllocated g full' old new fault
+  why-behind full full' Memory told why = tt
+  why-behind full full' Storage told why = subst (λ n. Rose n (g.state new.tables.file.image).faults) (word.keeps.faults tt).0 why
+  why-behind full full' (Limit number) told why = λ safe. told number safe (why (word.keeps.safely safe tt))
+  why-behind full full' DamagedTable told why = λ is. why (word.keeps.safely is.0 tt, word.known is.1)
+  why-behind full full' Counter told why = λ is. why (word.keeps.safely is.0 tt, word.known is.1)
+  why-behind full full' fault told why = absurd why
+
+  row-still : guest / words_of_cluster mid.tables.file.header.fields ≡ guest / words_of_cluster old.tables.file.header.fields
+  row-still = ap (λ b. guest / (2 ^ b / 8)) word.keeps.bits
+
+  leaves-word : IsSafe g old → LeavesFree g (enough_for_word old.tables (guest / words_of_cluster old.tables.file.header.fields)) old.tables mid.tables
+  leaves-word safe = subst (λ k. LeavesFree g (enough_for_word old.tables k) old.tables mid.tables) index (word.leaves safe)
+
+  one-still : IsSafe g old → enough_for_one mid.tables ≡ enough_for_one old.tables
+  one-still safe = ap (λ n. n / 16 + 3 * 1) (word.leaves safe).as_large
+
+  no-place-behind : (number : ℕ) → IsSafe g old
+      → HasNoPlace g (guest / words_of_cluster mid.tables.file.header.fields) (enough_for_one mid.tables) mid.tables new.tables number
+      → HasNoPlace g (guest / words_of_cluster old.tables.file.header.fields) (enough_for_table old.tables guest) old.tables new.tables number
+  no-place-behind number safe none = from (subst (λ k. HasNoPlace g k (enough_for_one mid.tables) mid.tables new.tables number) row-still none) where
+    from : HasNoPlace g (guest / words_of_cluster old.tables.file.header.fields) (enough_for_one mid.tables) mid.tables new.tables number
+        → HasNoPlace g (guest / words_of_cluster old.tables.file.header.fields) (enough_for_table old.tables guest) old.tables new.tables number
+    from (inl far) = inl far
+    from (inr (near, full)) = inr (
+      near,
+      full-behind g (enough_for_word old.tables (guest / words_of_cluster old.tables.file.header.fields)) (enough_for_one old.tables) number
+          old.tables mid.tables new.tables (some-enough old.tables) (leaves-word safe)
+          (subst (λ n. IsFull g n mid.tables new.tables number) (one-still safe) full),
+    )
+
+  long-behind : (r : Result ℕ Fault)
+      → OnOk r (length new.tables.l1.words ≡ max (length mid.tables.l1.words) (guest / words_of_cluster mid.tables.file.header.fields + 1))
+      → OnOk r (length new.tables.l1.words ≡ max (length old.tables.l1.words) (guest / words_of_cluster old.tables.file.header.fields + 1))
+  long-behind (Ok t) is =
+      let all : length mid.tables.l1.words ≡ max (length old.tables.l1.words) (i + 1) =
+      ap length word.words ∙ padded-long old.tables.l1.words (max (length old.tables.l1.words) (i + 1)) (le-max_left (length old.tables.l1.words) (i + 1)) in
+      let row = row-still in
+      omega (arith, is, all, row, index)
+  long-behind (Err fault) is = tt
+
+  pub table-behind-word : (result : Result ℕ Fault) → EnsuresTable g (enough_for_one mid.tables) guest mid result new
+      → EnsuresTable g (enough_for_table old.tables guest) guest old result new
+  table-behind-word result table = record {
     keeps = keeps-disk-both g ⊤ (WasNotCutOff result) old mid new tt word.keeps table.keeps;
     leaks = λ safe whole. leaks-both g old mid new (word.leaks safe tt) (table.leaks (word.keeps.safely safe tt) whole);
     marks = table.marks ∙ ap (failed_cut result) word.marks;
     known = λ some. table.known (word.known some);
     there = λ safe some. table.there (word.keeps.safely safe tt) (word.known some);
     own = λ safe some. table.own (word.keeps.safely safe tt) (word.known some);
-    cause = if-err result (WhyNotAllocated g mid new) (WhyNotAllocated g old new) (λ e. why-behind e word) table.cause;
+    long = λ safe. long-behind result (table.long (word.keeps.safely safe tt));
+    leaves = λ safe. on-ok result _ (LeavesFree g (enough_for_table old.tables guest) old.tables new.tables) (λ leaves.
+        leaves-then g (enough_for_word old.tables (guest / words_of_cluster old.tables.file.header.fields)) (enough_for_one old.tables)
+        old.tables mid.tables new.tables (leaves-word safe)
+        (subst (λ n. LeavesFree g n mid.tables new.tables) (one-still safe) leaves)) (table.leaves (word.keeps.safely safe tt));
+    cause = if-err result _
+        (WhyNotAllocated g (HasNoPlace g (guest / words_of_cluster old.tables.file.header.fields) (enough_for_table old.tables guest) old.tables new.tables) old new)
+        (λ e. why-behind
+        (HasNoPlace g (guest / words_of_cluster mid.tables.file.header.fields) (enough_for_one mid.tables) mid.tables new.tables)
+        (HasNoPlace g (guest / words_of_cluster old.tables.file.header.fields) (enough_for_table old.tables guest) old.tables new.tables) e no-place-behind)
+        table.cause;
+  }
+
+-- None is where there is no word for it.
+module _ {S : Type 0} (g : Ghosts S) (guest i : ℕ) (old new : Qcow2 S g) (index : i ≡ guest / words_of_cluster old.tables.file.header.fields)
+    (e : Fault) (word : EnsuresWord g i old (Err e) new) where
+  cut-same : (f : Fault) (failed : Bool) → failed_cut {T = Unit} (Err f) failed ≡ failed_cut {T = ℕ} (Err f) failed
+  cut-same Memory failed = refl
+  cut-same Storage failed = refl
+  cut-same f failed = refl
+
+  more-needed : (number : ℕ) → HasNoPlace g i (enough_for_word old.tables i) old.tables new.tables number
+      → HasNoPlace g i (enough_for_word old.tables i + enough_for_one old.tables) old.tables new.tables number
+  more-needed number (inl far) = inl far
+  more-needed number (inr (near, full)) = inr (
+    near,
+    full-more g (enough_for_word old.tables i) (enough_for_word old.tables i + enough_for_one old.tables) number old.tables new.tables (omega arith) full,
+  )
+
+  pub table-wordless : EnsuresTable g (enough_for_table old.tables guest) guest old (Err e) new
+  table-wordless = record {
+    keeps = word.keeps;
+    leaks = word.leaks;
+    marks = word.marks ∙ cut-same e old.failed;
+    known = word.known;
+    there = λ safe some. tt;
+    own = λ safe some. tt;
+    long = λ safe. tt;
+    leaves = λ safe. tt;
+    cause = why-full g (HasNoPlace g i (enough_for_word old.tables i) old.tables new.tables)
+        (HasNoPlace g (guest / words_of_cluster old.tables.file.header.fields) (enough_for_table old.tables guest) old.tables new.tables) old new e
+        (λ number safe none. subst (λ k. HasNoPlace g k (enough_for_word old.tables k + enough_for_one old.tables) old.tables new.tables number) index
+        (more-needed number none)) word.cause;
   }

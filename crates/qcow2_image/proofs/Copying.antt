@@ -213,7 +213,7 @@ module _ {S : Type 0} (g : Ghosts S) where
   why-looked : (old new : Qcow2 S g) (guest : ℕ) (e : Fault)
       → (IsSafe g old → WhyNotLooked (entry (file_of g old.tables) old.tables.file.header.fields guest ≡ damaged)
       (g.state old.tables.file.image).faults (g.state new.tables.file.image).faults e)
-      → WhyNotLooked ⊤ (g.state old.tables.file.image).faults (g.state new.tables.file.image).faults e → WhyNotReserved g old new e
+      → WhyNotLooked ⊤ (g.state old.tables.file.image).faults (g.state new.tables.file.image).faults e → WhyNotReserved g (λ number. ⊥) old new e
   why-looked old new guest Memory known why = tt
   why-looked old new guest Storage known why = why
   why-looked old new guest DamagedTable known why = λ safe. never-damaged (file_of g old.tables) old.tables.file.header safe.consistent guest (known safe)
@@ -337,7 +337,7 @@ module _ {S : Type 0} (g : Ghosts S) where
           })
         ];
       } where
-        own-why : (f : Fault) → Cause (g.state mid.tables.file.image).faults (g.state new.tables.file.image).faults f → WhyNotReserved g old new f
+        own-why : (f : Fault) → Cause (g.state mid.tables.file.image).faults (g.state new.tables.file.image).faults f → WhyNotReserved g (λ number. ⊥) old new f
         own-why Memory is = tt
         own-why Storage is = subst (λ (n : ℕ). Rose n (g.state new.tables.file.image).faults) (told.tables.faults tt).0 is
         own-why f is = absurd is

@@ -24,6 +24,7 @@ pub mod KeepingDisks
 pub mod Leaks
 pub mod KeptClusters
 pub mod FreshRuns
+pub mod FreeRuns
 pub mod Copying
 pub mod Reserving
 pub mod Prepared

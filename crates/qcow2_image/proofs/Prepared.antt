@@ -39,7 +39,7 @@ use Rattle.qcow2_image.specs.Holding.{Holding, IsUncopied, claim_held, place_in}
 use Rattle.qcow2_image.specs.Homes.{memory_is}
 use Rattle.qcow2_image.specs.ImageLayer.{qcow2_fixed}
 use Rattle.qcow2_image.specs.KeepsDisk.{KeepsDisk}
-use Rattle.qcow2_image.specs.Preparing.{HoldsFresh, IsReservedFor, LeavesMarked, PreparesFresh, first_part, first_run, held_run}
+use Rattle.qcow2_image.specs.Preparing.{HoldsFresh, IsReservedFor, LacksPlace, LeavesMarked, PreparesFresh, first_part, first_run, held_run}
 use Rattle.qcow2_image.specs.Rooms.{HasCluster, HoldsIn, IsSafe, ReadsNone}
 use Rattle.qcow2_image.specs.Seen.{IsSeen, file_of, homes_of, layer_in, layer_of, memory_of}
 use Rattle.qcow2_image.specs.Unspent.{covers, holding, holding_in}
@@ -105,8 +105,8 @@ module _ (R : RattleType) (st : Ghosts R.Denot) (sd : mir.Syntax.Dict) (dd : mir
 
     -- Why it is refused,
     module _ (e : Fault) (k : KeepsDisk st (IsMild e) old middle) (marked : LeavesMarked st old middle e)
-        (why : WhyNotReserved st old middle e ⊎ RefusesCopy st u part (old, x) y e) where
-      own-failed : (f : Fault) → WhyNotReserved st old middle f → ImageCause (files sees old) (files sees middle) f
+        (full : ℕ → Type 0) (why : WhyNotReserved st full old middle e ⊎ RefusesCopy st u part (old, x) y e) where
+      own-failed : (f : Fault) → WhyNotReserved st full old middle f → ImageCause (files sees old) (files sees middle) f
       own-failed Memory is = tt
       own-failed Storage is = inl is
       own-failed (Limit number) is = tt
@@ -134,7 +134,7 @@ module _ (R : RattleType) (st : Ghosts R.Denot) (sd : mir.Syntax.Dict) (dd : mir
         Cause = PartCause (u.under x) (layer_of st old) asked.offset asked.length (sees.own_cause d (u.under x) call)
             (files sees old ++ u.files_under x) (files sees middle ++ u.files_under y)
 
-        own-cause : (f : Fault) → WhyNotReserved st old middle f → Cause f
+        own-cause : (f : Fault) → WhyNotReserved st full old middle f → Cause f
         own-cause Memory is = tt
         own-cause Storage is = inl is
         own-cause (Limit number) is = part-nowhere R st sd dd old middle u x asked number (nowhere safe.seen) some d call begun uncut
@@ -311,7 +311,8 @@ module _ (R : RattleType) (st : Ghosts R.Denot) (sd : mir.Syntax.Dict) (dd : mir
       prepares-held R st sd dd old p.middle u x y asked free some inside nowhere writable p.keeps mapping new p.ok
   prepares-fresh (Err e) free some nowhere inside writable p =
       subst (λ (d : Qcow2 R.Denot st). Prepares driver u asked (Err e) (old, x) (d, y)) (sym p.err.0)
-      (prepares-not R st sd dd old p.middle u x y asked free some inside nowhere e p.keeps p.err.1 p.err.2)
+      (prepares-not R st sd dd old p.middle u x y asked free some inside nowhere e p.keeps p.err.1
+      (LacksPlace st (asked.offset / cluster_size old.tables.file.header.fields) old.tables p.middle.tables) p.err.2)
 
   pub fresh-size : (result : Result (PreparedDataMapping PreparedMappingState) Fault) → Does result → (layer_of st new).size ≡ (layer_of st old).size
   fresh-size (Ok mapping) p = ap (λ (d : Qcow2 R.Denot st). d.tables.file.header.fields.size) p.ok.holds.now ∙ p.keeps.size

@@ -1,6 +1,6 @@
 -- What reserving a cluster and holding it for a guest cluster leave of an image.
-use Rattle.std.proofs.Common.{◌≡◌, ℕ, ◌+◌, ◌*◌, ◌/◌, ◌%◌, ◌^◌, ◌<◌, refl, ap, sym, subst, ◌∙◌, inl, inr, Bool, List, length, Option, Some, None, Result, Ok, Err}
-use Rattle.std.specs.Prelude.{⊤, IfSome, IsSome, Vec, slice_index}
+use Rattle.std.proofs.Common.{◌≡◌, ℕ, ◌+◌, ◌*◌, ◌/◌, ◌%◌, ◌^◌, ◌<◌, refl, ap, sym, subst, ◌∙◌, inl, inr, Bool, List, length, Option, Some, None, Result, Ok, Err, arith}
+use Rattle.std.specs.Prelude.{⊤, ◌≤◌, IfErr, IfSome, IsSome, Vec, slice_index}
 use Rattle.std.specs.declared.alloc.Global.{Global}
 use Rattle.std.proofs.lemmas.Nat.{mod_below, pow_pos}
 use Rattle.imago_storage.specs.State.{Rose}
@@ -16,16 +16,19 @@ use Rattle.imago_access.specs.Layer.{Layer, through}
 use Rattle.imago_access.specs.declared.mapping.PreparedDataMapping.{PreparedDataMapping}
 use Rattle.imago_access.specs.declared.seen.SeenBelow.{Ghosts as GhostsBelow}
 use Rattle.imago_access.proofs.Looking.{looked_under_weaker}
+use Rattle.qcow2_types.specs.Bytes.{bytes_of}
 use Rattle.qcow2_types.specs.Entries.{entry, l2_table}
 use Rattle.qcow2_types.specs.Header.{Fields, Header, cluster_size, words_of_cluster}
 use Rattle.qcow2_types.specs.Words.{damaged, is_copied}
 use Rattle.qcow2_metadata.specs.Places.{IsInReach}
 use Rattle.qcow2_metadata.specs.Tables.{TableValue}
+use Rattle.qcow2_alloc.specs.Crowding.{space}
 use Rattle.qcow2_image.specs.Allocating.{EnsuresTable, HasKept, HasOwnTable, LoadsSpace, PlacesContent, TellsKept, WhyNotAllocated, WhyNotReserved, failed_cut, kept_by}
 use Rattle.qcow2_image.specs.Filling.{IsInFirst, IsLeft, IsNeededFor, MakesContent, NeedsShown, RefusesCopy, WhyNotCopied}
+use Rattle.qcow2_image.specs.FreeSpace.{HasFreeRun, HasNoPlace, IsFull, enough_for_one, enough_for_table, searched_from}
 use Rattle.qcow2_image.specs.Holding.{place_in}
 use Rattle.qcow2_image.specs.KeepsDisk.{KeepsDisk, KeepsDiskWhere}
-use Rattle.qcow2_image.specs.Preparing.{HoldsFresh, IsReservedFor, KeepsMapping, LeavesMarked, PreparesFresh, Reserves, first_part}
+use Rattle.qcow2_image.specs.Preparing.{HoldsFresh, IsReservedFor, KeepsMapping, LacksPlace, LeavesMarked, PreparesFresh, Reserves, first_part}
 use Rattle.qcow2_image.specs.Leaking.{KeepsLeaks, reserved_as}
 use Rattle.qcow2_image.specs.Looking.{WhyNotLooked}
 use Rattle.qcow2_image.specs.Rooms.{IsSafe}
@@ -34,7 +37,9 @@ use Rattle.qcow2_image.specs.Steps.{KeepsImage}
 use Rattle.qcow2_image.specs.declared.mappings.Reserved.{Reserved}
 use Rattle.qcow2_image.specs.declared.qcow2.PreparedMappingState.{PreparedMappingState}
 use Rattle.qcow2_image.specs.declared.qcow2.Qcow2.{Qcow2}
+use Rattle.qcow2_image.specs.declared.tables.Tables.{Tables}
 use Rattle.qcow2_image.proofs.FileWords.{top-word}
+use Rattle.qcow2_image.proofs.FreeRuns.{full-behind, full-more, full-since, quarter-enough, quarter-some, run-fewer, run-same, safe-short, some-enough}
 use Rattle.qcow2_image.proofs.KeepingDisks.{keeps-disk-both, keeps-disk-same, keeps-disk-then, keeps-image-disk}
 use Rattle.qcow2_image.proofs.KeptClusters.{kept-behind}
 use Rattle.qcow2_image.proofs.Leaks.{leaks-all, leaks-both, leaks-but, leaks-held, leaks-kept, leaks-then}
@@ -63,30 +68,98 @@ module _ {S : Type 0} (g : Ghosts S) where
   marked-behind {T} old mid new v e k marked = tt
 
   -- Why the free space isn't loaded, or clusters aren't allocated, behind a call that kept the disk.
-  why-loaded : (old new : Qcow2 S g) (e : Fault) → WhyNotAllocated g old new e
-      → (IsSafe g old → Cause (g.state old.tables.file.image).faults (g.state new.tables.file.image).faults e) → WhyNotReserved g old new e
-  why-loaded old new Memory why known = tt
-  why-loaded old new Storage why known = why
-  why-loaded old new (Limit number) why known = tt
-  why-loaded old new DamagedTable why known = known
-  why-loaded old new Counter why known = known
-  why-loaded old new e why known = absurd why
+  why-loaded : (full : ℕ → Type 0) (old new : Qcow2 S g) (e : Fault) → WhyNotAllocated g (λ number. ⊥) old new e
+      → (IsSafe g old → Cause (g.state old.tables.file.image).faults (g.state new.tables.file.image).faults e) → WhyNotReserved g full old new e
+  why-loaded full old new Memory why known = tt
+  why-loaded full old new Storage why known = why
+  why-loaded full old new (Limit number) why known = λ safe. absurd (why safe)
+  why-loaded full old new DamagedTable why known = known
+  why-loaded full old new Counter why known = known
+  why-loaded full old new e why known = absurd why
 
-  why-allocated : (old mid new : Qcow2 S g) (e : Fault) → KeepsDisk g ⊤ old mid → IsSome mid.tables.space → WhyNotAllocated g mid new e → WhyNotReserved g old new e
-  why-allocated old mid new Memory k some why = tt
-  why-allocated old mid new Storage k some why = subst (λ n. Rose n (g.state new.tables.file.image).faults) (k.faults tt).0 why
-  why-allocated old mid new (Limit number) k some why = tt
-  why-allocated old mid new DamagedTable k some why = λ safe. why (k.safely safe tt, some)
-  why-allocated old mid new Counter k some why = λ safe. why (k.safely safe tt, some)
-  why-allocated old mid new e k some why = absurd why
+  why-allocated : (full full' : ℕ → Type 0) (old mid new : Qcow2 S g) (e : Fault) → KeepsDisk g ⊤ old mid → IsSome mid.tables.space
+      → ((number : ℕ) → IsSafe g old → full number → full' number) → WhyNotAllocated g full mid new e → WhyNotReserved g full' old new e
+  why-allocated full full' old mid new Memory k some told why = tt
+  why-allocated full full' old mid new Storage k some told why = subst (λ n. Rose n (g.state new.tables.file.image).faults) (k.faults tt).0 why
+  why-allocated full full' old mid new (Limit number) k some told why = λ safe. told number safe (why (k.safely safe tt))
+  why-allocated full full' old mid new DamagedTable k some told why = λ safe. why (k.safely safe tt, some)
+  why-allocated full full' old mid new Counter k some told why = λ safe. why (k.safely safe tt, some)
+  why-allocated full full' old mid new e k some told why = absurd why
 
-  why-behind : (old mid new : Qcow2 S g) (e : Fault) → KeepsDisk g ⊤ old mid → WhyNotReserved g mid new e → WhyNotReserved g old new e
-  why-behind old mid new Memory k why = tt
-  why-behind old mid new Storage k why = subst (λ n. Rose n (g.state new.tables.file.image).faults) (k.faults tt).0 why
-  why-behind old mid new (Limit number) k why = tt
-  why-behind old mid new DamagedTable k why = λ safe. why (k.safely safe tt)
-  why-behind old mid new Counter k why = λ safe. why (k.safely safe tt)
-  why-behind old mid new e k why = absurd why
+  why-behind : (full full' : ℕ → Type 0) (old mid new : Qcow2 S g) (e : Fault) → KeepsDisk g ⊤ old mid
+      → ((number : ℕ) → IsSafe g old → full number → full' number) → WhyNotReserved g full mid new e → WhyNotReserved g full' old new e
+  why-behind full full' old mid new Memory k told why = tt
+  why-behind full full' old mid new Storage k told why = subst (λ n. Rose n (g.state new.tables.file.image).faults) (k.faults tt).0 why
+  why-behind full full' old mid new (Limit number) k told why = λ safe. told number safe (why (k.safely safe tt))
+  why-behind full full' old mid new DamagedTable k told why = λ safe. why (k.safely safe tt)
+  why-behind full full' old mid new Counter k told why = λ safe. why (k.safely safe tt)
+  why-behind full full' old mid new e k told why = absurd why
+
+  why-never : (full : ℕ → Type 0) (old new : Qcow2 S g) (e : Fault) → WhyNotReserved g (λ number. ⊥) old new e → WhyNotReserved g full old new e
+  why-never full old new Memory why = tt
+  why-never full old new Storage why = why
+  why-never full old new (Limit number) why = λ safe. absurd (why safe)
+  why-never full old new DamagedTable why = why
+  why-never full old new Counter why = why
+  why-never full old new e why = absurd why
+
+  -- Where an image has loaded its free space, or was only looked at, it has the same free runs.
+  lacks-since : (guest number : ℕ) (old mid new : Tables S g) → mid.file.header ≡ old.file.header
+      → ((total : ℕ) → 0 < total → HasFreeRun g old total → HasFreeRun g mid total) → 0 < space mid.file.header.fields / 4
+      → LacksPlace g guest mid new number → LacksPlace g guest old new number
+  lacks-since guest number old mid new header runs some lacks = from (subst (λ (H : Header).
+      HasNoPlace g (guest / words_of_cluster H.fields) (space H.fields / 4) mid new number) header lacks) where
+        from : HasNoPlace g (guest / words_of_cluster old.file.header.fields) (space old.file.header.fields / 4) mid new number
+            → LacksPlace g guest old new number
+        from (inl far) = inl far
+        from (inr (near, full)) = inr (
+          near,
+          full-since g (space old.file.header.fields / 4) number old mid new
+              (runs (space old.file.header.fields / 4) (subst (λ (H : Header). 0 < space H.fields / 4) header some)) full,
+        )
+
+  -- A quarter of the space is some.
+  some-quarter : (d : Qcow2 S g) → IsSafe g d → 0 < space d.tables.file.header.fields / 4
+  some-quarter d safe = quarter-some g d safe
+
+  lacks-loaded : (guest number : ℕ) (old mid new : Qcow2 S g) → LoadsSpace g old (Ok tt) mid → IsSafe g mid
+      → LacksPlace g guest mid.tables new.tables number → LacksPlace g guest old.tables new.tables number
+  lacks-loaded guest number old mid new l safe = lacks-since guest number old.tables mid.tables new.tables l.top.1
+      (λ total some run. l.leaves.left total some (run-fewer g old.tables (0 + total) total (omega arith) run)) (some-quarter mid safe)
+
+  lacks-looked : {T : Type 0} (v : T) (guest number : ℕ) (old mid : Qcow2 S g) (new : Tables S g) → KeepsImage g old (Ok v) mid → IsSafe g mid
+      → LacksPlace g guest mid.tables new number → LacksPlace g guest old.tables new number
+  lacks-looked {T} v guest number old mid new k safe = lacks-since guest number old.tables mid.tables new k.tables.header
+      (λ total some. run-same g old.tables mid.tables total (ap bytes_of k.tables.kept.bytes) k.tables.header (ap searched_from k.tables.space))
+      (some-quarter mid safe)
+
+  -- A quarter of the space is more than is needed.
+  lacks-table : (guest number : ℕ) (mid new : Qcow2 S g) → IsSafe g mid
+      → HasNoPlace g (guest / words_of_cluster mid.tables.file.header.fields) (enough_for_table mid.tables guest) mid.tables new.tables number
+      → LacksPlace g guest mid.tables new.tables number
+  lacks-table guest number mid new safe (inl far) = inl far
+  lacks-table guest number mid new safe (inr (near, full)) = inr (
+    near,
+    (let enough = quarter-enough g mid guest safe near in
+        full-more g (enough_for_table mid.tables guest) (space mid.tables.file.header.fields / 4) number mid.tables new.tables (omega (arith, enough)) full),
+  )
+
+  lacks-cluster : (guest table number : ℕ) (first mid new : Qcow2 S g) → IsSafe g first → IsSafe g mid → IsSome first.tables.space
+      → EnsuresTable g (enough_for_table first.tables guest) guest first (Ok table) mid
+      → IsFull g (enough_for_one mid.tables) mid.tables new.tables number → LacksPlace g guest first.tables new.tables number
+  lacks-cluster guest table number first mid new safe safe' some t full =
+      let row : guest / words_of_cluster mid.tables.file.header.fields ≡ guest / words_of_cluster first.tables.file.header.fields =
+      ap (λ (b : ℕ). guest / (2 ^ b / 8)) t.keeps.bits in
+      let near = subst (λ k. k + 1 ≤ 2 ^ 22) row (safe-short g mid (guest / words_of_cluster mid.tables.file.header.fields) safe' (t.there safe some).1) in
+      let leaves = t.leaves safe in
+      let one : enough_for_one mid.tables ≡ enough_for_one first.tables = ap (λ n. n / 16 + 3 * 1) leaves.as_large in
+      let enough = quarter-enough g first guest safe near in
+      inr (
+        near,
+        full-more g (enough_for_table first.tables guest + enough_for_one first.tables) (space first.tables.file.header.fields / 4) number first.tables new.tables enough
+            (full-behind g (enough_for_table first.tables guest) (enough_for_one first.tables) number first.tables mid.tables new.tables
+            (some-enough first.tables) leaves (subst (λ n. IsFull g n mid.tables new.tables number) one full)),
+      )
 
   -- What holds of each safe image holds of one that is known to keep a cluster, or none, for a guest cluster; also behind a call that kept
   -- the disk.
@@ -116,12 +189,12 @@ module _ {S : Type 0} (g : Ghosts S) where
     reserved = λ known. tt;
     own = λ known. tt;
     stored = λ known. tt;
-    cause = why-loaded old new e l.cause l.known_cause;
+    cause = why-loaded (LacksPlace g guest old.tables new.tables) old new e l.cause l.known_cause;
   }
 
   -- where there is no table,
   pub reserve-tableless : (guest : ℕ) (kept : Option ℕ) (bytes : List ℕ) (old mid new : Qcow2 S g) (e : Fault) → LoadsSpace g old (Ok tt) mid
-      → EnsuresTable g guest mid (Err e) new → Reserves g guest kept bytes old (Err e) new
+      → EnsuresTable g (enough_for_table mid.tables guest) guest mid (Err e) new → Reserves g guest kept bytes old (Err e) new
   reserve-tableless guest kept bytes old mid new e l t = record {
     keeps = keeps-known (IsMild e) guest kept old new (keeps-disk-both g ⊤ (IsMild e) old mid new tt l.keeps t.keeps);
     leaks = λ known whole. leaks-but g old new (leaks-both g old mid new l.leaks (t.leaks (l.keeps.safely known.safe tt) whole));
@@ -131,12 +204,17 @@ module _ {S : Type 0} (g : Ghosts S) where
     reserved = λ known. tt;
     own = λ known. tt;
     stored = λ known. tt;
-    cause = why-allocated old mid new e l.keeps l.known t.cause;
+    cause = why-allocated
+        (HasNoPlace g (guest / words_of_cluster mid.tables.file.header.fields) (enough_for_table mid.tables guest) mid.tables new.tables)
+        (LacksPlace g guest old.tables new.tables) old mid new e l.keeps l.known
+        (λ number safe none. let safe' = l.keeps.safely safe tt in lacks-loaded guest number old mid new l safe' (lacks-table guest number mid new safe' none))
+        t.cause;
   }
 
   -- and where the bytes aren't put anywhere.
   pub reserve-unplaced : (guest table : ℕ) (kept : Option ℕ) (bytes : List ℕ) (old first mid new : Qcow2 S g) (e : Fault)
-      → LoadsSpace g old (Ok tt) first → EnsuresTable g guest first (Ok table) mid → PlacesContent g guest kept bytes mid (Err e) new
+      → LoadsSpace g old (Ok tt) first → EnsuresTable g (enough_for_table first.tables guest) guest first (Ok table) mid
+      → PlacesContent g guest kept bytes mid (Err e) new
       → Reserves g guest kept bytes old (Err e) new
   reserve-unplaced guest table kept bytes old first mid new e l t s =
       let there = keeps-disk-both g ⊤ ⊤ old first mid tt l.keeps t.keeps in record {
@@ -149,7 +227,12 @@ module _ {S : Type 0} (g : Ghosts S) where
         reserved = λ known. tt;
         own = λ known. tt;
         stored = λ known. tt;
-        cause = why-allocated old mid new e there (t.known l.known) s.cause;
+        cause = why-allocated (IsFull g (enough_for_one mid.tables) mid.tables new.tables) (LacksPlace g guest old.tables new.tables) old mid new e there
+            (t.known l.known)
+            (λ number safe full.
+            let safe' = l.keeps.safely safe tt in
+            lacks-loaded guest number old first new l safe' (lacks-cluster guest table number first mid new safe' (there.safely safe tt) l.known t full))
+            s.cause;
       }
 
   -- The L1 table in memory says which tables have no other name.
@@ -172,7 +255,8 @@ module _ {S : Type 0} (g : Ghosts S) where
 
   -- Else the guest cluster has it.
   pub reserve-done : (guest table host : ℕ) (is_kept : Bool) (kept : Option ℕ) (bytes : List ℕ) (old first mid new : Qcow2 S g)
-      → LoadsSpace g old (Ok tt) first → EnsuresTable g guest first (Ok table) mid → PlacesContent g guest kept bytes mid (Ok (host, is_kept)) new
+      → LoadsSpace g old (Ok tt) first → EnsuresTable g (enough_for_table first.tables guest) guest first (Ok table) mid
+      → PlacesContent g guest kept bytes mid (Ok (host, is_kept)) new
       → Reserves g guest kept bytes old (Ok (record { table = table; host = host; is_kept = is_kept })) new
   reserve-done guest table host is_kept kept bytes old first mid new l t s =
       let there = keeps-disk-both g ⊤ ⊤ old first mid tt l.keeps t.keeps in
@@ -222,16 +306,23 @@ module _ {S : Type 0} (g : Ghosts S) where
     leaks = λ safe free whole. leaks-kept g {T = Vec ℕ Global} old.0 new.0 (Err e) m.keeps;
     below = m.below;
     ok = tt;
-    err = (refl, quiet-marked {T = Vec ℕ Global} old.0 new.0 e m.keeps, m.err);
+    err = (
+      refl,
+      quiet-marked {T = Vec ℕ Global} old.0 new.0 e m.keeps,
+      elim m.err [
+        | inl own ↦ inl (why-never (LacksPlace g (asked.offset / cluster_size old.0.tables.file.header.fields) old.0.tables new.0.tables) old.0 new.0 e own)
+        | inr below ↦ inr below
+      ],
+    );
   }
 
-  why-unkept : (old new : Qcow2 S g) (guest : ℕ) (e : Fault) → (IsSeen g old.tables → WhyNotLooked (entry (file_of g old.tables) old.tables.file.header.fields guest ≡ damaged)
+  why-unkept : (full : ℕ → Type 0) (old new : Qcow2 S g) (guest : ℕ) (e : Fault) → (IsSeen g old.tables → WhyNotLooked (entry (file_of g old.tables) old.tables.file.header.fields guest ≡ damaged)
       (g.state old.tables.file.image).faults (g.state new.tables.file.image).faults e)
-      → WhyNotLooked ⊤ (g.state old.tables.file.image).faults (g.state new.tables.file.image).faults e → WhyNotReserved g old new e
-  why-unkept old new guest Memory known why = tt
-  why-unkept old new guest Storage known why = why
-  why-unkept old new guest DamagedTable known why = λ safe. never-damaged (file_of g old.tables) old.tables.file.header safe.consistent guest (known safe.seen)
-  why-unkept old new guest e known why = absurd why
+      → WhyNotLooked ⊤ (g.state old.tables.file.image).faults (g.state new.tables.file.image).faults e → WhyNotReserved g full old new e
+  why-unkept full old new guest Memory known why = tt
+  why-unkept full old new guest Storage known why = why
+  why-unkept full old new guest DamagedTable known why = λ safe. never-damaged (file_of g old.tables) old.tables.file.header safe.consistent guest (known safe.seen)
+  why-unkept full old new guest e known why = absurd why
 
   module _ {B : Type 0} (u : GhostsBelow B) (asked : Asked) (guest : ℕ) (content : Vec ℕ Global) (old : Qcow2 S g × B) (first : Qcow2 S g) (y : B)
       (m : MakesContent g u (first_part old.0.tables.file.header.fields asked) old (Ok content) (first, y)) where
@@ -250,7 +341,8 @@ module _ {S : Type 0} (g : Ghosts S) where
       err = (
         refl,
         marked-behind {T = Vec ℕ Global} old.0 first new content e m.keeps (quiet-marked {T = Option ℕ} first new e t.keeps),
-        inl (why-behind old.0 first new e made (why-unkept first new guest e t.known_cause t.cause)),
+        inl (why-behind (λ number. ⊥) (LacksPlace g (asked.offset / cluster_size old.0.tables.file.header.fields) old.0.tables new.tables)
+            old.0 first new e made (λ number safe none. absurd none) (why-unkept (λ number. ⊥) first new guest e t.known_cause t.cause)),
       );
     }
 
@@ -280,8 +372,8 @@ module _ {S : Type 0} (g : Ghosts S) where
         keeps-disk-then g (IsSafe g old.0) (IsSafe g old.0) (HasKept g guest kept mid) ⊤ ok old.0 mid new tt (λ safe. safe) known-there looked k
 
     -- and where no cluster is reserved.
-    pub fresh-unreserved : (new : Qcow2 S g) (e : Fault) → Reserves g guest kept content.items mid (Err e) new → PreparesFresh g u asked old (Err e) (new, y)
-    fresh-unreserved new e r = record {
+    pub fresh-unreserved : (is : guest ≡ asked.offset / cluster_size h) (new : Qcow2 S g) (e : Fault) → Reserves g guest kept content.items mid (Err e) new → PreparesFresh g u asked old (Err e) (new, y)
+    fresh-unreserved is new e r = record {
       middle = new;
       keeps = keeps-reserved (IsMild e) new r.keeps;
       leaks = λ safe free whole. leaks-all g old.0 new (leaks-then g (λ c. 0) old.0 mid new looked-leaks (r.leaks (known-there safe) whole));
@@ -290,7 +382,10 @@ module _ {S : Type 0} (g : Ghosts S) where
       err = (
         refl,
         marked-behind {T = Vec ℕ Global} old.0 first new content e m.keeps (marked-behind {T = Option ℕ} first mid new kept e t.keeps r.marked),
-        inl (why-behind old.0 mid new e looked r.cause),
+        inl (why-behind (LacksPlace g guest mid.tables new.tables) (LacksPlace g (asked.offset / cluster_size h) old.0.tables new.tables) old.0 mid new e looked
+            (λ number safe lacks. subst (λ k. LacksPlace g k old.0.tables new.tables number) is
+            (lacks-looked {T = Vec ℕ Global} content guest number old.0 first new.tables m.keeps ((made u asked guest content old first y m).safely safe tt)
+            (lacks-looked {T = Option ℕ} kept guest number first mid new.tables t.keeps (looked.safely safe tt) lacks))) r.cause),
       );
     }
 
@@ -401,8 +496,25 @@ module _ {S : Type 0} (g : Ghosts S) where
         p.err.0,
         marked-behind {T = T} old mid p.middle v e k p.err.1,
         elim p.err.2 [
-          | inl own ↦ inl (why-behind old mid p.middle e looked-on own)
+          | inl own ↦ inl (why-behind (LacksPlace g (asked.offset / cluster_size is) mid.tables p.middle.tables)
+              (LacksPlace g (asked.offset / cluster_size was) old.tables p.middle.tables) old mid p.middle e looked-on
+              (λ number safe lacks. subst (λ (h : Fields). LacksPlace g (asked.offset / cluster_size h) old.tables p.middle.tables number) fields
+              (lacks-looked {T = T} v (asked.offset / cluster_size is) number old mid p.middle.tables k (looked-on.safely safe tt) lacks)) own)
           | inr below ↦ inr (copy-behind y e below)
         ],
       );
     }
+
+  -- There was no place for the first guest cluster of a range where that is refused with a limit.
+  pub fresh-lacks : {B : Type 0} (u : GhostsBelow B) (asked : Asked) (old new : Qcow2 S g) (x y : B)
+      (result : Result (PreparedDataMapping PreparedMappingState) Fault) → PreparesFresh g u asked (old, x) result (new, y) → IsSafe g old → u.sees_under x
+      → IfErr result (λ e. (n : ℕ) → e ≡ Limit n
+      → LacksPlace g (asked.offset / cluster_size old.tables.file.header.fields) old.tables new.tables n)
+  fresh-lacks u asked old new x y (Ok mapping) p safe under = tt
+  fresh-lacks u asked old new x y (Err e) p safe under = λ n same. elim p.err.2 [
+    | inl own ↦
+        let lacks : LacksPlace g (asked.offset / cluster_size old.tables.file.header.fields) old.tables p.middle.tables n =
+        subst (λ (f : Fault). WhyNotReserved g (LacksPlace g (asked.offset / cluster_size old.tables.file.header.fields) old.tables p.middle.tables) old p.middle f) same own safe in
+        subst (λ (d : Qcow2 S g). LacksPlace g (asked.offset / cluster_size old.tables.file.header.fields) old.tables d.tables n) (sym p.err.0) lacks
+    | inr below ↦ absurd (subst (λ (f : Fault). WhyNotCopied g u (first_part old.tables.file.header.fields asked) (old, x) y f) same (below.cause safe under))
+  ]

@@ -1,5 +1,5 @@
 -- How clusters are allocated for guest clusters that have none of their own.
-use Rattle.std.specs.Prelude.{◌≡◌, ◌≢◌, ⊤, ℕ, ◌+◌, ◌*◌, ◌/◌, ◌<◌, ◌==◌, Bool, true, false, not, List, slice_index, length, Option, Some, None, IsSome, IfSome, is_some, Result, Ok, Err, IfOk, IfErr, OnOk, OnErr}
+use Rattle.std.specs.Prelude.{◌≡◌, ◌≢◌, ⊤, ℕ, ◌+◌, ◌*◌, ◌/◌, ◌<◌, ◌==◌, Bool, true, false, not, List, max, slice_index, length, Option, Some, None, IsSome, IfSome, is_some, Result, Ok, Err, IfOk, IfErr, OnOk, OnErr}
 use Rattle.imago_storage.specs.State.{Rose}
 use Rattle.imago_storage.specs.Calls.{Cause}
 use Rattle.imago_storage.specs.declared.fault.Fault.{Fault}
@@ -14,8 +14,10 @@ use Rattle.qcow2_types.specs.Header.{Fields, cluster_size, words_of_cluster}
 use Rattle.qcow2_types.specs.Words.{Mapping, damaged, data_at, is_copied, packed, zeroes}
 use Rattle.qcow2_types.specs.Words as words
 use Rattle.qcow2_metadata.specs.Places.{IsInReach}
+use Rattle.qcow2_metadata.specs.Tables.{padded}
 use Rattle.qcow2_steps.specs.Words.{IsReserved}
 use Rattle.qcow2_clusters.specs.Storing.{handed_by}
+use Rattle.qcow2_image.specs.FreeSpace.{HasNoPlace, IsFull, LeavesFree, enough_for_one, enough_for_word}
 use Rattle.qcow2_image.specs.Holding.{IsOwnAs, place_in}
 use Rattle.qcow2_image.specs.KeepsDisk.{KeepsDisk, KeepsDiskWhere}
 use Rattle.qcow2_image.specs.Leaking.{KeepsLeaks, KeepsLeaksBut, reserved_by}
@@ -93,23 +95,24 @@ pub record HasKept {S : Type 0} (g : Ghosts S) (guest : ℕ) (kept : Option ℕ)
   pub safe : IsSafe g d
   pub is : kept ≡ kept_by (entry (file_of g d.tables) d.tables.file.header.fields guest)
 
--- Why clusters can't be reserved: in a safe image for want of memory, by a storage that failed, or since there is no place left.
-abbrev pub WhyNotReserved : {S : Type 0} (g : Ghosts S) → Qcow2 S g → Qcow2 S g → Fault → Type 0
-WhyNotReserved g old new Memory = ⊤
-WhyNotReserved g old new Storage = Rose (g.state old.tables.file.image).faults (g.state new.tables.file.image).faults
-WhyNotReserved g old new (Limit number) = ⊤
-WhyNotReserved g old new DamagedTable = IsSafe g old → ⊥
-WhyNotReserved g old new Counter = IsSafe g old → ⊥
-WhyNotReserved g old new fault = ⊥
+-- Why clusters can't be reserved: in a safe image for want of memory, by a storage that failed, or since there is no place left, of which
+-- `full` says what number tells it.
+abbrev pub WhyNotReserved : {S : Type 0} (g : Ghosts S) → (full : ℕ → Type 0) → Qcow2 S g → Qcow2 S g → Fault → Type 0
+WhyNotReserved g full old new Memory = ⊤
+WhyNotReserved g full old new Storage = Rose (g.state old.tables.file.image).faults (g.state new.tables.file.image).faults
+WhyNotReserved g full old new (Limit number) = IsSafe g old → full number
+WhyNotReserved g full old new DamagedTable = IsSafe g old → ⊥
+WhyNotReserved g full old new Counter = IsSafe g old → ⊥
+WhyNotReserved g full old new fault = ⊥
 
 -- Why clusters can't be allocated, in an image that may be safe.
-abbrev pub WhyNotAllocated : {S : Type 0} (g : Ghosts S) → Qcow2 S g → Qcow2 S g → Fault → Type 0
-WhyNotAllocated g old new Memory = ⊤
-WhyNotAllocated g old new Storage = Rose (g.state old.tables.file.image).faults (g.state new.tables.file.image).faults
-WhyNotAllocated g old new (Limit number) = ⊤
-WhyNotAllocated g old new DamagedTable = IsSafe g old × IsSome old.tables.space → ⊥
-WhyNotAllocated g old new Counter = IsSafe g old × IsSome old.tables.space → ⊥
-WhyNotAllocated g old new fault = ⊥
+abbrev pub WhyNotAllocated : {S : Type 0} (g : Ghosts S) → (full : ℕ → Type 0) → Qcow2 S g → Qcow2 S g → Fault → Type 0
+WhyNotAllocated g full old new Memory = ⊤
+WhyNotAllocated g full old new Storage = Rose (g.state old.tables.file.image).faults (g.state new.tables.file.image).faults
+WhyNotAllocated g full old new (Limit number) = IsSafe g old → full number
+WhyNotAllocated g full old new DamagedTable = IsSafe g old × IsSome old.tables.space → ⊥
+WhyNotAllocated g full old new Counter = IsSafe g old × IsSome old.tables.space → ⊥
+WhyNotAllocated g full old new fault = ⊥
 
 -- The free space is known then; a refusal leaves all as it was, but that a storage's fault marks the image. Where it was known before,
 -- nothing changes.
@@ -119,7 +122,9 @@ pub record LoadsSpace {S : Type 0} (g : Ghosts S) (old : Qcow2 S g) (result : Re
   pub known : OnOk result (IsSome new.tables.space)
   pub stays : IsSome old.tables.space → new ≡ old
   pub same : OnErr result (KeepsImage g old result new)
-  pub cause : IfErr result (WhyNotAllocated g old new)
+  pub top : OnOk result ((new.tables.l1 ≡ old.tables.l1) × (new.tables.file.header ≡ old.tables.file.header))
+  pub leaves : OnOk result (LeavesFree g 0 old.tables new.tables)
+  pub cause : IfErr result (WhyNotAllocated g (λ number. ⊥) old new)
   pub known_cause : IsSafe g old → IfErr result (Cause (g.state old.tables.file.image).faults (g.state new.tables.file.image).faults)
   pub faults : OnOk result (new.failed ≡ old.failed)
 
@@ -128,17 +133,21 @@ abbrev pub HasOwnTable : {S : Type 0} (g : Ghosts S) → ℕ → Tables S g → 
 HasOwnTable g guest t = let h = t.file.header.fields in
     is_copied (word (file_of g t) h.l1_offset (guest / words_of_cluster h)) ≡ true
 
--- The L1 table has a word at this index then.
+-- The L1 table has a word at this index then: where it had none, it has become longer up to that by words that name nothing.
 pub record EnsuresWord {S : Type 0} (g : Ghosts S) (i : ℕ) (old : Qcow2 S g) (result : Result Unit Fault) (new : Qcow2 S g) : Type 0 where
   pub keeps : KeepsDisk g (WasNotCutOff result) old new
   pub leaks : IsSafe g old → WasNotCutOff result → KeepsLeaks g old new
   pub marks : new.failed ≡ failed_cut result old.failed
   pub known : IsSome old.tables.space → IsSome new.tables.space
   pub inside : OnOk result (i < length new.tables.l1.words)
-  pub cause : IfErr result (WhyNotAllocated g old new)
+  pub words : OnOk result (new.tables.l1.words ≡ padded old.tables.l1.words (max (length old.tables.l1.words) (i + 1)))
+  pub leaves : IsSafe g old → OnOk result (LeavesFree g (enough_for_word old.tables i) old.tables new.tables)
+  pub cause : IfErr result (WhyNotAllocated g (HasNoPlace g i (enough_for_word old.tables i) old.tables new.tables) old new)
 
--- An L2 table of its own is over a guest cluster then.
-pub record EnsuresTable {S : Type 0} (g : Ghosts S) (guest : ℕ) (old : Qcow2 S g) (result : Result ℕ Fault) (new : Qcow2 S g) : Type 0 where
+-- An L2 table of its own is over a guest cluster then, and the L1 table is no longer than its word needs. So many free clusters in a row
+-- are enough for that.
+pub record EnsuresTable {S : Type 0} (g : Ghosts S) (enough guest : ℕ) (old : Qcow2 S g) (result : Result ℕ Fault) (new : Qcow2 S g)
+    : Type 0 where
   pub keeps : KeepsDisk g (WasNotCutOff result) old new
   pub leaks : IsSafe g old → WasNotCutOff result → KeepsLeaks g old new
   pub marks : new.failed ≡ failed_cut result old.failed
@@ -147,7 +156,11 @@ pub record EnsuresTable {S : Type 0} (g : Ghosts S) (guest : ℕ) (old : Qcow2 S
       IfOk result (λ t. (t ≢ 0) × (guest / words_of_cluster h < h.l1_entries)
       × (l2_table (file_of g new.tables) h (guest / words_of_cluster h) ≡ t * cluster_size h))
   pub own : IsSafe g old → IsSome old.tables.space → IfOk result (λ t. HasOwnTable g guest new.tables)
-  pub cause : IfErr result (WhyNotAllocated g old new)
+  pub long : IsSafe g old → let i = guest / words_of_cluster old.tables.file.header.fields in
+      OnOk result (length new.tables.l1.words ≡ max (length old.tables.l1.words) (i + 1))
+  pub leaves : IsSafe g old → OnOk result (LeavesFree g enough old.tables new.tables)
+  pub cause : let i = guest / words_of_cluster old.tables.file.header.fields in
+      IfErr result (WhyNotAllocated g (HasNoPlace g i enough old.tables new.tables) old new)
 
 -- The L1 table stays, and the L2 tables where they are.
 pub record KeepsTop {S : Type 0} (g : Ghosts S) (sure : Type 0) (old new : Qcow2 S g) : Type 0 where
@@ -168,7 +181,7 @@ pub record StoresContent {S : Type 0} (g : Ghosts S) (bytes : List ℕ) (old : Q
       × IsReserved (rest_of g new.tables space) x × (0 < space.to_free.held))
   pub content : IsSafe g old → IfOk result (λ x. (i : ℕ) → i < length bytes
       → file_of g new.tables (x * cluster_size old.tables.file.header.fields + i) ≡ slice_index bytes i)
-  pub cause : IfErr result (WhyNotAllocated g old new)
+  pub cause : IfErr result (WhyNotAllocated g (IsFull g (enough_for_one old.tables) old.tables new.tables) old new)
 
 -- Why a cluster that is kept can't be filled, in an image that may be safe: no place is looked for.
 abbrev pub WhyNotFilled : {S : Type 0} (g : Ghosts S) → Qcow2 S g → Qcow2 S g → Fault → Type 0
@@ -204,7 +217,7 @@ pub record PlacesContent {S : Type 0} (g : Ghosts S) (guest : ℕ) (kept : Optio
       × IsOwnAs r.1 (rest_of g new.tables space) guest r.0 × (r.1 ≡ false → 0 < space.to_free.held))
   pub content : HasKept g guest kept old → IfOk result (λ r. (i : ℕ) → i < length bytes
       → file_of g new.tables (r.0 * cluster_size old.tables.file.header.fields + i) ≡ slice_index bytes i)
-  pub cause : IfErr result (WhyNotAllocated g old new)
+  pub cause : IfErr result (WhyNotAllocated g (IsFull g (enough_for_one old.tables) old.tables new.tables) old new)
 
 -- Why what waits can't be freed.
 abbrev pub WhyNotFreed : {S : Type 0} (g : Ghosts S) → Qcow2 S g → Qcow2 S g → Fault → Type 0

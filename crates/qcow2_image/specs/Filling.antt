@@ -107,4 +107,4 @@ pub record MakesContent {S B : Type 0} (g : Ghosts S) (u : GhostsBelow B) (asked
   pub below : LookedUnder u (WasNotCutOff result) old.1 new.1
   pub keeps : KeepsImage g old.0 result new.0
   pub ok : IfOk result (λ content. Fills g u asked old content.items)
-  pub err : IfErr result (λ e. WhyNotReserved g old.0 new.0 e ⊎ RefusesCopy g u asked old new.1 e)
+  pub err : IfErr result (λ e. WhyNotReserved g (λ number. ⊥) old.0 new.0 e ⊎ RefusesCopy g u asked old new.1 e)

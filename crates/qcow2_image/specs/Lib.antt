@@ -13,6 +13,7 @@ pub mod HeldHomes
 pub mod Writing
 pub mod KeepsDisk
 pub mod Leaking
+pub mod FreeSpace
 pub mod Allocating
 pub mod Committing
 pub mod Filling

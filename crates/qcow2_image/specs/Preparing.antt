@@ -9,12 +9,14 @@ use Rattle.imago_access.specs.Files.{WasNotCutOff}
 use Rattle.imago_access.specs.Going.{LookedUnder}
 use Rattle.imago_access.specs.declared.seen.SeenBelow.{Ghosts as GhostsBelow}
 use Rattle.imago_access.specs.declared.mapping.PreparedDataMapping.{PreparedDataMapping}
-use Rattle.qcow2_types.specs.Header.{Fields, cluster_size}
+use Rattle.qcow2_types.specs.Header.{Fields, cluster_size, words_of_cluster}
 use Rattle.qcow2_metadata.specs.Places.{IsInReach}
+use Rattle.qcow2_alloc.specs.Crowding.{space}
 use Rattle.qcow2_clusters.specs.Naming.{IsUnder}
 use Rattle.qcow2_clusters.specs.declared.space.Space.{Space}
 use Rattle.qcow2_image.specs.Allocating.{HasKept, HasOwnTable, WhyNotReserved}
 use Rattle.qcow2_image.specs.Filling.{IsInFirst, IsLeft, RefusesCopy}
+use Rattle.qcow2_image.specs.FreeSpace.{HasNoPlace}
 use Rattle.qcow2_image.specs.Holding.{Holding, IsOwnAs, place_in}
 use Rattle.qcow2_image.specs.KeepsDisk.{KeepsDisk, KeepsDiskWhere}
 use Rattle.qcow2_image.specs.Leaking.{KeepsLeaks, KeepsLeaksBut, reserved_with}
@@ -48,6 +50,11 @@ pub record IsReservedFor {S : Type 0} (g : Ghosts S) (guest : ℕ) (r : Reserved
   pub some : r.host ≢ 0
   pub room : r.is_kept ≡ false → 0 < space.to_free.held
 
+-- There is no place for a guest cluster: its word of the L1 table would be behind the 2^22 that there can be, or no quarter of the space
+-- was free in a row.
+abbrev pub LacksPlace : {S : Type 0} (g : Ghosts S) → (guest : ℕ) → (old new : Tables S g) → ℕ → Type 0
+LacksPlace g guest old new number = let h = old.file.header.fields in HasNoPlace g (guest / words_of_cluster h) (space h / 4) old new number
+
 -- A guest cluster has a host cluster for this content, under an L2 table that nothing else names: the one that it keeps for its zeroes, or
 -- else one that is reserved for it. The disk stays as it was.
 pub record Reserves {S : Type 0} (g : Ghosts S) (guest : ℕ) (kept : Option ℕ) (content : List ℕ) (old : Qcow2 S g)
@@ -61,7 +68,7 @@ pub record Reserves {S : Type 0} (g : Ghosts S) (guest : ℕ) (kept : Option ℕ
   pub own : HasKept g guest kept old → IfOk result (λ r. HasOwnTable g guest new.tables)
   pub stored : HasKept g guest kept old → IfOk result (λ r. (i : ℕ) → i < length content
       → file_of g new.tables (r.host * cluster_size old.tables.file.header.fields + i) ≡ slice_index content i)
-  pub cause : IfErr result (WhyNotReserved g old new)
+  pub cause : IfErr result (WhyNotReserved g (LacksPlace g guest old.tables new.tables) old new)
 
 -- What a mapping holds for a run, of the clusters that are reserved for it.
 abbrev pub held_run : {S : Type 0} (g : Ghosts S) → Asked → Reserved → Qcow2 S g → ℕ → (ℕ → Bool) → Holding
@@ -121,4 +128,5 @@ pub record PreparesFresh {S B : Type 0} (g : Ghosts S) (u : GhostsBelow B) (aske
   pub below : LookedUnder u (WasNotCutOff result) old.1 new.1
   pub ok : IfOk result (λ mapping. HoldsFresh g u asked old middle mapping new.0)
   pub err : IfErr result (λ fault. (new.0 ≡ middle) × LeavesMarked g old.0 middle fault
-      × (WhyNotReserved g old.0 middle fault ⊎ RefusesCopy g u (first_part old.0.tables.file.header.fields asked) old new.1 fault))
+      × (WhyNotReserved g (LacksPlace g (asked.offset / cluster_size old.0.tables.file.header.fields) old.0.tables middle.tables) old.0
+      middle fault ⊎ RefusesCopy g u (first_part old.0.tables.file.header.fields asked) old new.1 fault))

@@ -2,6 +2,7 @@
 ghost use Rattle.std.specs.Prelude.{◌≡◌, ◌<◌, ◌+◌, ◌*◌, ◌/◌, ◌^◌, ℕ, false, None, Some, length, IfSome, IsTrue};
 ghost use Rattle.qcow2_types.specs.Header.{cluster_size};
 ghost use Rattle.qcow2_image.specs.Allocating.{EnsuresTable, EnsuresWord, FillsContent, FlushesFreed, FreesPending, IsShownInReach, LoadsSpace, PlacesContent, StoresContent, TellsKept, TellsShown, failed_cut, kept_by, shown_of, waits_in};
+ghost use Rattle.qcow2_image.specs.FreeSpace.{enough_for_one, enough_for_table};
 ghost use Rattle.qcow2_metadata.specs.Places.{IsInReach};
 ghost use Rattle.qcow2_types.specs.Places.{l2_entries};
 ghost use Rattle.qcow2_metadata.specs.MappingView.{IsNamed, mapping_seen};
@@ -170,7 +171,7 @@ impl<S: Storage> Qcow2<S> {
     fn own_table(&mut self, alloc: Global, guest: GuestCluster) -> Result<HostCluster, Fault>
         requires free { self.old.unspent ≡ None }
         requires inside { guest / l2_entries self.old.tables.file.header.fields.cluster_bits < length self.old.tables.l1.words }
-        ensures { EnsuresTable S.Storage guest self.old result self.new }
+        ensures { EnsuresTable S.Storage (enough_for_one self.old.tables) guest self.old result self.new }
     {
         let cluster_bits = self.tables.file.header.cluster_bits();
         let index = guest.l1_index(cluster_bits);
@@ -205,7 +206,7 @@ impl<S: Storage> Qcow2<S> {
         guest: GuestCluster,
     ) -> Result<HostCluster, Fault>
         requires free { self.old.unspent ≡ None }
-        ensures { EnsuresTable S.Storage guest self.old result self.new }
+        ensures { EnsuresTable S.Storage (enough_for_table self.old.tables guest) guest self.old result self.new }
     {
         let index = guest.l1_index(self.tables.file.header.cluster_bits());
         match self.ensure_word(alloc, index) {

@@ -1,6 +1,6 @@
 // A qcow2 image as the driver of a chain.
 ghost use Rattle.std.proofs.Common.{inr};
-ghost use Rattle.std.specs.Prelude.{◌≡◌, ◌<◌, ◌+◌, ◌-◌, ◌%◌, ◌^◌, min, ◌⊎◌, ⊤, None, Some, List, false, refl, length, IsTrue, IsErr, IsErrOf, IsOk, IsSome, OnOk, IfOk, IfErr};
+ghost use Rattle.std.specs.Prelude.{◌≡◌, ◌<◌, ◌+◌, ◌-◌, ◌/◌, ◌%◌, ◌^◌, min, ◌⊎◌, ⊤, None, Some, List, false, refl, length, IsTrue, IsErr, IsErrOf, IsOk, IsSome, OnOk, IfOk, IfErr};
 ghost use Rattle.std.proofs.lemmas.Nat.{pow_pos};
 ghost use Rattle.imago_storage.specs.Calls.{Mixed};
 ghost use Rattle.imago_storage.specs.declared.fault.Fault.TheVariants.{Limit};
@@ -21,6 +21,7 @@ ghost use Rattle.qcow2_image.specs.Allocating.{waits_in};
 ghost use Rattle.qcow2_image.specs.ImageLayer.{blanks};
 ghost use Rattle.qcow2_image.specs.Leaking.{KeepsLeaks};
 ghost use Rattle.qcow2_image.specs.Looking.{IsWholeRunIn, answer_at};
+ghost use Rattle.qcow2_image.specs.Preparing.{LacksPlace};
 ghost use Rattle.qcow2_image.specs.HeldHomes.{free_loose, one_home, says_room};
 ghost use Rattle.qcow2_image.specs.Unspent.{holding_in};
 ghost use Rattle.qcow2_image.specs.Writing.{begun_itself};
@@ -242,6 +243,10 @@ impl<S: Storage> FormatDriverInstance for Qcow2<S> {
         // It is refused with a limit only where the first place can't be written.
         ensures limit { let d = ⟦<Qcow2<S> as Seen>⟧ in
             d.sees self.old → IfErr result (λ e. (n : _) → e ≡ Limit n → (d.layer self.old).home offset ≡ None) }
+        // Then the L1 table would have more than 2^22 words, or no quarter of the space is free in a row; the limit tells of either.
+        ensures full { let t = self.old.tables in
+            ⟦<Qcow2<S> as Seen>⟧.safe self.old → B.SeenBelow.sees_under below.old → IfErr result (λ e. (n : _) → e ≡ Limit n
+            → LacksPlace S.Storage (offset / cluster_size t.file.header.fields) t self.new.tables n) }
         // It leaks nothing: a cluster that it reserves is pending then.
         ensures leaks { ⟦<Qcow2<S> as Seen>⟧.safe self.old → WasNotCutOff result → KeepsLeaks S.Storage self.old self.new }
     {

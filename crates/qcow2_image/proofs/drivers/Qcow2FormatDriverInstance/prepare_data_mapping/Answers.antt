@@ -8,7 +8,7 @@ use Rattle.qcow2_image.specs.Seen.{layer_of}
 use Rattle.qcow2_image.proofs.Prepared.{fresh-cut, fresh-free, fresh-mine, fresh-run, fresh-size, fresh-whole, limit-where, prepares-fresh, unspent-none}
 use Rattle.qcow2_image.proofs.Preparing.{part-why, prepares-mapped, prepares-refused}
 use Rattle.qcow2_image.proofs.Leaks.{leaks-kept}
-use Rattle.qcow2_image.proofs.Reserving.{fresh-behind}
+use Rattle.qcow2_image.proofs.Reserving.{fresh-behind, fresh-lacks}
 use Rattle.qcow2_image.proofs.drivers.Qcow2FormatDriverInstance.prepare_data_mapping.Goals as goal
 
 pub returns-then-self-clause-below : goal.returns-then-self-clause-below
@@ -133,6 +133,17 @@ returns-in-Ok-None-clause-part g c =
 pub returns-in-Ok-None-clause-limit : goal.returns-in-Ok-None-clause-limit
 returns-in-Ok-None-clause-limit g c = λ sees. limit-where c.prepare_fresh.result ((layer_of g.S.Storage c.args.self.now).home c.args.offset ≡ None)
     (c.in-Ok-None.ensures.none sees.seen c.in-Ok-None.field-0-is)
+
+pub returns-in-Ok-None-clause-full : goal.returns-in-Ok-None-clause-full
+returns-in-Ok-None-clause-full g c =
+    let st = g.S.Storage in
+    let asked = asking c.args.offset c.args.length c.args.overwrite in
+    let u = g.B.SeenBelow in
+    let x = c.args.below.now in
+    let y = c.prepare_fresh.new.below in
+    let looked = rw c.in-Ok-None.field-0-is at c.in-Ok-None.ensures.keeps in
+    let fresh = fresh-behind st {T = Option (ℕ × ℕ)} u asked c.args.self.now c.home_run.new.self x None looked c.prepare_fresh.result c.prepare_fresh.new.self y c.prepare_fresh.ensures in
+    λ safe under. fresh-lacks st u asked c.args.self.now c.prepare_fresh.new.self x y c.prepare_fresh.result fresh safe under
 
 pub returns-in-Err-home_run-clause-leaks : goal.returns-in-Err-home_run-clause-leaks
 returns-in-Err-home_run-clause-leaks g c = λ safe whole. leaks-kept g.S.Storage {T = Option (ℕ × ℕ)} c.args.self.now c.home_run.new.self

@@ -4,6 +4,7 @@ use Rattle.imago_storage.specs.declared.fault.Fault.{Fault}
 use Rattle.qcow2_types.specs.Places.{l2_entries}
 use Rattle.qcow2_types.specs.Words.{is_copied}
 use Rattle.qcow2_image.specs.Allocating.{EnsuresTable}
+use Rattle.qcow2_image.specs.FreeSpace.{enough_for_one}
 use Rattle.qcow2_image.specs.Looking.{place_of_table}
 use Rattle.qcow2_image.specs.declared.qcow2.Qcow2.{Qcow2}
 use Rattle.qcow2_image.proofs.ClusterSteps.{renewed, table-there}
@@ -23,8 +24,8 @@ returns g c =
     let old = c.args.self.now in
     let guest = c.args.guest in
     let bits = c.cluster_bits-cluster_bits.ensures.value in
-    subst (λ (r : Result ℕ Fault). EnsuresTable g.S.Storage guest old r c.settle_change.new.self) (sym c.settle_change.ensures.same)
-    (subst (λ (d : Qcow2 g.row.S.Denot g.S.Storage). EnsuresTable g.S.Storage guest old c.new_table-made.result d) (sym c.settle_change.ensures.marks)
+    subst (λ (r : Result ℕ Fault). EnsuresTable g.S.Storage (enough_for_one old.tables) guest old r c.settle_change.new.self) (sym c.settle_change.ensures.same)
+    (subst (λ (d : Qcow2 g.row.S.Denot g.S.Storage). EnsuresTable g.S.Storage (enough_for_one old.tables) guest old c.new_table-made.result d) (sym c.settle_change.ensures.marks)
     (renewed g.S.Storage old _ c.in-Some-space.space c.new_table-made.new.space c.drop_cached-dropped.new.caches guest c.l1_index-index.result
     c.new_table-made.result c.in-Some-space.is refl c.requires.free (c.l1_index-index.ensures ∙ ap (λ b. guest / l2_entries b) bits)
     (let inside = c.requires.inside in let at = c.l1_index-index.ensures ∙ ap (λ b. guest / l2_entries b) bits in omega (arith, inside, at)) c.l2_cluster-named.result

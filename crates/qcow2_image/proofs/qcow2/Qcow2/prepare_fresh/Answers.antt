@@ -38,10 +38,12 @@ returns-in-Ok-reserve g c =
 pub returns : goal.returns
 returns g c =
     let asked : Asked = asking c.args.offset c.args.length c.args.overwrite in
+    let guest : c.cluster-guest.result ≡ c.args.offset / cluster_size c.args.self.now.tables.file.header.fields = c.cluster-guest.ensures
+    ∙ ap (λ (b : ℕ). c.args.offset / 2 ^ b) c.cluster_bits-cluster_bits.ensures.value in
     fresh-unreserved g.S.Storage g.B.SeenBelow asked c.cluster-guest.result c.in-Ok.content (c.args.self.now, c.args.below.now) c.content_for.new.self c.content_for.new.below
     (subst (λ (n : ℕ). MakesContent g.S.Storage g.B.SeenBelow (record asked { length = n }) (c.args.self.now, c.args.below.now) (Ok c.in-Ok.content)
     (c.content_for.new.self, c.content_for.new.below)) c.first_run-run.ensures c.in-Ok.ensures)
-    c.in-Ok-kept_at.kept c.kept_at.new.self c.in-Ok-kept_at.ensures
+    c.in-Ok-kept_at.kept c.kept_at.new.self c.in-Ok-kept_at.ensures guest
     c.reserve.new.self c.in-Err-reserve.fault
     (subst (λ bytes. Reserves g.S.Storage c.cluster-guest.result c.in-Ok-kept_at.kept bytes c.kept_at.new.self (Err c.in-Err-reserve.fault) c.reserve.new.self)
     c.deref.ensures.value c.in-Err-reserve.ensures)

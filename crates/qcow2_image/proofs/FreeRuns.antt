@@ -1,0 +1,219 @@
+-- What calls leave of the runs that are free in an image, and why there is none.
+use Rattle.std.proofs.Common.{◌≡◌, ℕ, ◌+◌, ◌-◌, ◌*◌, ◌/◌, ◌^◌, ◌<◌, ◌≤◌, refl, arith, ap, sym, subst, ◌∙◌, inl, inr, length, Some, false}
+use Rattle.std.proofs.Math.Nat.{div-mul-le_self, lt-div-mul-add, mul-le-mul_right}
+use Rattle.std.proofs.Math.Pow.{pow_mono}
+use Rattle.std.proofs.lemmas.Bool.{cases_lt}
+use Rattle.std.proofs.lemmas.Nat.{le-div, pow_pos}
+use Rattle.std.specs.Prelude.{max, min}
+use Rattle.imago_storage.specs.declared.fault.Fault.{Fault}
+use Rattle.imago_storage.specs.declared.fault.Fault.TheVariants.{Counter, DamagedTable, Limit, Memory, Storage}
+use Rattle.imago_storage.specs.declared.storage.Storage.{Ghosts}
+use Rattle.qcow2_types.specs.Bytes.{Bytes}
+use Rattle.qcow2_types.specs.Counts.{count, counters_of_block}
+use Rattle.qcow2_types.specs.Header.{Fields, Header, cluster_size, words_of_cluster}
+use Rattle.qcow2_types.specs.Words.{max_offset}
+use Rattle.qcow2_types.proofs.Consistent.{consistent-shaped}
+use Rattle.qcow2_types.proofs.HeaderLimits.{header-limited, least-cluster}
+use Rattle.qcow2_alloc.specs.Allocators.{mark_of}
+use Rattle.qcow2_alloc.specs.Crowding.{room_for, space}
+use Rattle.qcow2_alloc.specs.Quiet.{counted}
+use Rattle.qcow2_alloc.proofs.Space.SizesOfSpace.{counters-wide}
+use Rattle.qcow2_clusters.specs.Lengthening.{clusters_for, l1_clusters}
+use Rattle.qcow2_clusters.specs.Room.{HasFree, HasRoom, LeavesRoom}
+use Rattle.qcow2_clusters.specs.Room as room
+use Rattle.qcow2_clusters.specs.declared.space.Space.{Space}
+use Rattle.qcow2_clusters.proofs.NamingTables.{resting-memory}
+use Rattle.qcow2_image.specs.Allocating.{WhyNotAllocated}
+use Rattle.qcow2_image.specs.FreeSpace.{HasFreeRun, IsFull, LeavesFree, enough_for_one, enough_for_table, searched_from}
+use Rattle.qcow2_image.specs.Rooms.{IsSafe, rest_of}
+use Rattle.qcow2_image.specs.Seen.{file_of}
+use Rattle.qcow2_image.specs.declared.qcow2.Qcow2.{Qcow2}
+use Rattle.qcow2_image.specs.declared.tables.Tables.{Tables}
+use Rattle.qcow2_image.proofs.FileWords.{top-long}
+
+-- An allocation needs some room.
+pub some-enough : {S : Type 0} {g : Ghosts S} (t : Tables S g) → 0 < enough_for_one t
+some-enough t = omega arith
+
+module _ {S : Type 0} (g : Ghosts S) where
+  -- Where a run is free, each shorter one is.
+  pub run-fewer : (t : Tables S g) (few many : ℕ) → few ≤ many → HasFreeRun g t many → HasFreeRun g t few
+  run-fewer t few many le run = record {
+    first = run.first;
+    behind = run.behind;
+    below = let below = run.below in omega (arith, below, le);
+    free = λ c from to. run.free c from (omega (arith, to, le));
+  }
+
+  -- The same clusters, the same counts: as much is free.
+  pub run-same : (t t' : Tables S g) (total : ℕ) → file_of g t' ≡ file_of g t → t'.file.header ≡ t.file.header
+      → searched_from t'.space ≡ searched_from t.space → HasFreeRun g t total → HasFreeRun g t' total
+  run-same t t' total file header free run =
+      subst (λ (f : Bytes). HasFree (count f t'.file.header.fields) (searched_from t'.space) (space t'.file.header.fields) total) (sym file)
+      (subst (λ (H : Header). HasFree (count (file_of g t) H.fields) (searched_from t'.space) (space H.fields) total) (sym header)
+      (subst (λ k. HasFree (count (file_of g t) t.file.header.fields) k (space t.file.header.fields) total) (sym free) run))
+
+  -- Of an image at rest, with its free space:
+  module _ (t : Tables S g) (free : Space) (there : t.space ≡ Some free) where
+    counts-at-rest : (c : ℕ) → counted (rest_of g t free) c ≡ count (file_of g t) t.file.header.fields c
+    counts-at-rest c = ap (λ (f : Bytes). count f t.file.header.fields c) (resting-memory (rest_of g t free) refl)
+
+    pub run-in-rest : (total : ℕ) → HasFreeRun g t total → HasRoom (rest_of g t free) (mark_of free.allocator) total
+    run-in-rest total run = record {
+      first = run.first;
+      behind = subst (λ k. k ≤ run.first) (ap searched_from there) run.behind;
+      below = run.below;
+      free = λ c from to. counts-at-rest c ∙ run.free c from to;
+    }
+
+    pub rest-in-run : (total : ℕ) → HasRoom (rest_of g t free) (mark_of free.allocator) total → HasFreeRun g t total
+    rest-in-run total run = record {
+      first = run.first;
+      behind = subst (λ k. k ≤ run.first) (sym (ap searched_from there)) run.behind;
+      below = run.below;
+      free = λ c from to. sym (counts-at-rest c) ∙ run.free c from to;
+    }
+
+  -- What a change of clusters says of its room it says of the image.
+  module _ (old new : Tables S g) (free free' : Space) (there : old.space ≡ Some free) (there' : new.space ≡ Some free') where
+    pub leaves-in-run : (taken : ℕ)
+        → LeavesRoom taken (rest_of g old free) (mark_of free.allocator) (rest_of g new free') (mark_of free'.allocator) → LeavesFree g taken old new
+    leaves-in-run taken leaves = record {
+      as_large = leaves.as_large;
+      left = λ total some run. rest-in-run new free' there' total (leaves.left total some (run-in-rest old free there (taken + total) run));
+    }
+
+    pub full-in-run : (n number : ℕ)
+        → room.IsFull n (rest_of g old free) (mark_of free.allocator) (rest_of g new free') (mark_of free'.allocator) number
+        → IsFull g (room_for old.file.header.fields n) old new number
+    full-in-run n number full = record {
+      crowded = λ run.
+          let there = run-in-rest old free there (room_for old.file.header.fields n) run in
+          full.crowded record {
+            first = there.first;
+            total = room_for old.file.header.fields n;
+            behind = there.behind;
+            below = there.below;
+            free = there.free;
+            enough = omega arith;
+          };
+      free = free';
+      there = there';
+      asked = n;
+      told = full.told;
+    }
+
+  -- Calls that leave free runs leave them together,
+  pub leaves-none : (t : Tables S g) → LeavesFree g 0 t t
+  leaves-none t = record { as_large = refl; left = λ total some run. run-fewer t total (0 + total) (omega arith) run }
+
+  pub leaves-more : (few many : ℕ) (old new : Tables S g) → few ≤ many → LeavesFree g few old new → LeavesFree g many old new
+  leaves-more few many old new le leaves = record {
+    as_large = leaves.as_large;
+    left = λ total some run. leaves.left total some (run-fewer old (few + total) (many + total) (omega (arith, le)) run);
+  }
+
+  pub leaves-then : (taken more : ℕ) (old mid new : Tables S g) → LeavesFree g taken old mid → LeavesFree g more mid new → LeavesFree g (taken + more) old new
+  leaves-then taken more old mid new first second = record {
+    as_large = second.as_large ∙ first.as_large;
+    left = λ total some run. second.left total some
+        (first.left (more + total) (omega (arith, some)) (run-fewer old (taken + (more + total)) (taken + more + total) (omega arith) run));
+  }
+
+  -- and there was no run for the second where it finds none.
+  pub full-behind : (taken enough number : ℕ) (old mid new : Tables S g) → 0 < enough → LeavesFree g taken old mid → IsFull g enough mid new number
+      → IsFull g (taken + enough) old new number
+  full-behind taken enough number old mid new some leaves full = record {
+    crowded = λ run. full.crowded (leaves.left enough some run);
+    free = full.free;
+    there = full.there;
+    asked = full.asked;
+    told = full.told;
+  }
+
+  pub full-more : (few many number : ℕ) (old new : Tables S g) → few ≤ many → IsFull g few old new number → IsFull g many old new number
+  full-more few many number old new le full = record {
+    crowded = λ run. full.crowded (run-fewer old few many le run);
+    free = full.free;
+    there = full.there;
+    asked = full.asked;
+    told = full.told;
+  }
+
+  pub full-since : (enough number : ℕ) (old mid new : Tables S g) → (HasFreeRun g old enough → HasFreeRun g mid enough) → IsFull g enough mid new number
+      → IsFull g enough old new number
+  full-since enough number old mid new from full = record {
+    crowded = λ run. full.crowded (from run);
+    free = full.free;
+    there = full.there;
+    asked = full.asked;
+    told = full.told;
+  }
+
+  -- What a number tells may be said otherwise where there is no place.
+  pub why-full : (full full' : ℕ → Type 0) (old new : Qcow2 S g) (fault : Fault) → ((number : ℕ) → IsSafe g old → full number → full' number)
+      → WhyNotAllocated g full old new fault → WhyNotAllocated g full' old new fault
+  why-full full full' old new Memory told why = why
+  why-full full full' old new Storage told why = why
+  why-full full full' old new (Limit number) told why = λ safe. told number safe (why safe)
+  why-full full full' old new DamagedTable told why = why
+  why-full full full' old new Counter told why = why
+  why-full full full' old new _ told why = absurd why
+
+  -- The L1 table of a safe image has at most 2^22 words,
+  pub safe-few : (d : Qcow2 S g) → IsSafe g d → d.tables.file.header.fields.l1_entries ≤ 2 ^ 22
+  safe-few d safe = (header-limited false (file_of g d.tables) d.tables.file.header safe.seen.loads).l1_entries
+
+  pub safe-short : (d : Qcow2 S g) (i : ℕ) → IsSafe g d → i < d.tables.file.header.fields.l1_entries → i + 1 ≤ 2 ^ 22
+  safe-short d i safe inside = let few = safe-few d safe in omega (arith, inside, few)
+
+  -- Its space is large.
+  space-large : (d : Qcow2 S g) → IsSafe g d → 2 ^ 26 ≤ space d.tables.file.header.fields
+  space-large d safe =
+      let h : Fields = d.tables.file.header.fields in
+      let shaped = consistent-shaped (file_of g d.tables) d.tables.file.header safe.consistent in
+      let wide = counters-wide h shaped in
+      let size : 2 ^ h.cluster_bits ≤ 2 ^ 21 = pow_mono {i = h.cluster_bits} {j = 21} shaped.high in
+      let offsets : 2 ^ 34 ≤ max_offset / cluster_size h = le-div (2 ^ 34) max_offset (cluster_size h) (pow_pos h.cluster_bits) (omega (arith, size)) in
+      least (2 ^ 26) (2 ^ 20 * counters_of_block h) (max_offset / cluster_size h + 1) (omega (arith, wide)) (omega (arith, offsets))
+    where
+      least : (n a b : ℕ) → n ≤ a → n ≤ b → n ≤ min a b
+      least n a b one two = omega (arith, one, two)
+
+  pub quarter-some : (d : Qcow2 S g) → IsSafe g d → 0 < space d.tables.file.header.fields / 4
+  quarter-some d safe =
+      let large = space-large d safe in
+      let quarter : space d.tables.file.header.fields < space d.tables.file.header.fields / 4 * 4 + 4 = lt-div-mul-add (omega arith) in
+      omega (arith, large, quarter)
+
+  -- which take few clusters.
+  few-clusters : (h : Fields) (n : ℕ) → 512 ≤ cluster_size h → n ≤ 2 ^ 22 → clusters_for h n ≤ 2 ^ 16
+  few-clusters h n large few = elim (cases_lt (2 ^ 16) (clusters_for h n)) [
+    | inl many ↦
+        let c : ℕ = cluster_size h in
+        let k : ℕ = clusters_for h n in
+        let low : clusters_for h n * cluster_size h ≤ 8 * n + (cluster_size h - 1) = div-mul-le_self (8 * n + (cluster_size h - 1)) (cluster_size h) in
+        let high : (2 ^ 16 + 1) * cluster_size h ≤ clusters_for h n * cluster_size h = mul-le-mul_right (cluster_size h) (omega (arith, many)) in
+        absurd (omega (arith, low, high, large, few))
+    | inr least ↦ least
+  ]
+
+  -- So a quarter of the space is enough for it, an L2 table and a cluster.
+  pub quarter-enough : (d : Qcow2 S g) (guest : ℕ) → IsSafe g d → guest / words_of_cluster d.tables.file.header.fields + 1 ≤ 2 ^ 22
+      → enough_for_table d.tables guest + enough_for_one d.tables ≤ space d.tables.file.header.fields / 4
+  quarter-enough d guest safe near =
+      let h : Fields = d.tables.file.header.fields in
+      let i : ℕ = guest / words_of_cluster d.tables.file.header.fields in
+      let few = safe-few d safe in
+      let long = top-long (file_of g d.tables) h d.tables.l1 safe.seen.l1 in
+      let words : max (length d.tables.l1.words) (i + 1) ≤ 2 ^ 22 = omega (arith, few, long, near) in
+      let taken = few-clusters h (max (length d.tables.l1.words) (i + 1)) (least-cluster false (file_of g d.tables) d.tables.file.header safe.seen.loads) words in
+      let large = space-large d safe in
+      let low : space h / 16 * 16 ≤ space h = div-mul-le_self (space h) 16 in
+      let high : space h < space h / 16 * 16 + 16 = lt-div-mul-add (omega arith) in
+      let quarter : space h < space h / 4 * 4 + 4 = lt-div-mul-add (omega arith) in
+      parts (space h) (space h / 16) (space h / 4) (l1_clusters h d.tables.l1 i) large low high quarter taken
+    where
+      parts : (s a b k : ℕ) → 2 ^ 26 ≤ s → a * 16 ≤ s → s < a * 16 + 16 → s < b * 4 + 4 → k ≤ 2 ^ 16
+          → a + 3 * k + (a + 3 * 1) + (a + 3 * 1) ≤ b
+      parts s a b k large low high quarter few = omega (arith, large, low, high, quarter, few)
