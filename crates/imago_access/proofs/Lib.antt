@@ -27,3 +27,4 @@ pub mod Rewriting
 pub mod Discarding
 pub mod Zeroing
 pub mod Refusing
+pub mod FileReads

@@ -23,3 +23,4 @@ pub mod Discards
 pub mod Zeroings
 pub mod RunCalls
 pub mod Building
+pub mod FileReads

@@ -15,6 +15,7 @@ use std::marker::Model;
 
 mod discarding;
 mod ensuring;
+mod files;
 mod lookups;
 mod mappings;
 mod reading;

@@ -8,6 +8,7 @@ mod access;
 mod below;
 mod builders;
 mod drivers;
+mod file_reads;
 mod format;
 mod gate;
 mod mapping;
@@ -21,6 +22,7 @@ pub use builders::{
     MakeOpenBuilder,
 };
 pub use drivers::{FormatDriverInstance, check_commit};
+pub use file_reads::ReadFiles;
 pub use format::{Format, PreallocateMode};
 pub use gate::{DenyImplicitOpenGate, ImplicitOpenGate};
 pub use mapping::{Mapping, PreparedDataMapping, ShallowMapping};

@@ -1,0 +1,43 @@
+-- Reads of the files of layers, as they stand.
+use Rattle.std.specs.Prelude.{◌≡◌, ⊤, ℕ, zero, suc, List, [], ◌∷◌}
+use Rattle.imago_storage.specs.State.{StorageState}
+use Rattle.imago_storage.specs.Calls.{IsFaultless}
+use Rattle.imago_storage.specs.Steps.{Call}
+use Rattle.imago_storage.specs.Through.{Overflows}
+use Rattle.imago_storage.specs.declared.fault.Fault.{Fault}
+use Rattle.imago_storage.specs.declared.fault.Fault.TheVariants.{RangeOverflow, Memory, Storage}
+use Rattle.imago_access.specs.declared.seen.Seen.{Ghosts}
+use Rattle.imago_access.specs.Files.{Pairs, IsKept, SomeRose, files}
+use Rattle.imago_access.specs.Room.{Takes}
+
+-- the bytes of the storage with this number: none where there is none
+abbrev pub bytes_in : List StorageState → ℕ → List ℕ
+bytes_in [] number = []
+bytes_in (s ∷ ss) zero = s.bytes
+bytes_in (s ∷ ss) (suc number) = bytes_in ss number
+
+-- the storages of the layer with this number, of which the top has 0: none where there is no such layer
+abbrev pub files_at : {D St : Type 0} → Ghosts D St → List D → ℕ → List StorageState
+files_at g [] layer = []
+files_at g (d ∷ ds) zero = files g d
+files_at g (d ∷ ds) (suc layer) = files_at g ds layer
+
+-- A read of a driver's files: all but counts of faults is as it was. It was not cut off by want of memory or by a storage that failed where
+-- `whole` holds, and then these are, too.
+pub record FilesRead {D St : Type 0} (g : Ghosts D St) (whole : Type 0) (old new : D) : Type 0 where
+  pub layer : g.layer new ≡ g.layer old
+  pub kept : Pairs IsKept (files g old) (files g new)
+  pub faults : whole → Pairs IsFaultless (files g old) (files g new)
+  pub seen : g.sees old → g.sees new
+  pub safely : g.safe old → g.safe new
+  pub stilled : g.still old → g.still new
+  pub lasting : g.lasts old → g.lasts new
+  pub room : g.safe old → Takes g (λ _. ⊤) old new
+  pub began : (d : D) (call : Call) → g.began d call old → g.began d call new
+
+-- Why such a read is refused, by the unit of requests: the padded end of its range passes 64 bits, memory is wanting, or a storage failed.
+abbrev pub FileReadCause : (unit offset n : ℕ) → List StorageState → List StorageState → Fault → Type 0
+FileReadCause unit offset n olds news RangeOverflow = Overflows unit offset n
+FileReadCause unit offset n olds news Memory = ⊤
+FileReadCause unit offset n olds news Storage = SomeRose olds news
+FileReadCause unit offset n olds news fault = ⊥

@@ -1,0 +1,120 @@
+// The files of a chain's layers, as they stand.
+ghost use Rattle.std.specs.Prelude.{◌≡◌, ◌∷◌, length, map, OnOk, IfErr};
+ghost use Rattle.imago_access.specs.Chain.{unit_of_chain};
+ghost use Rattle.imago_access.specs.Layers.{chain, layers};
+ghost use Rattle.imago_access.specs.Files.{AreRead, Pairs, WasNotCutOff, files_of};
+ghost use Rattle.imago_access.specs.FileReads.{bytes_in, files_at, FilesRead, FileReadCause};
+ghost use Rattle.imago_access.specs.Going.{Looked};
+
+use crate::access::FormatAccess;
+use crate::drivers::FormatDriverInstance;
+use crate::file_reads::ReadFiles;
+use imago_storage::{Fault, Storage};
+use std::alloc::Global;
+
+impl<D: FormatDriverInstance> FormatAccess<D> {
+    /// The length of a file of a layer, in bytes. The top layer has the number 0; of its files the image file has 0, and the further files
+    /// follow. Of a number that none has it is 0.
+    pub fn file_size(&self, layer: usize, file: usize) -> u64
+        ensures { result ≡ length (bytes_in (files_at D.Seen (chain self.now) layer) file) }
+    {
+        if layer > 0 {
+            return match &self.below {
+                None => 0,
+                Some(below) => below.file_size(layer - 1, file),
+            };
+        }
+        if file == 0 {
+            return self.driver.image_file().size();
+        }
+        match self.driver.extra_file(file - 1) {
+            None => 0,
+            Some(extra) => extra.size(),
+        }
+    }
+}
+
+impl<D: ReadFiles> FormatAccess<D> {
+    /// Fills the buffer with the bytes of a file of a layer from an offset in bytes on, by the numbers that `file_size` has. Past a file's
+    /// end it reads zeroes, and so do numbers that none has. What waits in memory to be written isn't in the files. That is no read of the
+    /// disk: an image that has failed, or lacks a file, answers it too, and a storage's fault marks none as failed.
+    ///
+    /// It refuses with `Fault::RangeOverflow` where the end of the range, rounded up to the chain's alignment, passes `u64`, with
+    /// `Fault::Memory` and with `Fault::Storage`. A refusal leaves the buffer open, and all but counts of faults as it was.
+    #[cycle(read_file)]
+    pub fn read_file(
+        &mut self,
+        alloc: Global,
+        layer: usize,
+        file: usize,
+        offset: u64,
+        buf: &mut [u8],
+    ) -> Result<(), Fault>
+        // What it answers.
+        ensures bytes { OnOk result (AreRead (files_at D.Seen (chain self.old) layer) file offset (length buf.old) buf.new) }
+
+        // What it keeps.
+        ensures read { Pairs (FilesRead D.Seen (WasNotCutOff result)) (chain self.old) (chain self.new) }
+        ensures looked { Pairs (Looked D.Seen (WasNotCutOff result)) (chain self.old) (chain self.new) }
+
+        // Why it is refused.
+        ensures cause { let unit = unit_of_chain (map D.layer (chain self.old)) in
+            IfErr result (FileReadCause unit offset (length buf.old) (files_of D.Seen (chain self.old)) (files_of D.Seen (chain self.new))) }
+    {
+        Self::read_file_part(
+            alloc,
+            &mut self.driver,
+            &mut self.below,
+            layer,
+            file,
+            offset,
+            buf,
+        )
+    }
+
+    // The same of a layer and those below it.
+    #[cycle(read_file)]
+    fn read_file_part(
+        alloc: Global,
+        driver: &mut D,
+        below: &mut Option<Box<FormatAccess<D>>>,
+        layer: usize,
+        file: usize,
+        offset: u64,
+        buf: &mut [u8],
+    ) -> Result<(), Fault>
+        ensures bytes { OnOk result (AreRead (files_at D.Seen (driver.old ∷ layers below.old) layer) file offset (length buf.old) buf.new) }
+        ensures read { Pairs (FilesRead D.Seen (WasNotCutOff result)) (driver.old ∷ layers below.old) (driver.new ∷ layers below.new) }
+        ensures cause { let olds = driver.old ∷ layers below.old in let news = driver.new ∷ layers below.new in
+            IfErr result (FileReadCause (unit_of_chain (map D.layer olds)) offset (length buf.old) (files_of D.Seen olds) (files_of D.Seen news)) }
+    {
+        if layer == 0 {
+            return driver.read_file(alloc, file, offset, buf);
+        }
+        Self::read_file_under(alloc, below, layer - 1, file, offset, buf)
+    }
+
+    // The same of the layers below, if there are any.
+    #[cycle(read_file)]
+    fn read_file_under(
+        alloc: Global,
+        below: &mut Option<Box<FormatAccess<D>>>,
+        layer: usize,
+        file: usize,
+        offset: u64,
+        buf: &mut [u8],
+    ) -> Result<(), Fault>
+        ensures bytes { OnOk result (AreRead (files_at D.Seen (layers below.old) layer) file offset (length buf.old) buf.new) }
+        ensures read { Pairs (FilesRead D.Seen (WasNotCutOff result)) (layers below.old) (layers below.new) }
+        ensures cause { let unit = unit_of_chain (map D.layer (layers below.old)) in
+            IfErr result (FileReadCause unit offset (length buf.old) (files_of D.Seen (layers below.old)) (files_of D.Seen (layers below.new))) }
+    {
+        match below {
+            Some(access) => access.read_file(alloc, layer, file, offset, buf),
+            None => {
+                buf.fill(0);
+                Ok(())
+            }
+        }
+    }
+}
