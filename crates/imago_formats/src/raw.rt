@@ -26,7 +26,7 @@ ghost use Rattle.imago_formats.specs.RawHome.{one_home, never};
 ghost use Rattle.imago_formats.specs.Growing.{CutTo, GrownTo, NotCut, NotLengthened};
 
 use imago_access::{
-    Format, FormatDriverInstance, PreallocateMode, PreparedDataMapping, ReadBelow, Seen,
+    Format, FormatDriverInstance, PreallocateMode, PreparedDataMapping, ReadBelow, ReadFiles, Seen,
     ShallowMapping, check_range,
 };
 use imago_storage::{
@@ -649,6 +649,22 @@ impl<S: Storage> FormatDriverInstance for Raw<S> {
             Ok(()) => Ok(()),
             Err(fault) => Err(fault),
         }
+    }
+}
+
+impl<S: Storage> ReadFiles for Raw<S> {
+    fn read_file(
+        &mut self,
+        alloc: Global,
+        file: usize,
+        offset: u64,
+        buf: &mut [u8],
+    ) -> Result<(), Fault> {
+        if file == 0 {
+            return self.storage.read(alloc, buf, offset);
+        }
+        buf.fill(0);
+        Ok(())
     }
 }
 

@@ -31,7 +31,7 @@ use crate::vmdk::storages::{
 };
 use imago_access::{
     Format, FormatDriverInstance, ImplicitOpenGate, PreallocateMode, PreparedDataMapping,
-    ReadBelow, Seen, ShallowMapping,
+    ReadBelow, ReadFiles, Seen, ShallowMapping,
 };
 use imago_storage::{Fault, Storage, larger_alignment};
 use std::alloc::Global;
@@ -535,5 +535,17 @@ impl<S: Storage> FormatDriverInstance for Vmdk<S> {
 
     fn resize_shrink(&mut self, _alloc: Global, size: u64) -> Result<(), Fault> {
         self.check_change(self.disk.size().saturating_sub(size))
+    }
+}
+
+impl<S: Storage> ReadFiles for Vmdk<S> {
+    fn read_file(
+        &mut self,
+        alloc: Global,
+        file: usize,
+        offset: u64,
+        buf: &mut [u8],
+    ) -> Result<(), Fault> {
+        self.read(alloc, file, offset, buf)
     }
 }
