@@ -34,3 +34,4 @@ pub mod Spent
 pub mod SpentLeaks
 pub mod Pending
 pub mod SameLeaks
+pub mod FileReads

@@ -189,7 +189,7 @@ module _ (R : RattleType) (st : Ghosts R.Denot) (sd : mir.Syntax.Dict) (dd : mir
   fixed-same : (layer_of st new).fixed ≡ (layer_of st old).fixed
   fixed-same = λ i. qcow2_fixed (k.tables.kept.shape i) (k.tables.header i).fields (k.mode i) (k.number i)
 
-  layer-same : new.failed ≡ old.failed → layer_of st new ≡ layer_of st old
+  pub layer-same : new.failed ≡ old.failed → layer_of st new ≡ layer_of st old
   layer-same failed = layer-by s s' (memory_of st old.tables) (memory_of st new.tables) old.tables.file.header.fields new.tables.file.header.fields old.mode new.mode old.number new.number old.failed new.failed (holding_in st old.unspent) (holding_in st new.unspent) k.tables.kept.shape k.tables.kept.bytes memory-same (ap (λ (H : Header). H.fields) k.tables.header) k.mode k.number failed (ap (holding_in st) k.unspent)
 
   -- Its clusters are at rest what they were.
@@ -274,7 +274,7 @@ module _ (R : RattleType) (st : Ghosts R.Denot) (sd : mir.Syntax.Dict) (dd : mir
             (ap (λ (H : Header). H.fields.size) k.tables.header) (ap (λ (H : Header). H.fields.cluster_bits) k.tables.header) now.1,
       )
 
-  spared : new.failed ≡ old.failed → IsSpared sees old new
+  pub spared : new.failed ≡ old.failed → IsSpared sees old new
   spared failed = record {
     known = known failed;
     kept = ((k.tables.kept, k.tables.later.faults), tt);

@@ -6,6 +6,7 @@ mod builder;
 mod cache_entries;
 mod committing;
 mod drivers;
+mod file_reads;
 mod filling;
 pub mod laws;
 mod lookup;
