@@ -10,7 +10,9 @@ pub mod StoringSettled
 pub mod FillingKept
 pub mod LoneTables
 pub mod NamedWords
+pub mod NamedRuns
 pub mod NamedAtRest
+pub mod NamedOnce
 pub mod NamingTables
 pub mod MakingTables
 pub mod CopyingTables

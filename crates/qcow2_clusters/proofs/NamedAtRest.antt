@@ -1,8 +1,7 @@
--- How a guest cluster comes to name a cluster that was reserved, or kept for it: the search of its table, its word, and what is written
--- then.
-use Rattle.std.proofs.Common.{◌≡◌, ◌≢◌, ℕ, ◌+◌, ◌*◌, ◌/◌, ◌%◌, ◌^◌, ◌≤◌, refl, arith, ap, sym, subst, ◌∙◌, true, Some, None, Option, List, Result, Ok, Err, inl, inr}
-use Rattle.std.specs.Prelude.{⊤, ◌++◌, IfErr, IsTrue, OnOk, nat_eq}
-use Rattle.std.proofs.lemmas.List.{append-nil}
+-- How guest clusters in a row come to name clusters in a row that were reserved, or kept for them: the search of their table, their words,
+-- and what is written then.
+use Rattle.std.proofs.Common.{◌≡◌, ◌≢◌, ℕ, ◌+◌, ◌-◌, ◌/◌, ◌%◌, ◌<◌, ◌≤◌, refl, arith, ap, sym, subst, ◌∙◌, true, List, Result, Ok, Err, inl, inr}
+use Rattle.std.specs.Prelude.{⊤, ◌++◌, IfErr, IsTrue, OnOk}
 use Rattle.imago_storage.specs.State.{StorageState}
 use Rattle.imago_storage.specs.Calls.{IsFaultless, Later}
 use Rattle.imago_storage.specs.declared.fault.Fault.{Fault}
@@ -12,16 +11,14 @@ use Rattle.qcow2_types.specs.Bytes.{Bytes, bytes_of}
 use Rattle.qcow2_types.specs.Entries.{entry}
 use Rattle.qcow2_types.specs.Header.{Header, cluster_size, words_of_cluster}
 use Rattle.qcow2_types.specs.Pending.{FreeEntry}
-use Rattle.qcow2_types.specs.Words.{Mapping, data_at, mapping_of}
-use Rattle.qcow2_metadata.specs.Allocations.{allocation_of, freed, holds, newly, replaced}
+use Rattle.qcow2_types.specs.Words.{data_at}
+use Rattle.qcow2_metadata.specs.Allocations.{holds}
 use Rattle.qcow2_metadata.specs.Places.{IsInReach}
-use Rattle.qcow2_metadata.specs.Tables.{TableValue, mapping_in, table_in, with_word}
+use Rattle.qcow2_metadata.specs.Tables.{TableValue, table_in}
 use Rattle.qcow2_alloc.specs.declared.cache.MetadataCaches.{MetadataCaches}
 use Rattle.qcow2_alloc.specs.declared.file.ImageFile.{ImageFile}
 use Rattle.qcow2_alloc.specs.Allocators.{TableUsed, UsesTable, metadata_of, table_of}
-use Rattle.qcow2_alloc.specs.Cache.{hit}
 use Rattle.qcow2_alloc.specs.Caches.{HasRoomOf, cached_in, order_of}
-use Rattle.qcow2_alloc.specs.FreeList.{FreeList}
 use Rattle.qcow2_alloc.specs.Finding.{TableFound, WhyNotFound}
 use Rattle.qcow2_alloc.specs.Going.{AreBlocksInReach, AreTablesInReach, IsMild, WasNotCutOff}
 use Rattle.qcow2_alloc.specs.Memory.{Cached}
@@ -31,15 +28,16 @@ use Rattle.qcow2_alloc.proofs.Memory.SafeLaws.{clean-memory}
 use Rattle.qcow2_alloc.proofs.Quiet.QuietFlushes.{going-quietly}
 use Rattle.qcow2_alloc.proofs.Quiet.QuietShows.{in-cluster}
 use Rattle.qcow2_alloc.proofs.Quiet.QuietThen.{quietly-then}
-use Rattle.qcow2_steps.proofs.QuietValues.{quiet-entries}
-use Rattle.qcow2_clusters.specs.Naming.{IsNameable, Names, NamesIn, PutsOff, WhyNotNamed, given_for, listed_of, naming, taken_before}
+use Rattle.qcow2_steps.proofs.QuietValues.{data-used, quiet-entries}
+use Rattle.qcow2_clusters.specs.Naming.{AreNameable, Listed, NamesIn, NamesRun, NamesWords, WhyNotNamed, given_for_run, listing, naming_run}
 use Rattle.qcow2_clusters.specs.Progress.{Kind, Progresses, both, handing}
 use Rattle.qcow2_clusters.specs.Rest.{AreEmpty, Clusters, HasEntries, IsReady, nothing_cached, resting, storage}
 use Rattle.qcow2_clusters.specs.Settling.{Settles, WhyNotSettled}
-use Rattle.qcow2_clusters.proofs.Adding.{AdvancesBy, progresses-halted, progresses-in-memory, progresses-then, progresses-weaker, quiet-progresses, wider-both, wider-handing}
+use Rattle.qcow2_clusters.proofs.Adding.{progresses-halted, progresses-in-memory, progresses-then, progresses-weaker, quiet-progresses, wider-both, wider-handing, wider-same}
 use Rattle.qcow2_clusters.proofs.Ending.{settled-cause, settled-faultless}
-use Rattle.qcow2_clusters.proofs.LoneTables.{lone_table, never-full, only-read, refused-empty, used-alone, used-read}
-use Rattle.qcow2_clusters.proofs.NamedWords.{WordNamed, freed-data, names-data, old-entry, put-advances, stepping, table-fine, table-near, word-named}
+use Rattle.qcow2_clusters.proofs.LoneTables.{found-alone, lone_table, never-full, only-read, refused-empty, used-alone, used-read}
+use Rattle.qcow2_clusters.proofs.NamedRuns.{Standing, image, stands, words-layout}
+use Rattle.qcow2_clusters.proofs.NamedWords.{table-fine, table-near}
 use Rattle.qcow2_clusters.proofs.Resting.{begun-quietly, l1-stays}
 
 -- Why the search was refused is why the call is: no cache is full.
@@ -74,10 +72,10 @@ progresses-ready ok kind s m s' m' shape later progress = record {
   holds = λ keeps sound. (progress keeps sound).holds keeps sound;
 }
 
-module _ {S : Type 0} (state : S → StorageState) (table guest x : ℕ) (c c' : Clusters S) (mid : MetadataCaches S) (between : ImageFile S)
+module _ {S : Type 0} (state : S → StorageState) (table guest x n : ℕ) (c c' : Clusters S) (mid : MetadataCaches S) (between : ImageFile S)
     (done result : Result Unit Fault) where
   abbrev Ready : Type 0
-  Ready = IsReady state c × IsNameable (resting state c) table guest x
+  Ready = IsReady state c × AreNameable n (resting state c) table guest x
 
   abbrev s0 : StorageState
   s0 = storage state c
@@ -94,9 +92,9 @@ module _ {S : Type 0} (state : S → StorageState) (table guest x : ℕ) (c c' :
   abbrev m2 : Metadata
   m2 = resting state c'
 
-  -- what the guest cluster gives up
+  -- what the guest clusters give up
   abbrev dropped : List FreeEntry
-  dropped = listed_of (given_for m0 guest x)
+  dropped = given_for_run m0 guest x n
 
   -- What came before the writes, and what holds then of a sound image.
   pub record Begun : Type 0 where
@@ -106,13 +104,14 @@ module _ {S : Type 0} (state : S → StorageState) (table guest x : ℕ) (c c' :
     pub header : between.header ≡ c.file.header
     pub room : HasRoomOf c.caches mid
     pub held : c'.space.to_free.held ≡ c.space.to_free.held
-    pub reach : Ready → AreTablesInReach (cached_in mid) × AreBlocksInReach (cached_in mid)
+    pub reach : WasNotCutOff done → Ready → AreTablesInReach (cached_in mid) × AreBlocksInReach (cached_in mid)
     pub why : IfErr done (WhyNotNamed Ready s0.faults s1.faults)
     pub waits : Ready → result ≡ Ok tt → c'.space.to_free.entries ≡ c.space.to_free.entries ++ dropped
-    pub progress : Ready → Progresses (result ≡ Ok tt) (naming m0 guest x) s0 m0 s2 m2
+    pub progress : Ready → Progresses (result ≡ Ok tt) (naming_run m0 guest x n) s0 m0 s2 m2
     pub l1 : Ready → result ≡ Ok tt → (l1 : TableValue) → IsL1Of m0.file c.file.header.fields l1 → IsL1Of m2.file c'.file.header.fields l1
-    pub named : Ready → result ≡ Ok tt → entry m2.file c.file.header.fields guest ≡ data_at x true
-    pub bytes : Ready → result ≡ Ok tt → (q : ℕ) → q / cluster_size c.file.header.fields ≡ x → m2.file q ≡ m0.file q
+    pub named : Ready → result ≡ Ok tt → (d : ℕ) → d < n → entry m2.file c.file.header.fields (guest + d) ≡ data_at (x + d) true
+    pub bytes : Ready → result ≡ Ok tt → (q : ℕ) → x ≤ q / cluster_size c.file.header.fields → q / cluster_size c.file.header.fields < x + n
+        → m2.file q ≡ m0.file q
 
   module _ (settles : Settles state done between mid result c'.file c'.caches) where
     behind : Later s1 s2
@@ -120,7 +119,7 @@ module _ {S : Type 0} (state : S → StorageState) (table guest x : ℕ) (c c' :
 
     why-refused : Begun → IfErr result (WhyNotNamed Ready s0.faults s2.faults)
     why-refused begun = settled-cause state done between mid result c'.file c'.caches settles (WhyNotNamed Ready s0.faults) begun.why
-        (λ whole fault. why-settled _ Ready s0.faults s1.faults s2.faults fault begun.reach begun.later.faults)
+        (λ whole fault. why-settled _ Ready s0.faults s1.faults s2.faults fault (begun.reach whole) begun.later.faults)
 
     succeeded : Begun → Ready → WasNotCutOff result → result ≡ Ok tt
     succeeded begun ready whole = by result (why-refused begun) whole where
@@ -132,10 +131,10 @@ module _ {S : Type 0} (state : S → StorageState) (table guest x : ℕ) (c c' :
     on-ok (Ok v) P from = from refl
     on-ok (Err fault) P from = tt
 
-    pub names-begun : Begun → Names state table guest x c result c'
+    pub names-begun : Begun → NamesRun state table guest x n c result c'
     names-begun begun = record {
       progress = λ able.
-          progresses-ready (result ≡ Ok tt) (naming m0 guest x) s0 m0 s2 m2 ((settles.quiet (table_of c'.space.allocator) c'.space.to_free.entries).shape ∙ begun.shape)
+          progresses-ready (result ≡ Ok tt) (naming_run m0 guest x n) s0 m0 s2 m2 ((settles.quiet (table_of c'.space.allocator) c'.space.to_free.entries).shape ∙ begun.shape)
           (later_both s0 s1 s2 begun.later behind) (λ keeps sound. begun.progress (record { keeps = keeps; sound = sound }, able));
       rests = record {
         shape = (settles.quiet (table_of c'.space.allocator) c'.space.to_free.entries).shape ∙ begun.shape;
@@ -154,7 +153,7 @@ module _ {S : Type 0} (state : S → StorageState) (table guest x : ℕ) (c c' :
       cause = why-refused begun;
     }
 
-  module _ (rest : AreEmpty c.caches) (room : HasEntries c.caches) where
+  module _ (rest : AreEmpty c.caches) (room : HasEntries c.caches) (any : 0 < n) where
     reach-of-none : AreTablesInReach (cached_in c.caches) × AreBlocksInReach (cached_in c.caches)
     reach-of-none = subst (λ (k : Cached). AreTablesInReach k × AreBlocksInReach k) (sym rest) (tt, tt)
 
@@ -174,11 +173,11 @@ module _ {S : Type 0} (state : S → StorageState) (table guest x : ℕ) (c c' :
 
     -- It was refused.
     module _ (fault : Fault) (found : TableFound state table c.caches c.file (Err fault) mid between) (is : done ≡ Err fault)
-        (list : c'.space.to_free ≡ c.space.to_free) (settles : Settles state done between mid result c'.file c'.caches) where
+        (held : c'.space.to_free.held ≡ c.space.to_free.held) (settles : Settles state done between mid result c'.file c'.caches) where
       refused-why : WhyNotNamed Ready s0.faults s1.faults fault
       refused-why = why-found _ _ Ready s0.faults s1.faults fault
           (λ ready. (
-            table-fine m0 table guest x ready.0.sound ready.1 (bytes_of s1.bytes)
+            table-fine m0 table (guest + 0) (x + 0) ready.0.sound (ready.1 0 any) (bytes_of s1.bytes)
                 (ap bytes_of (only-read state table c.caches c.file rest (Err fault) mid between found).bytes),
             reach-of-none.0,
             reach-of-none.1,
@@ -191,11 +190,11 @@ module _ {S : Type 0} (state : S → StorageState) (table guest x : ℕ) (c c' :
       refused-never : Ready → result ≡ Ok tt → ⊥
       refused-never ready ok = let bad : Ok tt ≡ Err fault = sym ok ∙ (refused-cut ready).0 ∙ is in absurd cc
 
-      refused-progress : Ready → Progresses (result ≡ Ok tt) (naming m0 guest x) s0 m0 s2 m2
+      refused-progress : Ready → Progresses (result ≡ Ok tt) (naming_run m0 guest x n) s0 m0 s2 m2
       refused-progress ready =
-          subst (λ (f : ImageFile S). Progresses (result ≡ Ok tt) (naming m0 guest x) s0 m0 (state f.image) m2) (sym (refused-cut ready).1)
-          (progresses-halted (IsMild fault) (result ≡ Ok tt) (handing (λ _. 0) (λ _. 0)) (naming m0 guest x) s0 m0 s1 (found-as mid) m2
-          (wider-handing (λ _. 0) (λ _. 0) (naming m0 guest x)) (λ keeps sound ok. refused-never ready ok)
+          subst (λ (f : ImageFile S). Progresses (result ≡ Ok tt) (naming_run m0 guest x n) s0 m0 (state f.image) m2) (sym (refused-cut ready).1)
+          (progresses-halted (IsMild fault) (result ≡ Ok tt) (handing (λ _. 0) (λ _. 0)) (naming_run m0 guest x n) s0 m0 s1 (found-as mid) m2
+          (wider-handing (λ _. 0) (λ _. 0) (naming_run m0 guest x n)) (λ keeps sound ok. refused-never ready ok)
           (quiet-progresses (IsMild fault) (λ _. 0) (λ _. 0) s0 m0 s1 (found-as mid) (λ sound d named. refl) (searched (Err fault) mid found)))
 
       refused-begun : Begun
@@ -205,8 +204,8 @@ module _ {S : Type 0} (state : S → StorageState) (table guest x : ℕ) (c c' :
         faults = λ whole. found.going.faults (subst WasNotCutOff is whole);
         header = found.others.1;
         room = found.room;
-        held = ap (λ (l : FreeList). l.held) list;
-        reach = λ ready. subst (λ (k : Cached). AreTablesInReach k × AreBlocksInReach k) (sym (refused-empty state table c.caches c.file rest fault mid between found)) (tt, tt);
+        held = held;
+        reach = λ whole ready. subst (λ (k : Cached). AreTablesInReach k × AreBlocksInReach k) (sym (refused-empty state table c.caches c.file rest fault mid between found)) (tt, tt);
         why = subst (λ r. IfErr r (WhyNotNamed Ready s0.faults s1.faults)) (sym is) refused-why;
         waits = λ ready ok. absurd (refused-never ready ok);
         progress = refused-progress;
@@ -215,9 +214,13 @@ module _ {S : Type 0} (state : S → StorageState) (table guest x : ℕ) (c c' :
         bytes = λ ready ok. absurd (refused-never ready ok);
       }
 
-    -- The table was found, and its word set.
-    module _ (some : x ≢ 0) (near : IsInReach c.file.header.fields.cluster_bits x) (before : Option FreeEntry)
-        (u : TableUsed state table (NamesIn c.file.header.fields.cluster_bits guest x) c.caches c.file (Ok before) mid between) where
+    -- What is done to the table that is found.
+    abbrev Does : TableValue → Result Unit Fault → TableValue → Type 0
+    Does t r t' = NamesIn c.file.header.fields.cluster_bits (guest % words_of_cluster c.file.header.fields) x n (listing t c.space.to_free) r
+        (listing t' c'.space.to_free)
+
+    -- The table was found.
+    module _ (answer : Result Unit Fault) (u : TableUsed state table Does c.caches c.file answer mid between) where
       abbrev read : TableValue
       read = table_in (bytes_of s1.bytes) c.file.header.fields table (words_of_cluster c.file.header.fields)
 
@@ -233,167 +236,13 @@ module _ {S : Type 0} (state : S → StorageState) (table guest x : ℕ) (c c' :
       left-alone : cached_in mid ≡ lone_table table u.table'
       left-alone = used-alone state table c.caches c.file rest u.mid between u.table' mid u.found u.left
 
-      set-reach : Ready → AreTablesInReach (cached_in mid) × AreBlocksInReach (cached_in mid)
-      set-reach ready =
-          let bits : u.table'.layout.cluster_bits ≡ c.file.header.fields.cluster_bits =
-          ap (λ (t : TableValue). t.layout.cluster_bits) (u.used.ok.1 ∙ ap (λ t. with_word t _ _) is-read) in
-          subst (λ (k : Cached). AreTablesInReach k × AreBlocksInReach k) (sym left-alone)
-          (((λ modified. subst (λ b. IsInReach b table) (sym bits) (table-near m0 table guest x ready.0.sound ready.1)), tt), tt)
+      room-same : HasRoomOf c.caches mid
+      room-same = record {
+        tables = ap (λ (k : MetadataCaches S). k.l2.slots.cap) u.left ∙ u.found.room.tables;
+        blocks = ap (λ (k : MetadataCaches S). k.rb.slots.cap) u.left ∙ u.found.room.blocks;
+      }
 
-      module _ (ready : Ready) (allocator : c'.space.allocator ≡ c.space.allocator)
-          (list : c'.space.to_free.entries ≡ c.space.to_free.entries ++ listed_of before) (is : done ≡ Ok tt)
-          (settles : Settles state done between mid result c'.file c'.caches) where
-        abbrev able : IsNameable m0 table guest x
-        able = ready.1
-
-        abbrev row : ℕ
-        row = guest / words_of_cluster c.file.header.fields
-
-        abbrev column : ℕ
-        column = guest % words_of_cluster c.file.header.fields
-
-        abbrev m1 : Metadata
-        m1 = metadata_of state between mid (table_of c'.space.allocator) c'.space.to_free.entries
-
-        abbrev set-image : Metadata
-        set-image = record (found-as u.mid) { cached = cached_in mid }
-
-        -- what the word named waits to be freed then
-        abbrev put-image : Metadata
-        put-image = record set-image { pending = c.space.to_free.entries ++ listed_of before }
-
-        same-image : put-image ≡ m1
-        same-image =
-            let header : c.file.header ≡ between.header = sym u.found.others.1 in
-            let order : order_of c.caches ≡ order_of mid = sym (ap order_of u.left ∙ u.found.others.0) in
-            let refcounts : table_of c.space.allocator ≡ table_of c'.space.allocator = ap table_of (sym allocator) in
-            λ k. record { file = bytes_of s1.bytes; header = header k; cached = cached_in mid; order = order k; table = refcounts k; pending = sym list k }
-
-        first : IsSound (found-as u.mid) × IsQuiet (λ _. 0) (λ _. 0) m0 (found-as u.mid)
-        first = (searched (Ok tt) u.mid u.found).holds ready.0.keeps ready.0.sound tt
-
-        abbrev old : Mapping
-        old = mapping_in u.table column
-
-        abbrev step-kind : Kind
-        step-kind = stepping (found-as u.mid) row column x old before
-
-        tables-set : (cached_in mid).tables ≡ hit (nat_eq table) (cached_in u.mid).tables (with_word u.table column (2 ^ 63 + x * cluster_size c.file.header.fields))
-        tables-set = ap (λ (k : MetadataCaches S). (cached_in k).tables) u.left ∙ ap (hit (nat_eq table) (cached_in u.mid).tables) u.used.ok.1
-
-        blocks-set : (cached_in mid).blocks ≡ (cached_in u.mid).blocks
-        blocks-set = ap (λ (k : MetadataCaches S). (cached_in k).blocks) u.left
-
-        was : old ≡ entry m0.file c.file.header.fields guest
-        was = old-entry m0 table guest x ready.0.sound able u.table is-file's
-
-        means : mapping_of u.table.layout (2 ^ 63 + x * cluster_size c.file.header.fields) ≡ data_at x true
-        means = ap (λ (t : TableValue). mapping_of t.layout (2 ^ 63 + x * cluster_size c.file.header.fields)) is-read
-            ∙ names-data m0 x ready.0.sound some near
-
-        word-set : WordNamed m0 guest x old before (found-as u.mid) set-image
-        word-set =
-            word-named m0 table guest x ready.0.sound able some near (bytes_of s1.bytes) (cached_in u.mid) (order_of c.caches) bytes-same first.0 first.1
-            u.table u.there (cached_in mid) tables-set blocks-set before u.used.ok.2 _ means u.used.ok.3 was
-
-        -- What it handed back is what the guest cluster gives up.
-        gives-up : before ≡ given_for m0 guest x
-        gives-up = u.used.ok.2 ∙ ap (λ (w : Mapping). freed (replaced x (allocation_of c.file.header.fields.cluster_bits w))) was
-
-        abbrev put-kind : Kind
-        put-kind = handing (λ _. 0) (λ d. holds d before)
-
-        put-step : AdvancesBy put-kind set-image put-image
-        put-step = put-advances set-image before word-set.step.sound word-set.owed
-            (rw u.used.ok.2 (freed-data (replaced x (allocation_of c.file.header.fields.cluster_bits old))))
-
-        set-sound : IsSound m1
-        set-sound = subst IsSound same-image put-step.sound
-
-        settled : Quietly (WasNotCutOff result) (λ _. 0) (λ _. 0) s1 m1 s2 m2
-        settled = settles.quiet (table_of c'.space.allocator) c'.space.to_free.entries
-
-        last : result ≡ Ok tt → IsSound m2 × IsQuiet (λ _. 0) (λ _. 0) m1 m2
-        last ok = settled.holds (keeps_on s0 s1 u.found.going.shape ready.0.keeps) set-sound (subst WasNotCutOff (sym ok) tt)
-
-        -- The search, the word and what is written then, one behind the other.
-        set-progress : Progresses (result ≡ Ok tt) (naming m0 guest x) s0 m0 s2 m2
-        set-progress =
-            let none : Kind = handing (λ _. 0) (λ _. 0) in
-            let one = quiet-progresses ⊤ (λ _. 0) (λ _. 0) s0 m0 s1 (found-as u.mid) (λ sound d named. refl) (searched (Ok tt) u.mid u.found) in
-            let two = progresses-in-memory ⊤ step-kind s1 (found-as u.mid) set-image (λ sound yes. word-set.step) in
-            let put : Progresses ⊤ put-kind s1 set-image s1 m1 =
-            subst (Progresses ⊤ put-kind s1 set-image s1) same-image (progresses-in-memory ⊤ put-kind s1 set-image put-image (λ sound yes. put-step)) in
-            let three = quiet-progresses (WasNotCutOff result) (λ _. 0) (λ _. 0) s1 m1 s2 m2 (λ sound d named. refl) settled in
-            let later = progresses-then (WasNotCutOff result) ⊤ put-kind none s1 set-image s1 m1 s2 m2 tt put three in
-            let behind = progresses-then (WasNotCutOff result) ⊤ step-kind (both put-kind none) s1 (found-as u.mid) s1 set-image s2 m2 tt two later in
-            let all = progresses-then (WasNotCutOff result) ⊤ none (both step-kind (both put-kind none)) s0 m0 s1 (found-as u.mid) s2 m2 tt one behind in
-            let wide : Kind = naming m0 guest x in
-            progresses-weaker (WasNotCutOff result) (result ≡ Ok tt) (both none (both step-kind (both put-kind none))) wide s0 m0 s2 m2
-            (wider-both none (both step-kind (both put-kind none)) wide (wider-handing (λ _. 0) (λ _. 0) wide)
-            (wider-both step-kind (both put-kind none) wide word-set.wider
-            (wider-both put-kind none wide (wider-handing (λ _. 0) (λ d. holds d before) wide) (wider-handing (λ _. 0) (λ _. 0) wide))))
-            (λ ok. subst WasNotCutOff (sym ok) tt)
-            (λ d. let same = given-same d in omega (arith, same))
-            (λ d. let same = given-same d in let anew = newly-same d in omega (arith, same, anew)) all
-          where
-            given-same : (d : ℕ) → holds d (given_for m0 guest x) ≡ holds d before
-            given-same d = ap (holds d) (sym gives-up)
-
-            newly-same : (d : ℕ) → newly x (taken_before m0 guest) d ≡ newly x (allocation_of c.file.header.fields.cluster_bits old) d
-            newly-same d = ap (λ (w : Mapping). newly x (allocation_of c.file.header.fields.cluster_bits w) d) (sym was)
-
-        set-l1 : result ≡ Ok tt → (l1 : TableValue) → IsL1Of m0.file c.file.header.fields l1 → IsL1Of m2.file c'.file.header.fields l1
-        set-l1 ok l1 of =
-            let both = last ok in
-            l1-stays m1.file m2.file m1.header m2.header l1 both.1.shows.moved both.1.shows.l1
-            (subst (λ (m : Metadata). IsL1Of m.file m.header.fields l1) same-image (subst (λ (b : Bytes). IsL1Of b c.file.header.fields l1) (sym bytes-same) of))
-
-        set-named : result ≡ Ok tt → entry m2.file c.file.header.fields guest ≡ data_at x true
-        set-named ok =
-            let both = last ok in
-            let same : entry (in_memory m2) m2.header.fields guest ≡ entry (in_memory m1) m1.header.fields guest =
-            quiet-entries m1 m2 (λ _. 0) (λ _. 0) set-sound both.0 both.1 guest in
-            let clean : in_memory m2 ≡ m2.file = clean-memory m2.file m2.header.fields nothing_cached tt tt in
-            ap (λ (b : Bytes). entry b c.file.header.fields guest) (sym clean)
-            ∙ ap (λ (H : Header). entry (in_memory m2) H.fields guest) (sym (settles.header ∙ u.found.others.1))
-            ∙ same
-            ∙ ap (λ (m : Metadata). entry (in_memory m) m.header.fields guest) (sym same-image)
-            ∙ word-set.named
-
-        -- What is written then leaves what is used.
-        set-bytes : result ≡ Ok tt → (q : ℕ) → q / cluster_size c.file.header.fields ≡ x → m2.file q ≡ m0.file q
-        set-bytes ok q at =
-            let quiet : IsQuiet (λ _. 0) (λ _. 0) put-image m2 = subst (λ m. IsQuiet (λ _. 0) (λ _. 0) m m2) (sym same-image) (last ok).1 in
-            let used : IsUsed put-image (q / cluster_size c.file.header.fields) = subst (IsUsed put-image) (sym at) (put-step.used x word-set.used word-set.spared) in
-            in-cluster c.file.header.fields (bytes_of s1.bytes) m2.file q (quiet.kept (q / cluster_size c.file.header.fields) used refl)
-            ∙ ap (λ (b : Bytes). b q) bytes-same
-
-      -- What it named before waits, if it named anything.
-      module _ (held : c'.space.to_free.held ≡ c.space.to_free.held) (is : done ≡ Ok tt)
-          (list : c'.space.to_free.entries ≡ c.space.to_free.entries ++ listed_of before) (allocator : c'.space.allocator ≡ c.space.allocator)
-          (settles : Settles state done between mid result c'.file c'.caches) where
-        set-begun : Begun
-        set-begun = record {
-          shape = u.found.going.shape;
-          later = u.found.going.later;
-          faults = λ whole. u.found.going.faults tt;
-          header = u.found.others.1;
-          room = record {
-            tables = ap (λ (k : MetadataCaches S). k.l2.slots.cap) u.left ∙ u.found.room.tables;
-            blocks = ap (λ (k : MetadataCaches S). k.rb.slots.cap) u.left ∙ u.found.room.blocks;
-          };
-          held = held;
-          reach = set-reach;
-          why = subst (λ r. IfErr r (WhyNotNamed Ready s0.faults s1.faults)) (sym is) tt;
-          waits = λ ready ok. list ∙ ap (λ (b : Option FreeEntry). c.space.to_free.entries ++ listed_of b) (gives-up ready allocator list is settles);
-          progress = λ ready. set-progress ready allocator list is settles;
-          l1 = λ ready. set-l1 ready allocator list is settles;
-          named = λ ready. set-named ready allocator list is settles;
-          bytes = λ ready. set-bytes ready allocator list is settles;
-        }
-
-      -- There was no memory to have it wait.
+      -- There was no memory to have something wait.
       module _ (held : c'.space.to_free.held ≡ c.space.to_free.held) (is : done ≡ Err Memory)
           (settles : Settles state done between mid result c'.file c'.caches) where
         unput-cut : (result ≡ done) × (c'.file ≡ between)
@@ -402,11 +251,11 @@ module _ {S : Type 0} (state : S → StorageState) (table guest x : ℕ) (c c' :
         unput-never : result ≡ Ok tt → ⊥
         unput-never ok = let bad : Ok tt ≡ Err Memory = sym ok ∙ unput-cut.0 ∙ is in absurd cc
 
-        unput-progress : Progresses (result ≡ Ok tt) (naming m0 guest x) s0 m0 s2 m2
+        unput-progress : Progresses (result ≡ Ok tt) (naming_run m0 guest x n) s0 m0 s2 m2
         unput-progress =
-            subst (λ (f : ImageFile S). Progresses (result ≡ Ok tt) (naming m0 guest x) s0 m0 (state f.image) m2) (sym unput-cut.1)
-            (progresses-halted ⊤ (result ≡ Ok tt) (handing (λ _. 0) (λ _. 0)) (naming m0 guest x) s0 m0 s1 (found-as u.mid) m2
-            (wider-handing (λ _. 0) (λ _. 0) (naming m0 guest x)) (λ keeps sound ok. unput-never ok)
+            subst (λ (f : ImageFile S). Progresses (result ≡ Ok tt) (naming_run m0 guest x n) s0 m0 (state f.image) m2) (sym unput-cut.1)
+            (progresses-halted ⊤ (result ≡ Ok tt) (handing (λ _. 0) (λ _. 0)) (naming_run m0 guest x n) s0 m0 s1 (found-as u.mid) m2
+            (wider-handing (λ _. 0) (λ _. 0) (naming_run m0 guest x n)) (λ keeps sound ok. unput-never ok)
             (quiet-progresses ⊤ (λ _. 0) (λ _. 0) s0 m0 s1 (found-as u.mid) (λ sound d named. refl) (searched (Ok tt) u.mid u.found)))
 
         unput-begun : Begun
@@ -415,12 +264,9 @@ module _ {S : Type 0} (state : S → StorageState) (table guest x : ℕ) (c c' :
           later = u.found.going.later;
           faults = λ whole. u.found.going.faults tt;
           header = u.found.others.1;
-          room = record {
-            tables = ap (λ (k : MetadataCaches S). k.l2.slots.cap) u.left ∙ u.found.room.tables;
-            blocks = ap (λ (k : MetadataCaches S). k.rb.slots.cap) u.left ∙ u.found.room.blocks;
-          };
+          room = room-same;
           held = held;
-          reach = set-reach;
+          reach = λ whole. absurd (subst WasNotCutOff is whole);
           why = subst (λ r. IfErr r (WhyNotNamed Ready s0.faults s1.faults)) (sym is) tt;
           waits = λ ready ok. absurd (unput-never ok);
           progress = λ ready. unput-progress;
@@ -429,28 +275,148 @@ module _ {S : Type 0} (state : S → StorageState) (table guest x : ℕ) (c c' :
           bytes = λ ready ok. absurd (unput-never ok);
         }
 
-    -- Of the three calls.
-    module _ (some : x ≢ 0) (near : IsInReach c.file.header.fields.cluster_bits x) (allocator : c'.space.allocator ≡ c.space.allocator)
+      -- Its words were set.
+      module _ (held : c'.space.to_free.held ≡ c.space.to_free.held) (some : x ≢ 0)
+          (near : (d : ℕ) → d < n → IsInReach c.file.header.fields.cluster_bits (x + d))
+          (fits : guest % words_of_cluster c.file.header.fields + n ≤ words_of_cluster c.file.header.fields)
+          (names : NamesWords (guest % words_of_cluster c.file.header.fields) x n (listing u.table c.space.to_free) (listing u.table' c'.space.to_free))
+          (allocator : c'.space.allocator ≡ c.space.allocator) (is : done ≡ Ok tt)
+          (settles : Settles state done between mid result c'.file c'.caches) where
+        set-reach : Ready → AreTablesInReach (cached_in mid) × AreBlocksInReach (cached_in mid)
+        set-reach ready =
+            let bits : u.table'.layout.cluster_bits ≡ c.file.header.fields.cluster_bits =
+            ap (λ l. l.cluster_bits) (words-layout _ x n (listing u.table c.space.to_free) (listing u.table' c'.space.to_free) names)
+            ∙ ap (λ (t : TableValue). t.layout.cluster_bits) is-read in
+            subst (λ (k : Cached). AreTablesInReach k × AreBlocksInReach k) (sym left-alone)
+            (((λ modified. subst (λ b. IsInReach b table) (sym bits) (table-near m0 table (guest + 0) (x + 0) ready.0.sound (ready.1 0 any))), tt), tt)
+
+        module _ (ready : Ready) where
+          abbrev m1 : Metadata
+          m1 = metadata_of state between mid (table_of c'.space.allocator) c'.space.to_free.entries
+
+          -- the image with such a table cached alone, and such a list
+          abbrev cached-as : Listed → Metadata
+          cached-as = image m0 table guest x ready.0.sound some (order_of c.caches) u.table is-file's c.space.to_free
+
+          abbrev at-first : Metadata
+          at-first = cached-as (listing u.table c.space.to_free)
+
+          abbrev at-last : Metadata
+          at-last = cached-as (listing u.table' c'.space.to_free)
+
+          first-same : found-as u.mid ≡ at-first
+          first-same =
+              let alone : cached_in u.mid ≡ lone_table table u.table =
+              found-alone state table c.caches c.file rest u.mid between u.found ∙ ap (lone_table table) (sym is-read) in
+              λ k. record m0 { file = bytes-same k; cached = alone k; order = order_of c.caches }
+
+          last-same : at-last ≡ m1
+          last-same =
+              let header : c.file.header ≡ between.header = sym u.found.others.1 in
+              let order : order_of c.caches ≡ order_of mid = sym (ap order_of u.left ∙ u.found.others.0) in
+              let refcounts : table_of c.space.allocator ≡ table_of c'.space.allocator = ap table_of (sym allocator) in
+              λ k. record {
+                file = sym bytes-same k;
+                header = header k;
+                cached = sym left-alone k;
+                order = order k;
+                table = refcounts k;
+                pending = c'.space.to_free.entries;
+              }
+
+          first : IsSound at-first × IsQuiet (λ _. 0) (λ _. 0) m0 at-first
+          first = subst (λ (z : Metadata). IsSound z × IsQuiet (λ _. 0) (λ _. 0) m0 z) first-same
+              ((searched (Ok tt) u.mid u.found).holds ready.0.keeps ready.0.sound tt)
+
+          stood : Standing m0 table guest x ready.0.sound some (order_of c.caches) u.table is-file's c.space.to_free n n (listing u.table' c'.space.to_free)
+          stood = stands m0 table guest x ready.0.sound some (order_of c.caches) u.table is-file's c.space.to_free first.0 first.1 n ready.1 near fits n
+              (omega arith) (listing u.table' c'.space.to_free) names
+
+          set-sound : IsSound m1
+          set-sound = subst IsSound last-same stood.step.sound
+
+          settled : Quietly (WasNotCutOff result) (λ _. 0) (λ _. 0) s1 m1 s2 m2
+          settled = settles.quiet (table_of c'.space.allocator) c'.space.to_free.entries
+
+          last : result ≡ Ok tt → IsSound m2 × IsQuiet (λ _. 0) (λ _. 0) m1 m2
+          last ok = settled.holds (keeps_on s0 s1 u.found.going.shape ready.0.keeps) set-sound (subst WasNotCutOff (sym ok) tt)
+
+          -- The search, the words and what is written then, one behind the other.
+          set-progress : Progresses (result ≡ Ok tt) (naming_run m0 guest x n) s0 m0 s2 m2
+          set-progress =
+              let none : Kind = handing (λ _. 0) (λ _. 0) in
+              let wide : Kind = naming_run m0 guest x n in
+              let one = subst (λ (z : Metadata). Progresses ⊤ none s0 m0 s1 z) first-same
+              (quiet-progresses ⊤ (λ _. 0) (λ _. 0) s0 m0 s1 (found-as u.mid) (λ sound d named. refl) (searched (Ok tt) u.mid u.found)) in
+              let two = subst (Progresses ⊤ wide s1 at-first s1) last-same (progresses-in-memory ⊤ wide s1 at-first at-last (λ sound yes. stood.step)) in
+              let three = quiet-progresses (WasNotCutOff result) (λ _. 0) (λ _. 0) s1 m1 s2 m2 (λ sound d named. refl) settled in
+              let behind = progresses-then (WasNotCutOff result) ⊤ wide none s1 at-first s1 m1 s2 m2 tt two three in
+              let all = progresses-then (WasNotCutOff result) ⊤ none (both wide none) s0 m0 s1 at-first s2 m2 tt one behind in
+              progresses-weaker (WasNotCutOff result) (result ≡ Ok tt) (both none (both wide none)) wide s0 m0 s2 m2
+              (wider-both none (both wide none) wide (wider-handing (λ _. 0) (λ _. 0) wide)
+              (wider-both wide none wide (wider-same wide) (wider-handing (λ _. 0) (λ _. 0) wide)))
+              (λ ok. subst WasNotCutOff (sym ok) tt) (λ d. omega arith) (λ d. omega arith) all
+
+          set-l1 : result ≡ Ok tt → (l1 : TableValue) → IsL1Of m0.file c.file.header.fields l1 → IsL1Of m2.file c'.file.header.fields l1
+          set-l1 ok l1 of =
+              let both = last ok in
+              l1-stays m1.file m2.file m1.header m2.header l1 both.1.shows.moved both.1.shows.l1
+              (subst (λ (m : Metadata). IsL1Of m.file m.header.fields l1) last-same of)
+
+          set-named : result ≡ Ok tt → (d : ℕ) → d < n → entry m2.file c.file.header.fields (guest + d) ≡ data_at (x + d) true
+          set-named ok d less =
+              let both = last ok in
+              let same : entry (in_memory m2) m2.header.fields (guest + d) ≡ entry (in_memory m1) m1.header.fields (guest + d) =
+              quiet-entries m1 m2 (λ _. 0) (λ _. 0) set-sound both.0 both.1 (guest + d) in
+              let clean : in_memory m2 ≡ m2.file = clean-memory m2.file m2.header.fields nothing_cached tt tt in
+              ap (λ (b : Bytes). entry b c.file.header.fields (guest + d)) (sym clean)
+              ∙ ap (λ (H : Header). entry (in_memory m2) H.fields (guest + d)) (sym (settles.header ∙ u.found.others.1))
+              ∙ same
+              ∙ ap (λ (m : Metadata). entry (in_memory m) m.header.fields (guest + d)) (sym last-same)
+              ∙ stood.named d less
+
+          -- What is written then leaves what is used.
+          set-bytes : result ≡ Ok tt → (q : ℕ) → x ≤ q / cluster_size c.file.header.fields → q / cluster_size c.file.header.fields < x + n
+              → m2.file q ≡ m0.file q
+          set-bytes ok q low high =
+              let d : ℕ = q / cluster_size c.file.header.fields - x in
+              let at : x + d ≡ q / cluster_size c.file.header.fields = omega (arith, low) in
+              let quiet : IsQuiet (λ _. 0) (λ _. 0) at-last m2 = subst (λ m. IsQuiet (λ _. 0) (λ _. 0) m m2) (sym last-same) (last ok).1 in
+              let used : IsUsed at-last (q / cluster_size c.file.header.fields) = subst (IsUsed at-last) at
+              (data-used at-last stood.step.sound (guest + d) (x + d) true (stood.named d (omega (arith, low, high)))) in
+              in-cluster c.file.header.fields m0.file m2.file q (quiet.kept (q / cluster_size c.file.header.fields) used refl)
+
+        set-begun : Begun
+        set-begun = record {
+          shape = u.found.going.shape;
+          later = u.found.going.later;
+          faults = λ whole. u.found.going.faults tt;
+          header = u.found.others.1;
+          room = room-same;
+          held = held;
+          reach = λ whole. set-reach;
+          why = subst (λ r. IfErr r (WhyNotNamed Ready s0.faults s1.faults)) (sym is) tt;
+          waits = λ ready ok. (stood ready).waits;
+          progress = set-progress;
+          l1 = set-l1;
+          named = set-named;
+          bytes = set-bytes;
+        }
+
+    -- Of the two calls.
+    module _ (some : x ≢ 0) (near : (d : ℕ) → d < n → IsInReach c.file.header.fields.cluster_bits (x + d))
+        (fits : guest % words_of_cluster c.file.header.fields + n ≤ words_of_cluster c.file.header.fields)
+        (allocator : c'.space.allocator ≡ c.space.allocator) (held : c'.space.to_free.held ≡ c.space.to_free.held)
         (settles : Settles state done between mid result c'.file c'.caches) where
-      -- The table that is found is one of this image.
-      bits-same : (fault : Fault) (u : TableUsed state table (NamesIn c.file.header.fields.cluster_bits guest x) c.caches c.file (Err fault) mid between) → ⊥
-      bits-same fault u =
-          u.used.err.1 (ap (λ (t : TableValue). t.layout.cluster_bits) (used-read state table c.caches c.file rest u.mid between u.found u.table u.there))
+      begun-by : (named : Result Unit Fault) → done ≡ named → UsesTable state table Does c.caches c.file named mid between → Begun
+      begun-by named is (inl r) = refused-begun r.0 r.2 (is ∙ r.1) held settles
+      begun-by (Ok v) is (inr u) = set-begun (Ok v) u held some near fits u.used.ok.1 allocator is settles
+      begun-by (Err fault) is (inr u) = elim u.used.err [
+        | inl memory ↦ unput-begun (Err fault) u held (is ∙ ap (λ e. Err e) memory) settles
+        -- The table that is found is one of this image.
+        | inr damaged ↦ absurd (damaged.1 (ap (λ (t : TableValue). t.layout.cluster_bits)
+            (used-read state table c.caches c.file rest u.mid between u.found u.table u.there)))
+      ]
 
-      held-by : {list : FreeList} → c'.space.to_free ≡ list → c'.space.to_free.held ≡ list.held
-      held-by same = ap (λ (l : FreeList). l.held) same
-
-      begun-by : (named : Result (Option FreeEntry) Fault) → UsesTable state table (NamesIn c.file.header.fields.cluster_bits guest x) c.caches c.file named mid between
-          → PutsOff named c.space.to_free done c'.space.to_free → Begun
-      begun-by (Err fault) (inl r) puts =
-          let same : fault ≡ r.0 = cc r.1 in
-          refused-begun fault (subst (λ f. TableFound state table c.caches c.file (Err f) mid between) (sym same) r.2) puts.0 puts.1 settles
-      begun-by (Err fault) (inr u) puts = absurd (bits-same fault u)
-      begun-by (Ok before) (inl r) puts = absurd (let is = r.1 in cc)
-      begun-by (Ok None) (inr u) puts = set-begun some near None u (held-by puts.1) puts.0 (ap (λ (l : FreeList). l.entries) puts.1 ∙ sym (append-nil c.space.to_free.entries)) allocator settles
-      begun-by (Ok (Some e)) (inr u) (inl puts) = set-begun some near (Some e) u (held-by puts.1) puts.0 (ap (λ (l : FreeList). l.entries) puts.1) allocator settles
-      begun-by (Ok (Some e)) (inr u) (inr puts) = unput-begun some near (Some e) u (held-by puts.1) puts.0 settles
-
-      pub names-by : (named : Result (Option FreeEntry) Fault) → UsesTable state table (NamesIn c.file.header.fields.cluster_bits guest x) c.caches c.file named mid between
-          → PutsOff named c.space.to_free done c'.space.to_free → Names state table guest x c result c'
-      names-by named used puts = names-begun settles (begun-by named used puts)
+      pub names-by : UsesTable state table Does c.caches c.file done mid between → NamesRun state table guest x n c result c'
+      names-by used = names-begun settles (begun-by done refl used)

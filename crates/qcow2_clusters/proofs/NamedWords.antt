@@ -15,7 +15,7 @@ use Rattle.qcow2_types.specs.Pending.{FreeEntry}
 use Rattle.qcow2_types.specs.References.{meets, of_mapping, refs}
 use Rattle.qcow2_types.specs.Slots.{slot}
 use Rattle.qcow2_types.specs.Words.{Mapping, data_at, is_damaged, mapping_of, max_offset, zeroes}
-use Rattle.qcow2_types.proofs.Consistent.{consistent-shaped, meets-own, some-words}
+use Rattle.qcow2_types.proofs.Consistent.{consistent-shaped, meets-other, meets-own, some-words}
 use Rattle.qcow2_types.proofs.Either.{refs-cached}
 use Rattle.qcow2_types.proofs.Shows.{guest-slot-there}
 use Rattle.qcow2_types.proofs.Sound.{sound-words}
@@ -146,7 +146,7 @@ kept-newly x c = rw (own-just x) (none (c == x)) where
   none false = refl
 
 -- Nothing is done to an image.
-idle : (m : Metadata) → IsSound m → AdvancesBy (handing (λ _. 0) (λ _. 0)) m m
+pub idle : (m : Metadata) → IsSound m → AdvancesBy (handing (λ _. 0) (λ _. 0)) m m
 idle m sound = record {
   sound = sound;
   header = header-same m.header;
@@ -196,6 +196,7 @@ pub record WordNamed (m : Metadata) (guest x : ℕ) (old : Mapping) (before : Op
   pub used : IsUsed set x
   pub owed : (c : ℕ) → referenced set c + waiting set c + holds c before ≤ counted set c
   pub spared : holds x before ≡ 0
+  pub spares : (c : ℕ) → c ≢ x → named_at_all found c ≡ 0 → holds c before ≡ 0
 
 -- It is found, over a file that is the same, and its word comes to name the cluster.
 module _ (m : Metadata) (table guest x : ℕ) (sound : IsSound m) (able : IsNameable m table guest x) (some : x ≢ 0) (near : IsInReach m.header.fields.cluster_bits x)
@@ -286,6 +287,12 @@ module _ (m : Metadata) (table guest x : ℕ) (sound : IsSound m) (able : IsName
             let counts = names.changed.written.counts c in
             omega (arith, owed, all, counts);
         spared = back x ∙ unnamed;
+        spares = λ c apart none.
+            let all = back c in
+            let moved = names.changed.references c in
+            let other : of_mapping m.header.fields (meets m.header.fields c) (data_at x true) ≡ 0 = meets-other m.header.fields c x (λ e. apart (sym e)) in
+            let least : refs (in_memory found) m.header.fields c ≤ named_at_all found c = refs-cached y (in_memory found) m.header.fields c (places-there found sound') in
+            omega (arith, all, moved, other, least, none);
       }
 
     -- The guest cluster kept it for its zeroes.
@@ -314,6 +321,7 @@ module _ (m : Metadata) (table guest x : ℕ) (sound : IsSound m) (able : IsName
         used = used-after found i' j' (zeroes (Some x) true) cached' (data_at x true) drops.changed x (kept-used found guest x sound' kept);
         owed = λ c. let covered = kept-step.sound.covered c in omega (arith, covered);
         spared = refl;
+        spares = λ c apart none. refl;
       }
 
       pub kept-named-by : (before : Option FreeEntry) → before ≡ freed (replaced x (allocation_of m.header.fields.cluster_bits (mapping_in t j')))

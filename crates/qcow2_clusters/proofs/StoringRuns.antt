@@ -2,7 +2,7 @@
 use Rattle.std.proofs.Common.{◌≡◌, ℕ, ◌+◌, ◌-◌, ◌*◌, ◌<◌, ◌≤◌, refl, arith, ap, sym, subst, ◌∙◌, inl, inr, List, length, Result, Ok, Err, false}
 use Rattle.std.specs.Prelude.{⊤, slice_index}
 use Rattle.std.proofs.lemmas.Bool.{cases_lt}
-use Rattle.std.proofs.Math.Nat.{add-mul}
+use Rattle.std.proofs.Math.Nat.{add-mul, mul-le-mul_right}
 use Rattle.imago_storage.specs.State.{StorageState}
 use Rattle.imago_storage.specs.Calls.{Cause, Spliced}
 use Rattle.imago_storage.specs.Through.{Put}
@@ -34,6 +34,12 @@ use Rattle.qcow2_clusters.specs.Storing.{AreReserved, StoresRunUnsettled, WhyNot
 use Rattle.qcow2_clusters.proofs.AllocatingRuns.{run-leaves, run-named, run-quietly-handed, run-reserved, run-room, run-size, run-unpinned, run-unused}
 use Rattle.qcow2_clusters.proofs.Ending.{begun, quiet-halted}
 use Rattle.qcow2_clusters.proofs.LeavingRoom.{leaves-as}
+
+-- The content of one cluster fits several.
+pub whole-fits : (content : List ℕ) (n size : ℕ) → 0 < n → length content ≡ size → length content ≤ n * size
+whole-fits content n size some whole =
+    let le : 1 * size ≤ n * size = mul-le-mul_right size (omega (arith, some)) in
+    omega (arith, whole, le)
 
 -- why it couldn't be written
 why-written : (ready : Type 0) (full : ℕ → Type 0) (before mid after : ℕ) → before ≤ mid → (fault : Fault) → Cause mid after fault

@@ -1,13 +1,12 @@
--- How a guest cluster comes to name a cluster that was reserved, or that it kept for its zeroes.
-use Rattle.std.specs.Prelude.{◌≡◌, ◌≢◌, ◌⊎◌, ⊤, ◌+◌, ◌*◌, ◌/◌, ◌%◌, ◌^◌, ◌<◌, ℕ, List, [], ◌∷◌, ◌++◌}
-use Rattle.std.specs.Prelude.{Option, Some, None, Result, Ok, Err, OnOk, IfOk, IfErr, true}
+-- How guest clusters in a row come to name clusters in a row that were reserved, or that they kept for their zeroes.
+use Rattle.std.specs.Prelude.{◌≡◌, ◌≢◌, ◌⊎◌, ⊤, ◌+◌, ◌*◌, ◌/◌, ◌%◌, ◌^◌, ◌<◌, ◌≤◌, ℕ, zero, suc, List, [], ◌∷◌, ◌++◌}
+use Rattle.std.specs.Prelude.{Option, Some, None, Result, Ok, Err, OnOk, IfErr, true}
 use Rattle.imago_storage.specs.State.{StorageState, Rose}
 use Rattle.imago_storage.specs.declared.fault.Fault.{Fault}
 use Rattle.imago_storage.specs.declared.fault.Fault.TheVariants.{DamagedTable, Memory, Storage}
 use Rattle.qcow2_types.specs.Entries.{entry, l2_table}
 use Rattle.qcow2_types.specs.Header.{cluster_size, words_of_cluster}
 use Rattle.qcow2_types.specs.Pending.{FreeEntry}
-use Rattle.qcow2_types.specs.Places.{l2_entries}
 use Rattle.qcow2_types.specs.Words.{Mapping, data_at, mapping_of, zeroes}
 use Rattle.qcow2_types.specs.Words as words
 use Rattle.qcow2_metadata.specs.Allocations.{Conserves, allocation_of, freed, holds, newly, replaced}
@@ -16,7 +15,7 @@ use Rattle.qcow2_alloc.specs.FreeList.{FreeList}
 use Rattle.qcow2_alloc.specs.Quiet.{Metadata}
 use Rattle.qcow2_steps.specs.Data.{IsKeptFor}
 use Rattle.qcow2_steps.specs.Words.{GivesWord, IsOfWord, IsReserved}
-use Rattle.qcow2_clusters.specs.Progress.{Kind, Progresses}
+use Rattle.qcow2_clusters.specs.Progress.{Kind, Progresses, both, handing}
 use Rattle.qcow2_clusters.specs.Rest.{Clusters, IsReady, KeepsL1, resting, storage}
 use Rattle.qcow2_clusters.specs.Storing.{Rests}
 
@@ -37,21 +36,50 @@ pub record IsNameable (m : Metadata) (table guest x : ℕ) : Type 0 where
   pub under : IsUnder m table guest
   pub own : IsReserved m x ⊎ IsKeptFor m guest x
 
--- The word of a guest cluster names a cluster in a table, which answers what it named before; or the table is for clusters of another size.
-pub record NamesIn (bits guest x : ℕ) (table : TableValue) (result : Result (Option FreeEntry) Fault) (table' : TableValue) : Type 0 where
-  pub ok : IfOk result (λ named. (table.layout.cluster_bits ≡ bits)
-      × (table' ≡ with_word table (guest % l2_entries bits) (2 ^ 63 + x * 2 ^ bits))
-      × (named ≡ freed (replaced x (allocation_of bits (mapping_in table (guest % l2_entries bits)))))
-      × Conserves bits (mapping_in table (guest % l2_entries bits)) (mapping_of table.layout (2 ^ 63 + x * 2 ^ bits)) named
-      (newly x (allocation_of bits (mapping_in table (guest % l2_entries bits)))))
-  pub err : IfErr result (λ fault. (fault ≡ DamagedTable) × (table.layout.cluster_bits ≢ bits) × (table' ≡ table))
+-- Each of n guest clusters in a row can come to name the one of n clusters in a row that lies as far behind x.
+abbrev pub AreNameable : ℕ → Metadata → (table guest x : ℕ) → Type 0
+AreNameable n m table guest x = (d : ℕ) → d < n → IsNameable m table (guest + d) (x + d)
 
--- What a word named is put among what waits to be freed, if it named anything; the call is refused as it was before, or for want of memory.
-abbrev pub PutsOff : Result (Option FreeEntry) Fault → FreeList → Result Unit Fault → FreeList → Type 0
-PutsOff (Ok (Some entry)) list result list' = ((result ≡ Ok tt) × (list' ≡ record list { entries = list.entries ++ entry ∷ [] }))
+-- an L2 table, and the list of clusters to free
+pub record Listed : Type 0 where
+  pub table : TableValue
+  pub list : FreeList
+
+abbrev pub listing : TableValue → FreeList → Listed
+listing table list = record { table = table; list = list }
+
+-- the clusters of an entry, if there is one, as a list
+abbrev pub listed_of : Option FreeEntry → List FreeEntry
+listed_of None = []
+listed_of (Some entry) = entry ∷ []
+
+-- what the word at an index of a table gives up where it comes to take cluster x
+abbrev pub given_in : TableValue → (index x : ℕ) → Option FreeEntry
+given_in table index x = freed (replaced x (allocation_of table.layout.cluster_bits (mapping_in table index)))
+
+-- What a word named is put among what waits to be freed, if it named anything, or there is no memory for that.
+abbrev pub PutsOff : Option FreeEntry → FreeList → Result Unit Fault → FreeList → Type 0
+PutsOff (Some entry) list result list' = ((result ≡ Ok tt) × (list' ≡ record list { entries = list.entries ++ entry ∷ [] }))
     ⊎ ((result ≡ Err Memory) × (list' ≡ list))
-PutsOff (Ok None) list result list' = (result ≡ Ok tt) × (list' ≡ list)
-PutsOff (Err fault) list result list' = (result ≡ Err fault) × (list' ≡ list)
+PutsOff None list result list' = (result ≡ Ok tt) × (list' ≡ list)
+
+-- The word at an index of a table names a cluster, and what it named before waits to be freed.
+pub record NamesWord (index x : ℕ) (old new : Listed) : Type 0 where
+  pub set : new.table ≡ with_word old.table index (2 ^ 63 + x * 2 ^ old.table.layout.cluster_bits)
+  pub put : new.list ≡ record old.list { entries = old.list.entries ++ listed_of (given_in old.table index x) }
+  pub conserved : Conserves old.table.layout.cluster_bits (mapping_in old.table index)
+      (mapping_of old.table.layout (2 ^ 63 + x * 2 ^ old.table.layout.cluster_bits)) (given_in old.table index x)
+      (newly x (allocation_of old.table.layout.cluster_bits (mapping_in old.table index)))
+
+-- So do the n words from an index on name n clusters in a row.
+unfoldable pub NamesWords : (index x n : ℕ) → Listed → Listed → Type 0
+NamesWords index x zero old new = new ≡ old
+NamesWords index x (suc n) old new = (between : Listed) × NamesWords index x n old between × NamesWord (index + n) (x + n) between new
+
+-- They do, or the table is for clusters of another size, or there is no memory to have something wait.
+pub record NamesIn (bits index x n : ℕ) (old : Listed) (result : Result Unit Fault) (new : Listed) : Type 0 where
+  pub ok : OnOk result ((old.table.layout.cluster_bits ≡ bits) × NamesWords index x n old new)
+  pub err : IfErr result (λ fault. (fault ≡ Memory) ⊎ ((fault ≡ DamagedTable) × (old.table.layout.cluster_bits ≢ bits)))
 
 -- what the word of a guest cluster takes
 abbrev pub taken_before : Metadata → (guest : ℕ) → Option (ℕ × ℕ)
@@ -72,10 +100,15 @@ naming m guest x = let i = guest / words_of_cluster m.header.fields in let j = g
   taken = λ c. newly x (taken_before m guest) c + holds c (given_for m guest x);
 }
 
--- the clusters of an entry, if there is one, as a list
-abbrev pub listed_of : Option FreeEntry → List FreeEntry
-listed_of None = []
-listed_of (Some entry) = entry ∷ []
+-- What n guest clusters in a row give up for n clusters in a row from x on, one behind the other,
+unfoldable pub given_for_run : Metadata → (guest x n : ℕ) → List FreeEntry
+given_for_run m guest x zero = []
+given_for_run m guest x (suc n) = given_for_run m guest x n ++ listed_of (given_for m (guest + n) (x + n))
+
+-- and what is given, set, handed out and taken where they come to be named.
+unfoldable pub naming_run : Metadata → (guest x n : ℕ) → Kind
+naming_run m guest x zero = handing (λ _. 0) (λ _. 0)
+naming_run m guest x (suc n) = both (naming_run m guest x n) (naming m (guest + n) (x + n))
 
 -- Why it can't be: for want of memory or by a storage that failed; as a damaged table only where the image isn't as it has to be.
 abbrev pub WhyNotNamed : (ready : Type 0) → (before after : ℕ) → Fault → Type 0
@@ -84,7 +117,26 @@ WhyNotNamed ready before after Storage = Rose before after
 WhyNotNamed ready before after DamagedTable = ready → ⊥
 WhyNotNamed ready before after fault = ⊥
 
--- A guest cluster comes to name a cluster as its data, as copied, whose bytes stay what they were.
+-- Each of n guest clusters in a row comes to name its own of n clusters in a row as its data, as copied. Their bytes stay what they were.
+pub record NamesRun {S : Type 0} (state : S → StorageState) (table guest x n : ℕ) (c : Clusters S) (result : Result Unit Fault)
+    (c' : Clusters S) : Type 0 where
+  pub progress : AreNameable n (resting state c) table guest x → Progresses (result ≡ Ok tt)
+      (naming_run (resting state c) guest x n) (storage state c) (resting state c) (storage state c') (resting state c')
+  pub rests : Rests state c result c'
+  pub header : c'.file.header ≡ c.file.header
+  pub held : c'.space.to_free.held ≡ c.space.to_free.held
+  pub l1 : AreNameable n (resting state c) table guest x → KeepsL1 state c result c'
+  pub waits : IsReady state c → AreNameable n (resting state c) table guest x
+      → OnOk result (c'.space.to_free.entries ≡ c.space.to_free.entries ++ given_for_run (resting state c) guest x n)
+  pub named : IsReady state c → AreNameable n (resting state c) table guest x
+      → OnOk result ((d : ℕ) → d < n → entry (resting state c').file c.file.header.fields (guest + d) ≡ data_at (x + d) true)
+  pub bytes : IsReady state c → AreNameable n (resting state c) table guest x
+      → OnOk result ((q : ℕ) → x ≤ q / cluster_size c.file.header.fields → q / cluster_size c.file.header.fields < x + n
+      → (resting state c').file q ≡ (resting state c).file q)
+  pub cause : IfErr result (WhyNotNamed (IsReady state c × AreNameable n (resting state c) table guest x)
+      (storage state c).faults (storage state c').faults)
+
+-- The same of one guest cluster.
 pub record Names {S : Type 0} (state : S → StorageState) (table guest x : ℕ) (c : Clusters S) (result : Result Unit Fault)
     (c' : Clusters S) : Type 0 where
   pub progress : IsNameable (resting state c) table guest x → Progresses (result ≡ Ok tt)

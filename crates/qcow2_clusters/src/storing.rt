@@ -30,22 +30,24 @@ pub(crate) fn write_cluster<S: Storage>(
     file.image.write(alloc, content, place.0)
 }
 
-// Writes the content of a guest cluster to a host cluster that it allocates.
+// Writes the content of a guest cluster to the first of host clusters in a row that it allocates.
 fn allocate_and_write<S: Storage>(
     alloc: Global,
     file: &mut ImageFile<S>,
     caches: &mut MetadataCaches<S>,
     space: &mut Space,
     content: &[u8],
+    count: ClusterCount,
 ) -> Result<HostCluster, Fault>
     requires rest { AreEmpty caches.old }
     requires room { HasEntries caches.old }
     requires whole { length content.now ≡ cluster_size file.old.header.fields }
-    ensures { StoresRunUnsettled S.state 1 content.now (lent file.old caches.old space.old) result (lent file.new caches.new space.new) }
+    requires any { 0 < count }
+    ensures { StoresRunUnsettled S.state count content.now (lent file.old caches.old space.old) result (lent file.new caches.new space.new) }
 {
     match space
         .allocator
-        .allocate_clusters(file, caches, &mut space.to_free, ClusterCount(1), false)
+        .allocate_clusters(file, caches, &mut space.to_free, count, false)
     {
         Ok(pending) => {
             let cluster = pending.cluster();
@@ -88,12 +90,32 @@ pub(crate) fn settle_stored<S: Storage>(
     }
 }
 
-/// Stores the content of a guest cluster in a host cluster that was free, which nothing names yet. Room is held for it then on the list of
-/// clusters to free, as `ClustersToFreeList::hold` does. Nothing may be cached before, and nothing is then.
+/// Stores the content of a guest cluster in the first of host clusters in a row that were free, which nothing names yet. What stands in the
+/// others is what did. Room is held for them then on the list of clusters to free, as `ClustersToFreeList::hold` does. Nothing may be cached
+/// before, and nothing is then.
 ///
-/// It refuses with `Fault::Limit` only where a sixteenth of the space and three clusters weren't free in a row as the call began, and tells
-/// why the first free cluster that there is by then can't be taken, as `Allocator::allocate_clusters` does; with `Fault::Memory` and
-/// `Fault::Storage`; and with `Fault::Counter` and `Fault::DamagedTable`, which no sound image has. No room is held then.
+/// It refuses with `Fault::Limit` only where a sixteenth of the space and three times as many clusters weren't free in a row as the call
+/// began, and tells why the first such run that is free by then can't be taken, as `Allocator::allocate_clusters` does; with `Fault::Memory`
+/// and `Fault::Storage`; and with `Fault::Counter` and `Fault::DamagedTable`, which no sound image has. No room is held then.
+pub fn store_run<S: Storage>(
+    alloc: Global,
+    file: &mut ImageFile<S>,
+    caches: &mut MetadataCaches<S>,
+    space: &mut Space,
+    content: &[u8],
+    count: ClusterCount,
+) -> Result<HostCluster, Fault>
+    requires rest { AreEmpty caches.old }
+    requires room { HasEntries caches.old }
+    requires whole { length content.now ≡ cluster_size file.old.header.fields }
+    requires any { 0 < count }
+    ensures { StoresRun S.state count content.now (lent file.old caches.old space.old) result (lent file.new caches.new space.new) }
+{
+    let stored = allocate_and_write(alloc, file, caches, space, content, count);
+    settle_stored(file, caches, space, stored)
+}
+
+/// Stores the content of a guest cluster in a host cluster that was free, as `store_run` does of one, and refuses as that does.
 pub fn store<S: Storage>(
     alloc: Global,
     file: &mut ImageFile<S>,
@@ -106,6 +128,5 @@ pub fn store<S: Storage>(
     requires whole { length content.now ≡ cluster_size file.old.header.fields }
     ensures { Stores S.state content.now (lent file.old caches.old space.old) result (lent file.new caches.new space.new) }
 {
-    let stored = allocate_and_write(alloc, file, caches, space, content);
-    settle_stored(file, caches, space, stored)
+    store_run(alloc, file, caches, space, content, ClusterCount(1))
 }
