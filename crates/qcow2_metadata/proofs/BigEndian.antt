@@ -7,6 +7,8 @@ use Rattle.std.proofs.lemmas.List.{length-take, length-append, length-drop, take
 use Rattle.std.proofs.lemmas.Int.Digits.{number_push}
 use Rattle.std.proofs.Math.Nat.{pow-le-pow_right, pow-suc}
 use Rattle.std.proofs.lemmas.Nat.{pow-add}
+use Rattle.std.specs.Int.{w64, from_be_bytes}
+use Rattle.qcow2_types.specs.Bytes.{Bytes, be}
 use Rattle.qcow2_metadata.specs.Cells.{big_endian}
 
 pub all_bytes : (bytes : List ℕ) → ((i : ℕ) → get_or bytes i 0 < 256) → AllBelowBase 256 bytes
@@ -48,3 +50,10 @@ bytes_as_bits zero = refl
 bytes_as_bits (suc n) =
     let more : 2 ^ (8 * suc n) ≡ 2 ^ (8 * n) * 2 ^ 8 = ap (λ (k : ℕ). 2 ^ k) (omega arith) ∙ pow-add 2 (8 * n) 8 in
     omega (arith, pow-suc 256 n, bytes_as_bits n, more)
+
+-- eight bytes spell the number that they represent as an array
+pub eight_bytes : (f : Bytes) (i : ℕ) → from_be_bytes w64 (f i ∷ f (i + 1) ∷ f (i + 2) ∷ f (i + 3) ∷ f (i + 4) ∷ f (i + 5) ∷ f (i + 6) ∷ f (i + 7) ∷ []) ≡ be f i 8
+unfolding be
+eight_bytes f i =
+    let first : i + 0 ≡ i = omega arith in
+    rw first (omega arith)

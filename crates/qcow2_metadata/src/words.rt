@@ -18,6 +18,27 @@ pub fn word_at(bytes: &[u8], at: usize) -> u64
     requires { at + 8 < 2 ^ 64 }
     ensures { result ≡ be (bytes_of bytes.now) at 8 }
 {
+    if at + 8 <= bytes.len() {
+        u64::from_be_bytes([
+            bytes[at],
+            bytes[at + 1],
+            bytes[at + 2],
+            bytes[at + 3],
+            bytes[at + 4],
+            bytes[at + 5],
+            bytes[at + 6],
+            bytes[at + 7],
+        ])
+    } else {
+        word_at_end(bytes, at)
+    }
+}
+
+/// The same, of a word that may pass the end.
+fn word_at_end(bytes: &[u8], at: usize) -> u64
+    requires { at + 8 < 2 ^ 64 }
+    ensures { result ≡ be (bytes_of bytes.now) at 8 }
+{
     let mut number = 0u64;
     for i in 0..8usize {
         number = number << 8 | u64::from(byte_at(bytes, at + i));
