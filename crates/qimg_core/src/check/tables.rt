@@ -109,7 +109,7 @@ pub fn places_of<S: Storage>(
     let mut blocks = block_places(alloc, image, header)?;
     let end = blocks_end(&blocks);
     blocks.truncate(end);
-    // else a table of few blocks has room for a whole cluster's words, as long as the image is checked
+    // It had a place for each word of the table, and would keep that room while the image is checked.
     blocks.shrink_to_fit();
     Ok(Places { tables, blocks })
 }
