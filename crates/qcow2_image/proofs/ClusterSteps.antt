@@ -50,7 +50,7 @@ use Rattle.qcow2_image.specs.KeepsDisk.{KeepsDisk, KeepsDiskWhere}
 use Rattle.qcow2_image.specs.Leaking.{KeepsLeaks, KeepsLeaksBut}
 use Rattle.qcow2_clusters.proofs.LengtheningL1.{padded-long}
 use Rattle.qcow2_image.specs.FreeSpace.{HasNoPlace, IsFull, LeavesFree, enough_for_one, enough_for_table, enough_for_word, searched_from}
-use Rattle.qcow2_image.proofs.FreeRuns.{full-behind, full-in-run, full-more, leaves-in-run, leaves-more, leaves-none, leaves-then, run-fewer, run-same, safe-short, some-enough, why-full}
+use Rattle.qcow2_image.proofs.FreeRuns.{few-longer, full-behind, full-in-run, full-more, leaves-in-run, leaves-more, leaves-none, leaves-then, run-fewer, run-same, safe-short, some-enough, why-full}
 use Rattle.qcow2_image.specs.Looking.{place_of_table}
 use Rattle.qcow2_image.specs.Rooms.{IsSafe, rest_of}
 use Rattle.qcow2_image.specs.Seen.{file_of}
@@ -338,7 +338,7 @@ module _ {S : Type 0} (g : Ghosts S) (old : Qcow2 S g) (mid : Tables S g) (space
         (IsFull g (enough_for_one old.tables) old.tables mid)
         (g.state old.tables.file.image).faults (g.state mid.file.image).faults e
         (ready g old mid space space' caches result there there' stores.rests) refl refl
-        (λ number safe full. full-in-run g old.tables mid space space' there there' 1 number full)) stores.cause;
+        (λ number safe full. full-in-run g old.tables mid space space' there there' 1 number (omega arith) full)) stores.cause;
   }
 
 -- Bytes were written to the cluster that a guest cluster keeps for its zeroes.
@@ -582,7 +582,7 @@ module _ {S : Type 0} (g : Ghosts S) (old : Qcow2 S g) (mid : Tables S g) (space
       → HasNoPlace g (guest / words_of_cluster was) (enough_for_one old.tables) old.tables mid number
   no-place number safe full = inr (
     safe-short g old (guest / words_of_cluster was) safe (row-inside safe),
-    full-in-run g old.tables mid space space' there there' 1 number full,
+    full-in-run g old.tables mid space space' there there' 1 number (omega arith) full,
   )
 
   pub made : EnsuresTable g (enough_for_one old.tables) guest old result made_now
@@ -784,11 +784,14 @@ module _ {S : Type 0} (g : Ghosts S) (old : Qcow2 S g) (mid : Tables S g) (space
       let all : length mid.l1.words ≡ max (length words) (i + 1) = ap length is ∙ padded-long words (max (length words) (i + 1)) (le-max_left (length words) (i + 1)) in
       omega (arith, more, all)
 
-  no-word : (number : ℕ) → IsTooLong g.state old.tables.l1 i (lent old.tables.file caches space) (lent mid.file mid.caches space') number
+  no-word : (number : ℕ) → IsSafe g old → IsTooLong g.state old.tables.l1 i (lent old.tables.file caches space) (lent mid.file mid.caches space') number
       → HasNoPlace g i (enough_for_word old.tables i) old.tables mid number
-  no-word number (inl far) = inl far
-  no-word number (inr (near, full)) =
-      inr (near, full-in-run g old.tables mid space space' there there' (l1_clusters old.tables.file.header.fields old.tables.l1 i) number full)
+  no-word number safe (inl far) = inl far
+  no-word number safe (inr (near, full)) = inr (
+    near,
+    full-in-run g old.tables mid space space' there there' (l1_clusters old.tables.file.header.fields old.tables.l1 i) number
+        (few-longer g old i safe near) full,
+  )
 
   pub lengthened : (result : Result Unit Fault) → Longer result → EnsuresWord g i old result (with_l1 result)
   lengthened (Ok done) longer = record {
@@ -814,7 +817,7 @@ module _ {S : Type 0} (g : Ghosts S) (old : Qcow2 S g) (mid : Tables S g) (space
         (IsTooLong g.state old.tables.l1 i (lent old.tables.file caches space) (lent mid.file mid.caches space'))
         (HasNoPlace g i (enough_for_word old.tables i) old.tables mid)
         (g.state old.tables.file.image).faults (g.state mid.file.image).faults fault (λ safe. (longer-ready safe, safe.seen.l1)) refl refl
-        (λ number safe full. no-word number full) longer.cause;
+        no-word longer.cause;
   }
 
 -- There was a word.

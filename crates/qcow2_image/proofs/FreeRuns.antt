@@ -83,10 +83,10 @@ module _ {S : Type 0} (g : Ghosts S) where
       left = λ total some run. rest-in-run new free' there' total (leaves.left total some (run-in-rest old free there (taken + total) run));
     }
 
-    pub full-in-run : (n number : ℕ)
+    pub full-in-run : (n number : ℕ) → n ≤ 2 ^ 16
         → room.IsFull n (rest_of g old free) (mark_of free.allocator) (rest_of g new free') (mark_of free'.allocator) number
         → IsFull g (room_for old.file.header.fields n) old new number
-    full-in-run n number full = record {
+    full-in-run n number few full = record {
       crowded = λ run.
           let there = run-in-rest old free there (room_for old.file.header.fields n) run in
           full.crowded record {
@@ -100,6 +100,7 @@ module _ {S : Type 0} (g : Ghosts S) where
       free = free';
       there = there';
       asked = n;
+      few = few;
       told = full.told;
     }
 
@@ -128,6 +129,7 @@ module _ {S : Type 0} (g : Ghosts S) where
     free = full.free;
     there = full.there;
     asked = full.asked;
+    few = full.few;
     told = full.told;
   }
 
@@ -137,6 +139,7 @@ module _ {S : Type 0} (g : Ghosts S) where
     free = full.free;
     there = full.there;
     asked = full.asked;
+    few = full.few;
     told = full.told;
   }
 
@@ -147,6 +150,7 @@ module _ {S : Type 0} (g : Ghosts S) where
     free = full.free;
     there = full.there;
     asked = full.asked;
+    few = full.few;
     told = full.told;
   }
 
@@ -198,16 +202,21 @@ module _ {S : Type 0} (g : Ghosts S) where
     | inr least ↦ least
   ]
 
+  pub few-longer : (d : Qcow2 S g) (i : ℕ) → IsSafe g d → i + 1 ≤ 2 ^ 22 → l1_clusters d.tables.file.header.fields d.tables.l1 i ≤ 2 ^ 16
+  few-longer d i safe near =
+      let h : Fields = d.tables.file.header.fields in
+      let few = safe-few d safe in
+      let long = top-long (file_of g d.tables) h d.tables.l1 safe.seen.l1 in
+      few-clusters h (max (length d.tables.l1.words) (i + 1)) (least-cluster false (file_of g d.tables) d.tables.file.header safe.seen.loads)
+      (omega (arith, few, long, near))
+
   -- So a quarter of the space is enough for it, an L2 table and a cluster.
   pub quarter-enough : (d : Qcow2 S g) (guest : ℕ) → IsSafe g d → guest / words_of_cluster d.tables.file.header.fields + 1 ≤ 2 ^ 22
       → enough_for_table d.tables guest + enough_for_one d.tables ≤ space d.tables.file.header.fields / 4
   quarter-enough d guest safe near =
       let h : Fields = d.tables.file.header.fields in
       let i : ℕ = guest / words_of_cluster d.tables.file.header.fields in
-      let few = safe-few d safe in
-      let long = top-long (file_of g d.tables) h d.tables.l1 safe.seen.l1 in
-      let words : max (length d.tables.l1.words) (i + 1) ≤ 2 ^ 22 = omega (arith, few, long, near) in
-      let taken = few-clusters h (max (length d.tables.l1.words) (i + 1)) (least-cluster false (file_of g d.tables) d.tables.file.header safe.seen.loads) words in
+      let taken = few-longer d i safe near in
       let large = space-large d safe in
       let low : space h / 16 * 16 ≤ space h = div-mul-le_self (space h) 16 in
       let high : space h < space h / 16 * 16 + 16 = lt-div-mul-add (omega arith) in

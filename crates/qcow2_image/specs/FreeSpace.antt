@@ -39,12 +39,14 @@ enough_for_word t i = let h = t.file.header.fields in room_for h (l1_clusters h 
 abbrev pub enough_for_table : {S : Type 0} {g : Ghosts S} → Tables S g → (guest : ℕ) → ℕ
 enough_for_table t guest = enough_for_word t (guest / words_of_cluster t.file.header.fields) + enough_for_one t
 
--- There was no free run of so many clusters, and a number tells why the first one of as many as were asked for can't be taken.
+-- There was no free run of so many clusters, and a number tells why the first one of as many as were asked for, at most 2^16, can't be
+-- taken.
 pub record IsFull {S : Type 0} (g : Ghosts S) (enough : ℕ) (old new : Tables S g) (number : ℕ) : Type 0 where
   pub crowded : HasFreeRun g old enough → ⊥
   pub free : Space
   pub there : new.space ≡ Some free
   pub asked : ℕ
+  pub few : asked ≤ 2 ^ 16
   pub told : IsRunTold (rest_of g new free) (mark_of free.allocator) asked number
 
 -- There is no place for what comes to be under word i of the L1 table: that would have more than 2^22 words, so many; or there was no free
