@@ -25,5 +25,6 @@ mod ScriptReading
 mod ScriptRunLemmas
 mod ScriptSpelling
 mod SeenThrough
+mod Snapshots
 mod StatelessDrivers
 mod TakingFiles

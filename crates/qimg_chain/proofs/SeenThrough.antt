@@ -10,6 +10,7 @@ use Rattle.imago_access.specs.declared.seen.Seen.{Ghosts}
 use Rattle.imago_access.specs.declared.format.Format.{Format}
 use Rattle.imago_access.specs.Building.{IsOpened}
 use Rattle.imago_access.specs.Layer.{Layer}
+use Rattle.imago_access.specs.FileReads.{FilesRead}
 use Rattle.imago_access.specs.Files.{files}
 use Rattle.imago_access.specs.Going.{AtOnce, IsKnown, IsSpared, IsUnchanged, Looked, Marks, MarksOver, Went}
 use Rattle.imago_access.specs.Room.{LeavesRoom}
@@ -144,6 +145,19 @@ module _ {D E St Su : Type 0} {f : D → E} {h : Ghosts E Su} {g : Ghosts D St} 
 
   pub went : (ok whole : Type 0) → Went (through f h g) ok whole a b → Went h ok whole (f a) (f b)
   went ok whole w = record { fixed = w.fixed; failed = w.failed; later = w.later; faults = w.faults; safely = w.safely; lasting = w.lasting }
+
+  pub read : (whole : Type 0) → FilesRead (through f h g) whole a b → FilesRead h whole (f a) (f b)
+  read whole r = record {
+    layer = r.layer;
+    kept = r.kept;
+    faults = r.faults;
+    seen = r.seen;
+    safely = r.safely;
+    stilled = r.stilled;
+    lasting = r.lasting;
+    room = λ safe. leaves _ _ (r.room safe);
+    began = on r.began;
+  }
 
 -- a driver just opened
 pub opened : {D E St Su : Type 0} {f : D → E} {h : Ghosts E Su} {g : Ghosts D St} → IsKind f h g → (format : Format) (writable : Bool) (number : ℕ) (before : StorageState) (d : D)

@@ -20,4 +20,5 @@ pub mod ScriptLimits
 pub mod ScriptParts
 pub mod ScriptRuns
 pub mod ScriptWords
+pub mod Snapshots
 pub mod Stateless

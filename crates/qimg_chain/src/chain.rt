@@ -1,7 +1,9 @@
 //! Chains of image files, each with a format of its own.
 mod drivers;
 mod extras;
+mod file_reads;
 mod image_driver;
+mod lending;
 mod naming;
 mod opening;
 mod plain_reads;
@@ -9,8 +11,8 @@ mod snapshots;
 mod stateless;
 
 pub use image_driver::ImageDriver;
+pub(crate) use lending::lend;
 pub use naming::NamesFiles;
 pub use opening::open_chain;
 pub use plain_reads::plain_read;
-pub(crate) use snapshots::lend;
 pub use snapshots::snapshot;

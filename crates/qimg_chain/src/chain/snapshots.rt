@@ -1,126 +1,138 @@
-// The files of a chain as they stand, copied or lent.
-ghost use Rattle.std.specs.Prelude.{◌≡◌, ◌∷◌, map, IfOk, IsOkUnless};
+// The files of a chain as they stand, copied.
+ghost use Rattle.std.specs.Prelude.{◌≡◌, ◌∷◌, map, OnOk, IfOk, IfErr, IsOkUnless};
+ghost use Rattle.imago_access.specs.FileReads.{bytes_in, files_at, FilesRead};
+ghost use Rattle.imago_access.specs.Files.{Pairs, WasNotCutOff, files_of};
+ghost use Rattle.imago_access.specs.Going.{Looked};
+ghost use Rattle.imago_access.specs.Layers.{chain as drivers};
 ghost use Rattle.imago_storage.specs.MemStorage.{mem_state};
-ghost use Rattle.imago_storage.specs.View.{view_state};
-ghost use Rattle.qimg_chain.specs.FileMeanings.{driver_bytes, extra_bytes, file_bytes, files_bytes};
+ghost use Rattle.qimg_chain.specs.FileMeanings.{driver_bytes, file_bytes, files_bytes};
+ghost use Rattle.qimg_chain.specs.Snapshots.{filled, names_of, said_names, WhyNotCopied};
 
 use crate::chain::naming::NamesFiles;
-use imago_access::{FormatAccess, FormatDriverInstance};
-use imago_storage::{Fault, MemStorage, MemoryView, Storage};
+use imago_access::{Format, FormatAccess, ReadFiles};
+use imago_storage::{Fault, MemStorage};
 use qimg_core::plain::ChainFile;
 use std::alloc::Global;
 
-/// A storage that stands for a file in memory: it has the file's bytes as they now are.
-pub(crate) trait OfFile<'a>: Storage {
-    /// The storage of a file. Its only refusal is `Fault::Memory`.
-    fn of_file(file: &'a MemStorage) -> Result<Self, Fault>
-        ensures ok { IfOk result (λ made. (Self.state made).bytes ≡ (mem_state file.now).bytes) }
-        ensures err { IsOkUnless result Fault.Memory };
-}
-
-// A copy.
-impl<'a> OfFile<'a> for MemStorage {
-    fn of_file(file: &'a MemStorage) -> Result<Self, Fault> {
-        match file.bytes() {
-            Ok(bytes) => MemStorage::from_bytes(bytes),
-            Err(fault) => Err(fault),
-        }
-    }
-}
-
-// The bytes themselves, lent.
-impl<'a> OfFile<'a> for MemoryView<'a> {
-    fn of_file(file: &'a MemStorage) -> Result<Self, Fault> {
-        Ok(MemoryView::new(file.as_bytes()))
-    }
+// What is known of a layer's files before they are read: the format, and the names of the further ones.
+#[derive(Drop)]
+struct LayerNames {
+    format: Format,
+    names: Vec<String>,
 }
 
 /// The files of a chain as they now are, the top first: each with its format, and the further files that are open with the names by which
-/// its image asks for them. What waits in memory to be written isn't in them. The chain stays as it is.
+/// its image asks for them. What waits in memory to be written isn't in them. The chain may have failed; it shows what it did.
 ///
-/// Its only refusal is `Fault::Memory`.
-pub fn snapshot<D: FormatDriverInstance<Storage = MemStorage> + NamesFiles>(
+/// It refuses with `Fault::Memory`, and with `Fault::Storage` where a storage of the chain failed. A refusal, too, leaves all of the chain
+/// but counts of faults as it was, and marks no image as failed.
+pub fn snapshot<D: NamesFiles + ReadFiles>(
+    alloc: Global,
+    chain: &mut FormatAccess<D>,
+) -> Result<Vec<ChainFile<MemStorage>>, Fault>
+    // What it answers.
+    ensures ok { IfOk result (λ files. files_bytes mem_state files.items ≡ map (driver_bytes D.Seen D.names) (drivers chain.old)) }
+
+    // What it keeps.
+    ensures read { Pairs (FilesRead D.Seen (WasNotCutOff result)) (drivers chain.old) (drivers chain.new) }
+    ensures looked { Pairs (Looked D.Seen (WasNotCutOff result)) (drivers chain.old) (drivers chain.new) }
+
+    // Why it is refused.
+    ensures cause { IfErr result (WhyNotCopied (files_of D.Seen (drivers chain.old)) (files_of D.Seen (drivers chain.new))) }
+{
+    let layers = match layer_names(alloc, chain) {
+        Ok(layers) => layers,
+        Err(fault) => return Err(fault),
+    };
+    let mut files = Vec::new(alloc);
+    for layer in 0..layers.len() {
+        match copy_layer(alloc, chain, layer, &layers[layer]) {
+            Ok(file) => files.push(file)?,
+            Err(fault) => return Err(fault),
+        }
+    }
+    Ok(files)
+}
+
+// The names of the files of each layer, the top first.
+fn layer_names<D: NamesFiles>(
     alloc: Global,
     chain: &FormatAccess<D>,
-) -> Result<Vec<ChainFile<MemStorage>>, Fault>
-    ensures ok { IfOk result (λ files. files_bytes mem_state files.items ≡ map (driver_bytes D.Seen D.names) (chain.now.0 ∷ chain.now.1)) }
+) -> Result<Vec<LayerNames>, Fault>
+    ensures ok { IfOk result (λ layers. map said_names layers.items ≡ map (names_of D.Seen D.names) (drivers chain.now)) }
     ensures err { IsOkUnless result Fault.Memory }
 {
-    files_of(alloc, chain)
-}
-
-/// The same files, lent: their bytes aren't copied.
-///
-/// Its only refusal is `Fault::Memory`.
-pub(crate) fn lend<'a, D: FormatDriverInstance<Storage = MemStorage> + NamesFiles>(
-    alloc: Global,
-    chain: &'a FormatAccess<D>,
-) -> Result<Vec<ChainFile<MemoryView<'a>>>, Fault>
-    ensures ok { IfOk result (λ files. files_bytes view_state files.items ≡ map (driver_bytes D.Seen D.names) (chain.now.0 ∷ chain.now.1)) }
-    ensures err { IsOkUnless result Fault.Memory }
-{
-    files_of(alloc, chain)
-}
-
-// The files of a chain, the top first.
-fn files_of<'a, S: OfFile<'a>, D: FormatDriverInstance<Storage = MemStorage> + NamesFiles>(
-    alloc: Global,
-    chain: &'a FormatAccess<D>,
-) -> Result<Vec<ChainFile<S>>, Fault>
-    ensures ok { IfOk result (λ files. files_bytes S.state files.items ≡ map (driver_bytes D.Seen D.names) (chain.now.0 ∷ chain.now.1)) }
-    ensures err { IsOkUnless result Fault.Memory }
-{
-    let mut files = Vec::new(alloc);
+    let mut layers = Vec::new(alloc);
     let mut next = chain;
     loop {
-        files.push(layer_file(alloc, next.inner())?)?;
+        layers.push(names_in(alloc, next.inner())?)?;
         match next.below() {
             Some(below) => next = below,
-            None => return Ok(files),
+            None => return Ok(layers),
         }
     }
 }
 
-// The files of a layer.
-fn layer_file<'a, S: OfFile<'a>, D: FormatDriverInstance<Storage = MemStorage> + NamesFiles>(
-    alloc: Global,
-    driver: &'a D,
-) -> Result<ChainFile<S>, Fault>
-    ensures ok { IfOk result (λ file. file_bytes S.state file ≡ driver_bytes D.Seen D.names driver.now) }
+// The names of a layer's files.
+fn names_in<D: NamesFiles>(alloc: Global, driver: &D) -> Result<LayerNames, Fault>
+    ensures ok { IfOk result (λ layer. said_names layer ≡ names_of D.Seen D.names driver.now) }
     ensures err { IsOkUnless result Fault.Memory }
 {
-    let image = match S::of_file(driver.image_file()) {
+    let mut names = Vec::new(alloc);
+    for index in 0..driver.extra_count() {
+        names.push(driver.extra_name(index).to_string(alloc)?)?;
+    }
+    Ok(LayerNames {
+        format: driver.format(),
+        names,
+    })
+}
+
+// The files of a layer, by its number, with their names.
+fn copy_layer<D: NamesFiles + ReadFiles>(
+    alloc: Global,
+    chain: &mut FormatAccess<D>,
+    layer: usize,
+    names: &LayerNames,
+) -> Result<ChainFile<MemStorage>, Fault>
+    ensures ok { IfOk result (λ file.
+        file_bytes mem_state file ≡ filled (said_names names.now) (files_at D.Seen (drivers chain.old) layer)) }
+    ensures read { Pairs (FilesRead D.Seen (WasNotCutOff result)) (drivers chain.old) (drivers chain.new) }
+    ensures cause { IfErr result (WhyNotCopied (files_of D.Seen (drivers chain.old)) (files_of D.Seen (drivers chain.new))) }
+{
+    let image = match copy_file(alloc, chain, layer, 0) {
         Ok(image) => image,
         Err(fault) => return Err(fault),
     };
     let mut extras = Vec::new(alloc);
-    for index in 0..driver.extra_count() {
-        if let Some(file) = driver.extra_file(index) {
-            match named_file(alloc, driver.extra_name(index), file) {
-                Ok(extra) => extras.push(extra)?,
-                Err(fault) => return Err(fault),
-            }
+    for index in 0..names.names.len() {
+        match copy_file(alloc, chain, layer, index + 1) {
+            Ok(file) => extras.push((names.names[index].clone()?, file))?,
+            Err(fault) => return Err(fault),
         }
     }
     Ok(ChainFile {
-        format: driver.format(),
+        format: names.format,
         image,
         extras,
     })
 }
 
-// A file with its name.
-fn named_file<'a, S: OfFile<'a>>(
+// A file of a layer, by their numbers.
+fn copy_file<D: ReadFiles>(
     alloc: Global,
-    name: &str,
-    file: &'a MemStorage,
-) -> Result<(String, S), Fault>
-    ensures ok { IfOk result (λ extra. extra_bytes S.state extra ≡ (name.now, (mem_state file.now).bytes)) }
-    ensures err { IsOkUnless result Fault.Memory }
+    chain: &mut FormatAccess<D>,
+    layer: usize,
+    file: usize,
+) -> Result<MemStorage, Fault>
+    ensures ok { IfOk result (λ copy. (mem_state copy).bytes ≡ bytes_in (files_at D.Seen (drivers chain.old) layer) file) }
+    ensures read { Pairs (FilesRead D.Seen (WasNotCutOff result)) (drivers chain.old) (drivers chain.new) }
+    ensures cause { IfErr result (WhyNotCopied (files_of D.Seen (drivers chain.old)) (files_of D.Seen (drivers chain.new))) }
 {
-    let name = name.to_string(alloc)?;
-    match S::of_file(file) {
-        Ok(storage) => Ok((name, storage)),
+    let size = chain.file_size(layer, file);
+    let mut bytes = vec![in alloc; 0u8; size as usize]?;
+    match chain.read_file(alloc, layer, file, 0, &mut bytes) {
+        Ok(()) => MemStorage::from_bytes(bytes),
         Err(fault) => Err(fault),
     }
 }

@@ -1,11 +1,12 @@
 use Rattle.std.proofs.Common.{◌≡◌, ◌∷◌, ◌++◌, length, map}
+use Rattle.imago_storage.specs.View.{view_state}
 use Rattle.qimg_chain.specs.FileMeanings.{driver_bytes, files_bytes}
-use Rattle.qimg_chain.proofs.chain.snapshots.files_of.Given as goal
+use Rattle.qimg_chain.proofs.chain.lending.lend.Given as goal
 
 -- those so far, and those of the layers to come, are all
 abbrev pub invariant-loop-files : goal.invariant-loop-files
 invariant-loop-files g l = let bytes = driver_bytes g.D.Seen g.D.NamesFiles.names in
-    files_bytes g.S.Storage.state l.files.items ++ map bytes (l.next.0 ∷ l.next.1) ≡ map bytes (l.chain.0 ∷ l.chain.1)
+    files_bytes view_state l.files.items ++ map bytes (l.next.0 ∷ l.next.1) ≡ map bytes (l.chain.0 ∷ l.chain.1)
 
 abbrev pub decreases-loop-files : goal.decreases-loop-files
 decreases-loop-files g l = length l.next.1

@@ -1,19 +1,20 @@
 use Rattle.std.proofs.Common.{◌∙◌, ap, arith, map}
 use Rattle.imago_storage.specs.MemStorage.{mem_state}
 use Rattle.imago_storage.specs.State.{StorageState}
+use Rattle.imago_storage.specs.View.{view_state}
 use Rattle.qimg_chain.specs.FileMeanings.{extra_bytes}
 use Rattle.qimg_chain.proofs.Copies.{all_named, pushed, same_file}
-use Rattle.qimg_chain.proofs.chain.snapshots.layer_file.Goals.{in-Some+in-Ok-named_file+in_ok-push-in-Ok-named_file, in_default}
-use Rattle.qimg_chain.proofs.chain.snapshots.layer_file.Goals as goal
+use Rattle.qimg_chain.proofs.chain.lending.lend_layer.Goals.{in-Some+in-Ok+in_ok-push-in-Ok, in_default}
+use Rattle.qimg_chain.proofs.chain.lending.lend_layer.Goals as goal
 
 pub loop-index-preserved : goal.loop-index-preserved
 loop-index-preserved g c = elim c.match-extra_file.branch [
-  | in-Some+in-Ok-named_file+in_ok-push-in-Ok-named_file w ↦
-      ap (λ v. map (extra_bytes g.S.Storage.state) v.items) w.extras-is
-      ∙ ap (λ items. map (extra_bytes g.S.Storage.state) items) w.in_ok-push-in-Ok-named_file.ensures.items
-      ∙ pushed g.S.Storage.state c.loop-index.extras.items w.in-Ok-named_file.extra (g.D.NamesFiles.names c.args.driver.now) (g.D.Seen.extras c.args.driver.now) c.loop-index.index _
+  | in-Some+in-Ok+in_ok-push-in-Ok w ↦
+      ap (λ v. map (extra_bytes view_state) v.items) w.extras-is
+      ∙ ap (λ items. map (extra_bytes view_state) items) w.in_ok-push-in-Ok.ensures.items
+      ∙ pushed view_state c.loop-index.extras.items w.in-Ok.extra (g.D.NamesFiles.names c.args.driver.now) (g.D.Seen.extras c.args.driver.now) c.loop-index.index _
       c.loop-index.invariant w.in-Some.ensures
-      (w.in-Ok-named_file.ensures.ok ∙ ap (λ name. (name, (mem_state w.in-Some.file.now).bytes)) w.extra_name.ensures)
+      (w.in-Ok.ensures.ok ∙ ap (λ name. (name, (mem_state w.in-Some.file.now).bytes)) w.extra_name.ensures)
   | in_default w ↦ absurd (omega (arith, w.in_default.ensures, c.loop-index-test.true, c.extra_count-index-end.ensures))
 ]
 
@@ -21,5 +22,5 @@ pub returns-clause-ok : goal.returns-clause-ok
 returns-clause-ok g c =
     let names = g.D.NamesFiles.names c.args.driver.now in
     let ss = g.D.Seen.extras c.args.driver.now in
-    let bytes = c.in-Ok.ensures.ok ∙ ap (λ (s : StorageState). s.bytes) c.image_file.ensures in
+    let bytes = ap (λ (s : StorageState). s.bytes) c.new.ensures ∙ c.as_bytes.ensures ∙ ap (λ (s : StorageState). s.bytes) c.image_file.ensures in
     same_file _ _ _ _ _ _ c.format.ensures bytes (c.loop-index.invariant ∙ all_named names ss c.loop-index.index (omega (arith, c.extra_count-index-end.ensures, c.loop-index-test.false)))

@@ -1,0 +1,75 @@
+use Rattle.std.proofs.Common.{◌≡◌, ◌∙◌, ap, arith}
+use Rattle.std.specs.Prelude.{⊤}
+use Rattle.imago_access.specs.FileReads.{files_at}
+use Rattle.imago_access.specs.Files.{IsMild, WasNotCutOff}
+use Rattle.imago_access.specs.Layers.{chain as drivers}
+use Rattle.imago_access.proofs.FileReads.{all_read_both, all_read_looked, all_read_same, bytes_at_kept}
+use Rattle.imago_access.proofs.Looking.{all_looked_same}
+use Rattle.imago_storage.specs.MemStorage.{mem_state}
+use Rattle.qimg_chain.specs.FileMeanings.{files_bytes}
+use Rattle.qimg_chain.specs.Snapshots.{said_names}
+use Rattle.qimg_chain.proofs.Snapshots.{cause_behind, files_more, filled_kept}
+use Rattle.qimg_chain.proofs.chain.snapshots.snapshot.Goals as goal
+
+pub returns-in-Err-clause-read : goal.returns-in-Err-clause-read
+returns-in-Err-clause-read g c = all_read_same g.D.Seen (IsMild c.in-Err.fault) (drivers c.args.chain.now)
+
+pub returns-in-Err-clause-looked : goal.returns-in-Err-clause-looked
+returns-in-Err-clause-looked g c = all_looked_same g.D.Seen (IsMild c.in-Err.fault) (drivers c.args.chain.now)
+
+pub loop-layer-init : goal.loop-layer-init
+loop-layer-init g c = record {
+  so_far = ap (λ items. files_bytes mem_state items) c.new-files.ensures.items;
+  read = all_read_same g.D.Seen ⊤ (drivers c.args.chain.now);
+}
+
+pub loop-layer-preserved : goal.loop-layer-preserved
+loop-layer-preserved g c =
+    let d = g.D.Seen in
+    let old = drivers c.args.chain.now in let now = drivers c.loop-layer.chain in
+    let i = c.loop-layer.layer in
+    let layers = c.in-Ok.layers in
+    let copied = c.in-Ok-copy_layer.ensures.ok
+    ∙ filled_kept (said_names c.index.result.now) (files_at d old i) (files_at d now i) (λ n. bytes_at_kept d ⊤ old now i n c.loop-layer.invariant.read) in
+    record {
+      so_far = ap (λ items. files_bytes mem_state items) c.in_ok-push-in-Ok-copy_layer.ensures.items
+          ∙ files_more d g.D.NamesFiles.names old layers.items i c.index.result.now c.loop-layer.files.items c.in-Ok-copy_layer.file c.loop-layer.invariant.so_far c.in-Ok.ensures.ok
+          (omega (arith, c.loop-layer-test.true, c.len-layer-end.ensures, layers.ok.0)) c.index.ensures copied;
+      read = all_read_both d ⊤ old now (drivers c.copy_layer.new.chain) c.loop-layer.invariant.read c.in-Ok-copy_layer.ensures.read;
+    }
+
+pub returns-in_err-push-in-Ok-copy_layer-clause-read : goal.returns-in_err-push-in-Ok-copy_layer-clause-read
+returns-in_err-push-in-Ok-copy_layer-clause-read g c =
+    let d = g.D.Seen in
+    let old = drivers c.args.chain.now in let now = drivers c.loop-layer.chain in let new = drivers c.copy_layer.new.chain in
+    let whole = WasNotCutOff c.from_residual.result in
+    all_read_both d whole old new new (all_read_both d ⊤ old now new c.loop-layer.invariant.read c.in-Ok-copy_layer.ensures.read) (all_read_same d whole new)
+
+pub returns-in_err-push-in-Ok-copy_layer-clause-looked : goal.returns-in_err-push-in-Ok-copy_layer-clause-looked
+returns-in_err-push-in-Ok-copy_layer-clause-looked g c =
+    let d = g.D.Seen in
+    let old = drivers c.args.chain.now in let now = drivers c.loop-layer.chain in let new = drivers c.copy_layer.new.chain in
+    let whole = WasNotCutOff c.from_residual.result in
+    all_read_looked d whole old new
+    (all_read_both d whole old new new (all_read_both d ⊤ old now new c.loop-layer.invariant.read c.in-Ok-copy_layer.ensures.read) (all_read_same d whole new))
+
+pub returns-in-Err-copy_layer-clause-read : goal.returns-in-Err-copy_layer-clause-read
+returns-in-Err-copy_layer-clause-read g c =
+    let old = drivers c.args.chain.now in let now = drivers c.loop-layer.chain in let new = drivers c.copy_layer.new.chain in
+    all_read_both g.D.Seen (IsMild c.in-Err-copy_layer.fault) old now new c.loop-layer.invariant.read c.in-Err-copy_layer.ensures.read
+
+pub returns-in-Err-copy_layer-clause-looked : goal.returns-in-Err-copy_layer-clause-looked
+returns-in-Err-copy_layer-clause-looked g c =
+    let d = g.D.Seen in
+    let old = drivers c.args.chain.now in let now = drivers c.loop-layer.chain in let new = drivers c.copy_layer.new.chain in
+    let whole = IsMild c.in-Err-copy_layer.fault in
+    all_read_looked d whole old new (all_read_both d whole old now new c.loop-layer.invariant.read c.in-Err-copy_layer.ensures.read)
+
+pub returns-in-Err-copy_layer-clause-cause : goal.returns-in-Err-copy_layer-clause-cause
+returns-in-Err-copy_layer-clause-cause g c =
+    let old = drivers c.args.chain.now in let now = drivers c.loop-layer.chain in let new = drivers c.copy_layer.new.chain in
+    cause_behind g.D.Seen old now new c.in-Err-copy_layer.fault c.loop-layer.invariant.read c.in-Err-copy_layer.ensures.cause
+
+pub returns-clause-looked : goal.returns-clause-looked
+returns-clause-looked g c =
+    all_read_looked g.D.Seen ⊤ (drivers c.args.chain.now) (drivers c.loop-layer.chain) c.loop-layer.invariant.read
