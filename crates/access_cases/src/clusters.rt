@@ -112,7 +112,8 @@ fn note(written: &mut Vec<Option<u8>>, at: usize, bytes: &[u8])
     requires { at + length bytes.now ≤ length written.old.items }
     ensures len { length written.new.items ≡ length written.old.items }
     ensures inside { (i : ℕ) → i < length bytes.now → slice_index_or written.new.items (at + i) None ≡ Some (slice_index bytes.now i) }
-    ensures outside { (p : ℕ) → IsOut at (length bytes.now) p → slice_index_or written.new.items p None ≡ slice_index_or written.old.items p None }
+    ensures outside { (p : ℕ) → IsOut at (length bytes.now) p
+        → slice_index_or written.new.items p None ≡ slice_index_or written.old.items p None }
 {
     for (i, byte) in bytes.iter().enumerate() {
         written[at + i] = Some(*byte);

@@ -170,7 +170,8 @@ impl<S: Storage> FormatDriverInstance for Qcow2<S> {
         buf: &mut [u8],
     ) -> Result<(), Fault>
         ensures bytes { OnOk result (AreRead (files ⟦<Qcow2<S> as Seen>⟧ self.old) storage place (length buf.old) buf.new) }
-        ensures at_once { let d = ⟦<Qcow2<S> as Seen>⟧ in AtOnce d (barrier (d.layer self.old)) (length buf.old ≡ 0) result self.old self.new }
+        ensures at_once { let d = ⟦<Qcow2<S> as Seen>⟧ in AtOnce d (barrier (d.layer self.old))
+            (length buf.old ≡ 0) result self.old self.new }
         ensures looked { Looked ⟦<Qcow2<S> as Seen>⟧ (WasNotCutOff result) self.old self.new }
         ensures began { let d = ⟦<Qcow2<S> as Seen>⟧ in
             OnOk result ((e : _) (call : _) → d.began e call self.old → d.began e call self.new) }

@@ -58,7 +58,8 @@ sum_over of places = sum_by of places
 
 -- summed over the first cluster, the L1 table and the refcount table
 abbrev pub start_over : Fields → Total
-start_over h weight = weight 0 (cluster_size h) + weight h.l1_offset (h.l1_entries * 8) + weight h.refcount_table_offset (h.refcount_table_clusters * cluster_size h)
+start_over h weight = weight 0 (cluster_size h) + weight h.l1_offset (h.l1_entries * 8) + weight h.refcount_table_offset
+    (h.refcount_table_clusters * cluster_size h)
 
 -- Summed over the structure, by the places of its tables and blocks.
 unfoldable pub structure_over : Fields → List ℕ → List ℕ → Total

@@ -11,7 +11,8 @@ use Rattle.qimg_core.specs.CheckParts.{sum_over, start_over, structure_over, wor
 
 -- a range of bytes, so often
 abbrev pub AddsRange : Fields → Tallies → Tallies → (first length : ℕ) → Times → Type 0
-AddsRange h old new first length times = Adds h old new (λ w. times.structure * w first length) (λ w. times.mapped * w first length) (λ w. times.copied * w first length)
+AddsRange h old new first length times = Adds h old new (λ w. times.structure * w first length) (λ w. times.mapped * w first length) (λ w.
+    times.copied * w first length)
 
 -- the clusters at these places, as parts of the structure
 abbrev pub AddsPlaces : Fields → Tallies → Tallies → List ℕ → Type 0
@@ -27,16 +28,20 @@ AddsStructure h old new tables blocks = Adds h old new (λ w. structure_over h t
 
 -- what a word of an L2 table names, so often
 abbrev pub AddsMapping : Fields → ℕ → Tallies → Tallies → Mapping → Type 0
-AddsMapping h times old new mapping = Adds h old new nothing_named (λ w. times * of_mapping h w mapping) (λ w. times * of_copied h w mapping)
+AddsMapping h times old new mapping = Adds h old new nothing_named (λ w. times * of_mapping h w mapping) (λ w.
+    times * of_copied h w mapping)
 
 -- what these words name
 abbrev pub AddsWords : Fields → ℕ → Tallies → Tallies → List ℕ → Type 0
-AddsWords h times old new words = Adds h old new nothing_named (λ w. times * words_over h (of_mapping h w) words) (λ w. times * words_over h (of_copied h w) words)
+AddsWords h times old new words = Adds h old new nothing_named (λ w. times * words_over h (of_mapping h w) words) (λ w.
+    times * words_over h (of_copied h w) words)
 
 -- what the L2 table at a place names
 abbrev pub AddsTable : Bytes → Fields → ℕ → Tallies → Tallies → ℕ → Type 0
-AddsTable f h times old new place = Adds h old new nothing_named (λ w. times * of_table f h (of_mapping h w) place) (λ w. times * of_table f h (of_copied h w) place)
+AddsTable f h times old new place = Adds h old new nothing_named (λ w. times * of_table f h (of_mapping h w) place) (λ w.
+    times * of_table f h (of_copied h w) place)
 
 -- what those at these places name, each once for each time that its place stands there
 abbrev pub AddsTables : Bytes → Fields → Tallies → Tallies → List ℕ → Type 0
-AddsTables f h old new places = Adds h old new nothing_named (λ w. sum_over (of_table f h (of_mapping h w)) places) (λ w. sum_over (of_table f h (of_copied h w)) places)
+AddsTables f h old new places = Adds h old new nothing_named (λ w. sum_over (of_table f h (of_mapping h w)) places) (λ w.
+    sum_over (of_table f h (of_copied h w)) places)

@@ -53,7 +53,11 @@ weight_of list c = sum_by (weight_in c) list
 
 -- what the lists say of it
 unfoldable pub other_at : Others → ℕ → Times
-other_at others c = record { structure = weight_of others.structure.items c; mapped = weight_of others.mapped.items c; copied = weight_of others.copied.items c }
+other_at others c = record {
+  structure = weight_of others.structure.items c;
+  mapped = weight_of others.mapped.items c;
+  copied = weight_of others.copied.items c;
+}
 
 -- a list in the order of its clusters
 abbrev pub IsRising : List ℕ → Type 0
@@ -66,7 +70,11 @@ pub record AreRising (others : Others) : Type 0 where
 
 -- a cell and the lists together
 abbrev pub together : FewTimes → Times → Times
-together cell entry = record { structure = cell.structure + entry.structure; mapped = cell.mapped + entry.mapped; copied = cell.copied + entry.copied }
+together cell entry = record {
+  structure = cell.structure + entry.structure;
+  mapped = cell.mapped + entry.mapped;
+  copied = cell.copied + entry.copied;
+}
 
 -- how often cluster c is named
 unfoldable pub times_at : Tallies → ℕ → Times

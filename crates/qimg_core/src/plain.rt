@@ -70,7 +70,8 @@ fn read_disk<S: Storage>(
     requires sound { IsTrue (l1_table_sound (file (S.state image.old)) header.now.fields) }
     requires inside { IsFalse (has_external_data header.now.fields) }
     ensures ok { OnOk result (ShowsRange (file (S.state image.old)) header.now.fields.size offset buf.new) }
-    ensures err { IfErr result (NotShown (value_at (file (S.state image.old))) (S.state image.old) (S.state image.new) offset (below_size header.now.fields.size offset (length buf.old))) }
+    ensures err { IfErr result (NotShown (value_at (file (S.state image.old))) (S.state image.old) (S.state image.new) offset
+        (below_size header.now.fields.size offset (length buf.old))) }
     ensures kept { Kept (S.state image.old) (S.state image.new) }
     ensures faults { OnOk result ((S.state image.new).faults ≡ (S.state image.old).faults) }
 {

@@ -59,7 +59,8 @@ impl<D: ReadFiles> FormatAccess<D> {
 
         // Why it is refused.
         ensures cause { let unit = unit_of_chain (map D.layer (chain self.old)) in
-            IfErr result (FileReadCause unit offset (length buf.old) (files_of D.Seen (chain self.old)) (files_of D.Seen (chain self.new))) }
+            IfErr result (FileReadCause unit offset (length buf.old) (files_of D.Seen (chain self.old))
+            (files_of D.Seen (chain self.new))) }
     {
         Self::read_file_part(
             alloc,
@@ -86,7 +87,8 @@ impl<D: ReadFiles> FormatAccess<D> {
         ensures bytes { OnOk result (AreRead (files_at D.Seen (driver.old ∷ layers below.old) layer) file offset (length buf.old) buf.new) }
         ensures read { Pairs (FilesRead D.Seen (WasNotCutOff result)) (driver.old ∷ layers below.old) (driver.new ∷ layers below.new) }
         ensures cause { let olds = driver.old ∷ layers below.old in let news = driver.new ∷ layers below.new in
-            IfErr result (FileReadCause (unit_of_chain (map D.layer olds)) offset (length buf.old) (files_of D.Seen olds) (files_of D.Seen news)) }
+            IfErr result (FileReadCause (unit_of_chain (map D.layer olds)) offset (length buf.old) (files_of D.Seen olds)
+            (files_of D.Seen news)) }
     {
         if layer == 0 {
             return driver.read_file(alloc, file, offset, buf);
@@ -107,7 +109,8 @@ impl<D: ReadFiles> FormatAccess<D> {
         ensures bytes { OnOk result (AreRead (files_at D.Seen (layers below.old) layer) file offset (length buf.old) buf.new) }
         ensures read { Pairs (FilesRead D.Seen (WasNotCutOff result)) (layers below.old) (layers below.new) }
         ensures cause { let unit = unit_of_chain (map D.layer (layers below.old)) in
-            IfErr result (FileReadCause unit offset (length buf.old) (files_of D.Seen (layers below.old)) (files_of D.Seen (layers below.new))) }
+            IfErr result (FileReadCause unit offset (length buf.old) (files_of D.Seen (layers below.old))
+            (files_of D.Seen (layers below.new))) }
     {
         match below {
             Some(access) => access.read_file(alloc, layer, file, offset, buf),

@@ -79,8 +79,10 @@ fn compare_block<S: Storage>(
     requires told { Tells (file (S.state image.old)) header.now.fields names.now }
     requires rising { AreRising names.now.others }
     requires index { index < 2 ^ 20 }
-    requires before { AreCompared (file (S.state image.old)) header.now.fields leaks.old.items (index * counters_of_block header.now.fields) }
-    ensures ok { OnOk result (AreCompared (file (S.state image.old)) header.now.fields leaks.new.items ((index + 1) * counters_of_block header.now.fields)) }
+    requires before { AreCompared (file (S.state image.old)) header.now.fields leaks.old.items
+        (index * counters_of_block header.now.fields) }
+    ensures ok { OnOk result (AreCompared (file (S.state image.old)) header.now.fields leaks.new.items
+        ((index + 1) * counters_of_block header.now.fields)) }
     ensures err { IfErr result (Found (S.state image.old) (S.state image.new) (IsUnder (file (S.state image.old)) header.now.fields)) }
     ensures kept { Kept (S.state image.old) (S.state image.new) }
     ensures faults { OnOk result ((S.state image.new).faults ≡ (S.state image.old).faults) }

@@ -167,7 +167,8 @@ fn first_entry(names: &Tallies, question: Question, low: u64, high: Option<u64>)
 /// The least cluster from `low` up to `end`, which isn't one of them, that passes.
 fn first_cell(names: &Tallies, question: Question, low: u64, end: u64) -> Option<u64>
     requires { AreRising names.now.others }
-    ensures { MatchOption result (NoneWithin (is_such question names.now) low (Some end)) (IsFirstWithin (is_such question names.now) low (Some end)) }
+    ensures { MatchOption result (NoneWithin (is_such question names.now) low (Some end))
+        (IsFirstWithin (is_such question names.now) low (Some end)) }
 {
     let mut way = way_from(&names.others, low);
     for cluster in low..end {

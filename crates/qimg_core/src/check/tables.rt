@@ -132,7 +132,8 @@ pub fn name_places(names: &mut Tallies, header: &Header, places: &[u64]) -> Resu
 /// Enters the first cluster, the L1 table and the refcount table.
 fn name_start(names: &mut Tallies, header: &Header) -> Result<(), CheckFault>
     requires l1 { header.now.fields.l1_offset + header.now.fields.l1_entries * 8 < 2 ^ 62 }
-    requires refcounts { header.now.fields.refcount_table_offset + header.now.fields.refcount_table_clusters * cluster_size header.now.fields < 2 ^ 62 }
+    requires refcounts { header.now.fields.refcount_table_offset + header.now.fields.refcount_table_clusters * cluster_size
+        header.now.fields < 2 ^ 62 }
     ensures ok { OnOk result (AddsStart header.now.fields names.old names.new) }
     ensures err { IsOkUnless result CheckFault.Memory }
 {
@@ -153,7 +154,8 @@ pub fn name_structure(
     places: &Places,
 ) -> Result<(), CheckFault>
     requires l1 { header.now.fields.l1_offset + header.now.fields.l1_entries * 8 < 2 ^ 62 }
-    requires refcounts { header.now.fields.refcount_table_offset + header.now.fields.refcount_table_clusters * cluster_size header.now.fields < 2 ^ 62 }
+    requires refcounts { header.now.fields.refcount_table_offset + header.now.fields.refcount_table_clusters * cluster_size
+        header.now.fields < 2 ^ 62 }
     requires tables { (i : ℕ) → slice_index places.now.tables.items i ≤ max_offset }
     requires blocks { (i : ℕ) → slice_index places.now.blocks.items i ≤ max_offset }
     ensures ok { OnOk result (AddsStructure header.now.fields names.old names.new places.now.tables.items places.now.blocks.items) }
@@ -254,7 +256,8 @@ fn name_table<S: Storage>(
     requires place { IsTrue (is_place header.now.fields.cluster_bits place) }
     ensures ok { OnOk result (AddsTable (file (S.state image.old)) header.now.fields times names.old names.new place) }
     ensures sound { OnOk result (IsTrue (l2_table_sound (file (S.state image.old)) header.now.fields place)) }
-    ensures err { IfErr result (Found (S.state image.old) (S.state image.new) (IsDamagedTable (file (S.state image.old)) header.now.fields place)) }
+    ensures err { IfErr result (Found (S.state image.old) (S.state image.new)
+        (IsDamagedTable (file (S.state image.old)) header.now.fields place)) }
     ensures kept { Kept (S.state image.old) (S.state image.new) }
     ensures faults { OnOk result ((S.state image.new).faults ≡ (S.state image.old).faults) }
 {
@@ -279,7 +282,8 @@ pub fn name_contents<S: Storage>(
     requires { AreTables header.now.fields.cluster_bits places.items }
     ensures ok { OnOk result (AddsTables (file (S.state image.old)) header.now.fields names.old names.new places.items) }
     ensures sound { OnOk result (All (λ place. IsTrue (l2_table_sound (file (S.state image.old)) header.now.fields place)) places.items) }
-    ensures err { IfErr result (Found (S.state image.old) (S.state image.new) (IsOneDamaged (file (S.state image.old)) header.now.fields places.items)) }
+    ensures err { IfErr result (Found (S.state image.old) (S.state image.new)
+        (IsOneDamaged (file (S.state image.old)) header.now.fields places.items)) }
     ensures kept { Kept (S.state image.old) (S.state image.new) }
     ensures faults { OnOk result ((S.state image.new).faults ≡ (S.state image.old).faults) }
 {

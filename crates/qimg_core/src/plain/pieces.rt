@@ -39,7 +39,8 @@ fn read_mapping<S: Storage>(
     requires some { 0 < length buf.old }
     requires one_cluster { at % 2 ^ cluster_bits + length buf.old ≤ 2 ^ cluster_bits }
     ensures ok { OnOk result (Shows (mapped_value (file (S.state image.old)) cluster_bits (mapping_seen mapping)) at buf.new) }
-    ensures err { IfErr result (NotShown (mapped_value (file (S.state image.old)) cluster_bits (mapping_seen mapping)) (S.state image.old) (S.state image.new) at (length buf.old)) }
+    ensures err { IfErr result (NotShown (mapped_value (file (S.state image.old)) cluster_bits (mapping_seen mapping)) (S.state image.old)
+        (S.state image.new) at (length buf.old)) }
     ensures kept { Kept (S.state image.old) (S.state image.new) }
     ensures faults { OnOk result ((S.state image.new).faults ≡ (S.state image.old).faults) }
 {
@@ -92,7 +93,8 @@ fn read_clusters<S: Storage>(
 ) -> Result<(), Fault>
     requires fits { at + length buf.old < 2 ^ 64 }
     ensures ok { OnOk result (Shows (table_value (file (S.state image.old)) table.now) at buf.new) }
-    ensures err { IfErr result (NotShown (table_value (file (S.state image.old)) table.now) (S.state image.old) (S.state image.new) at (length buf.old)) }
+    ensures err { IfErr result (NotShown (table_value (file (S.state image.old)) table.now) (S.state image.old) (S.state image.new) at
+        (length buf.old)) }
     ensures kept { Kept (S.state image.old) (S.state image.new) }
     ensures faults { OnOk result ((S.state image.new).faults ≡ (S.state image.old).faults) }
 {
@@ -126,9 +128,11 @@ fn read_table<S: Storage>(
     requires data_inside { IsFalse (has_external_data header.now.fields) }
     requires some { 0 < length buf.old }
     requires fits { at + length buf.old < 2 ^ 64 }
-    requires one_table { let mapped = l2_entries header.now.fields.cluster_bits * 2 ^ header.now.fields.cluster_bits in at % mapped + length buf.old ≤ mapped }
+    requires one_table { let mapped = l2_entries header.now.fields.cluster_bits * 2 ^ header.now.fields.cluster_bits in at % mapped + length
+        buf.old ≤ mapped }
     ensures ok { OnOk result (Shows (image_value (file (S.state image.old)) header.now.fields) at buf.new) }
-    ensures err { IfErr result (NotShown (image_value (file (S.state image.old)) header.now.fields) (S.state image.old) (S.state image.new) at (length buf.old)) }
+    ensures err { IfErr result (NotShown (image_value (file (S.state image.old)) header.now.fields) (S.state image.old)
+        (S.state image.new) at (length buf.old)) }
     ensures kept { Kept (S.state image.old) (S.state image.new) }
     ensures faults { OnOk result ((S.state image.new).faults ≡ (S.state image.old).faults) }
 {
@@ -159,7 +163,8 @@ pub fn read_tables<S: Storage>(
     requires data_inside { IsFalse (has_external_data header.now.fields) }
     requires fits { at + length buf.old < 2 ^ 64 }
     ensures ok { OnOk result (Shows (image_value (file (S.state image.old)) header.now.fields) at buf.new) }
-    ensures err { IfErr result (NotShown (image_value (file (S.state image.old)) header.now.fields) (S.state image.old) (S.state image.new) at (length buf.old)) }
+    ensures err { IfErr result (NotShown (image_value (file (S.state image.old)) header.now.fields) (S.state image.old)
+        (S.state image.new) at (length buf.old)) }
     ensures kept { Kept (S.state image.old) (S.state image.new) }
     ensures faults { OnOk result ((S.state image.new).faults ≡ (S.state image.old).faults) }
 {
