@@ -1,4 +1,5 @@
 // The files and the disk of a case, and the calls of its lines.
+use crate::copies::copied;
 use crate::files::{NamedFiles, making_of};
 use crate::images::probe;
 use crate::layers::{Disk, add, counts, image_of};
@@ -82,6 +83,7 @@ fn change_file<'a>(
 fn call<'a>(alloc: Global, disk: &mut Disk<'a>, words: &[&str]) -> Result<String, Trouble> {
     match words {
         ["counts"] => counts(alloc, disk),
+        ["snapshot", rest @ ..] => copied(alloc, disk, rest),
         _ => called(alloc, disk, words),
     }
 }

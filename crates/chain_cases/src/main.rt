@@ -28,6 +28,8 @@
 //! - `prepare OFFSET N [overwrite]`, `commit`, `cancel`; `mapping` tells the one that is kept, and `mapping STORAGE OFFSET N` makes one.
 //! - `counts`: how many calls the image file of each layer was asked for, the highest layer first. `asked`: what all storages were asked
 //!   for, since it was last told or `forget`.
+//! - `snapshot`: the files of the disk are copied as they stand. It tells of each layer, the highest first, the format and the length of
+//!   its file, and the names and lengths of the further ones, with `/` behind each. `snapshot LAYER FILE OFFSET N` tells bytes of a copy.
 //! - `if_open CALL`: the call where a disk is open, and else `closed`.
 //!
 //! # Scripts of the program
@@ -42,6 +44,7 @@
 #![tactic(auto)]
 
 mod chains;
+mod copies;
 mod files;
 mod images;
 mod layers;
