@@ -16,7 +16,7 @@ use Rattle.qcow2_types.specs.Header.{Fields, Header, cluster_size}
 use Rattle.qcow2_types.specs.References.{meets, of_cluster}
 use Rattle.qcow2_types.specs.Pending.{FreeEntry}
 use Rattle.qcow2_types.specs.Words.{bits_at, is_copied, is_place, l1_word_sound, table_offset}
-use Rattle.qcow2_types.proofs.Bounded.{all-below}
+use Rattle.qcow2_types.proofs.Counting.Bounded.{all-below}
 use Rattle.qcow2_metadata.specs.Tables.{TableValue}
 use Rattle.qcow2_alloc.specs.Allocating.{MovedTable}
 use Rattle.qcow2_alloc.specs.Allocators.{table_of}

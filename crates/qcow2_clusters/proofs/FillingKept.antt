@@ -11,7 +11,7 @@ use Rattle.qcow2_types.specs.Bytes.{Bytes, bytes_of, word}
 use Rattle.qcow2_types.specs.Frames.{Outside}
 use Rattle.qcow2_types.specs.Header.{Fields, Header, cluster_size}
 use Rattle.qcow2_types.specs.References.{meets, structure}
-use Rattle.qcow2_types.proofs.DataSteps.{run-written}
+use Rattle.qcow2_types.proofs.Changes.DataSteps.{run-written}
 use Rattle.qcow2_metadata.specs.Tables.{TableValue}
 use Rattle.qcow2_alloc.specs.declared.file.ImageFile.{ImageFile}
 use Rattle.qcow2_alloc.specs.Going.{WasNotCutOff}

@@ -20,9 +20,9 @@ use Rattle.qcow2_types.specs.Pending.{FreeEntry}
 use Rattle.qcow2_types.specs.References.{meets}
 use Rattle.qcow2_types.specs.Switched.{with_refcount_table, with_reftable}
 use Rattle.qcow2_types.specs.TableBytes.{AreFit, table_bytes}
-use Rattle.qcow2_types.proofs.HeaderSwitch.{length-first_bytes}
-use Rattle.qcow2_types.proofs.Over.{words-length}
-use Rattle.qcow2_types.proofs.WriteBack.{place-whole}
+use Rattle.qcow2_types.proofs.Switching.HeaderSwitch.{length-first_bytes}
+use Rattle.qcow2_types.proofs.Changes.Over.{words-length}
+use Rattle.qcow2_types.proofs.Changes.WriteBack.{place-whole}
 use Rattle.qcow2_metadata.specs.Tables.{TableValue, grown_l1, padded, table_place}
 use Rattle.qcow2_alloc.specs.declared.file.ImageFile.{ImageFile}
 use Rattle.qcow2_alloc.specs.Crowding.{room_for, space}

@@ -19,11 +19,11 @@ use Rattle.qcow2_types.specs.Pending.{FreeEntry}
 use Rattle.qcow2_types.specs.References.{meets}
 use Rattle.qcow2_types.specs.Switched.{with_l1_table}
 use Rattle.qcow2_types.specs.TableBytes.{AreFit, table_bytes}
-use Rattle.qcow2_types.proofs.Consistent.{consistent-shaped}
-use Rattle.qcow2_types.proofs.Frames.{splice-is-outside}
-use Rattle.qcow2_types.proofs.HeaderSwitch.{first-fields-fit, length-first_bytes, name-behind, switch-header}
-use Rattle.qcow2_types.proofs.Over.{words-length, words-read}
-use Rattle.qcow2_types.proofs.Splices.{be-same}
+use Rattle.qcow2_types.proofs.Counting.Consistent.{consistent-shaped}
+use Rattle.qcow2_types.proofs.Changes.Frames.{splice-is-outside}
+use Rattle.qcow2_types.proofs.Switching.HeaderSwitch.{first-fields-fit, length-first_bytes, name-behind, switch-header}
+use Rattle.qcow2_types.proofs.Changes.Over.{words-length, words-read}
+use Rattle.qcow2_types.proofs.Numbers.Splices.{be-same}
 use Rattle.qcow2_metadata.specs.Places.{place_of}
 use Rattle.qcow2_metadata.specs.Tables.{TableValue, padded, table_place, words_in}
 use Rattle.qcow2_metadata.proofs.TableFacts.{words_at, words_long}

@@ -14,7 +14,7 @@ use Rattle.qcow2_types.specs.Header.{Fields, Header, cluster_size, layout_of, wo
 use Rattle.qcow2_types.specs.References.{meets, of_cluster}
 use Rattle.qcow2_types.specs.Switched.{with_refcount_table}
 use Rattle.qcow2_types.specs.Words.{is_copied, is_place}
-use Rattle.qcow2_types.proofs.HeaderLimits.{header-limited}
+use Rattle.qcow2_types.proofs.Fields.HeaderLimits.{header-limited}
 use Rattle.qcow2_metadata.specs.Places.{IsInReach}
 use Rattle.qcow2_metadata.specs.Tables.{TableValue, table_place}
 use Rattle.qcow2_alloc.specs.declared.cache.MetadataCaches.{MetadataCaches}

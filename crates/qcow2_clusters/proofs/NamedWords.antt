@@ -15,13 +15,13 @@ use Rattle.qcow2_types.specs.Pending.{FreeEntry}
 use Rattle.qcow2_types.specs.References.{meets, of_mapping, refs}
 use Rattle.qcow2_types.specs.Slots.{slot}
 use Rattle.qcow2_types.specs.Words.{Mapping, data_at, is_damaged, mapping_of, max_offset, zeroes}
-use Rattle.qcow2_types.proofs.Consistent.{consistent-shaped, meets-other, meets-own, some-words}
-use Rattle.qcow2_types.proofs.Either.{refs-cached}
-use Rattle.qcow2_types.proofs.Shows.{guest-slot-there}
-use Rattle.qcow2_types.proofs.Sound.{sound-words}
-use Rattle.qcow2_types.proofs.Values.{entry-slot}
-use Rattle.qcow2_types.proofs.WordLemmas.{fresh-word}
-use Rattle.qcow2_types.proofs.WriteBack.{place-near, table-place}
+use Rattle.qcow2_types.proofs.Counting.Consistent.{consistent-shaped, meets-other, meets-own, some-words}
+use Rattle.qcow2_types.proofs.Counting.Either.{refs-cached}
+use Rattle.qcow2_types.proofs.Showing.Shows.{guest-slot-there}
+use Rattle.qcow2_types.proofs.Counting.Sound.{sound-words}
+use Rattle.qcow2_types.proofs.Showing.Values.{entry-slot}
+use Rattle.qcow2_types.proofs.Numbers.WordLemmas.{fresh-word}
+use Rattle.qcow2_types.proofs.Changes.WriteBack.{place-near, table-place}
 use Rattle.qcow2_metadata.specs.Allocations.{Conserves, allocation_of, freed, holds, is_just, newly, replaced}
 use Rattle.qcow2_metadata.specs.Places.{IsInReach}
 use Rattle.qcow2_metadata.specs.Tables.{TableValue, l2_words, mapping_in, table_in, with_word, word_sound}

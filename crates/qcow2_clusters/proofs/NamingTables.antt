@@ -13,13 +13,13 @@ use Rattle.qcow2_types.specs.Header.{Fields, Header, cluster_size, layout_of, wo
 use Rattle.qcow2_types.specs.Slots.{guest_slot}
 use Rattle.qcow2_types.specs.Switched.{with_refcount_table, with_reftable}
 use Rattle.qcow2_types.specs.Words.{unmapped, is_copied, l1_word_sound, mapping_of, table_offset}
-use Rattle.qcow2_types.proofs.Consistent.{consistent-shaped}
-use Rattle.qcow2_types.proofs.Frames.{splice-is-outside}
-use Rattle.qcow2_types.proofs.Parts.{other-word, words-fit}
-use Rattle.qcow2_types.proofs.Sound.{all-below-holds, sound-words}
-use Rattle.qcow2_types.proofs.Splices.{be-same, be-zeroes, word-written}
-use Rattle.qcow2_types.proofs.Values.{entry-slot}
-use Rattle.qcow2_types.proofs.WordLemmas.{fresh-below, fresh-copied, fresh-l1-word, fresh-offset, zero-word}
+use Rattle.qcow2_types.proofs.Counting.Consistent.{consistent-shaped}
+use Rattle.qcow2_types.proofs.Changes.Frames.{splice-is-outside}
+use Rattle.qcow2_types.proofs.Counting.Parts.{other-word, words-fit}
+use Rattle.qcow2_types.proofs.Counting.Sound.{all-below-holds, sound-words}
+use Rattle.qcow2_types.proofs.Numbers.Splices.{be-same, be-zeroes, word-written}
+use Rattle.qcow2_types.proofs.Showing.Values.{entry-slot}
+use Rattle.qcow2_types.proofs.Numbers.WordLemmas.{fresh-below, fresh-copied, fresh-l1-word, fresh-offset, zero-word}
 use Rattle.qcow2_metadata.specs.Places.{IsInReach}
 use Rattle.qcow2_metadata.specs.Tables.{TableValue, words_in}
 use Rattle.qcow2_metadata.proofs.TableFacts.{words_at, words_long}

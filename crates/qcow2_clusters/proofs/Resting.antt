@@ -10,8 +10,8 @@ use Rattle.qcow2_types.specs.Counts.{count}
 use Rattle.qcow2_types.specs.Entries.{l1_table_sound}
 use Rattle.qcow2_types.specs.Header.{Fields, Header}
 use Rattle.qcow2_types.specs.Words.{l1_word_sound}
-use Rattle.qcow2_types.proofs.Bounded.{all-below}
-use Rattle.qcow2_types.proofs.Sound.{all-below-holds}
+use Rattle.qcow2_types.proofs.Counting.Bounded.{all-below}
+use Rattle.qcow2_types.proofs.Counting.Sound.{all-below-holds}
 use Rattle.qcow2_metadata.specs.Tables.{TableValue}
 use Rattle.qcow2_metadata.proofs.TableFacts.{words_same}
 use Rattle.qcow2_alloc.specs.declared.async_lru_cache.Slot.{Slot}

@@ -22,7 +22,7 @@ use Rattle.qcow2_types.specs.Header.{Fields, Header, cluster_size, words_of_clus
 use Rattle.qcow2_types.specs.Words.{Mapping, data_at}
 use Rattle.qcow2_types.specs.Entries.{entry}
 use Rattle.qcow2_types.specs.Consistency.{IsConsistent}
-use Rattle.qcow2_types.proofs.Consistent.{header-reading}
+use Rattle.qcow2_types.proofs.Counting.Consistent.{header-reading}
 use Rattle.qcow2_metadata.proofs.TableSteps.{past_end}
 use Rattle.qcow2_alloc.specs.Allocators.{table_of}
 use Rattle.qcow2_alloc.specs.Going.{WasNotCutOff}

@@ -26,7 +26,7 @@ use Rattle.qcow2_types.specs.Bytes.{Bytes, bytes_of}
 use Rattle.qcow2_types.specs.Entries.{entry}
 use Rattle.qcow2_types.specs.Header.{Fields, cluster_size}
 use Rattle.qcow2_types.specs.Words.{Mapping, damaged}
-use Rattle.qcow2_types.proofs.HeaderLimits.{header-limited}
+use Rattle.qcow2_types.proofs.Fields.HeaderLimits.{header-limited}
 use Rattle.qcow2_metadata.specs.Places.{IsInReach}
 use Rattle.qcow2_image.specs.Allocating.{TellsShown, WhyNotReserved, shown_cell}
 use Rattle.qcow2_image.specs.Filling.{CopiesPart, CopiesShown, IsInFirst, IsNeededFor, MakesContent, NeedsShown, RefusesPart, WhyNotCopied, first_places, shown_over}

@@ -7,10 +7,10 @@ use Rattle.qcow2_types.specs.Bytes.{Bytes, word}
 use Rattle.qcow2_types.specs.Header.{Fields, words_of_cluster, cluster_size, layout_of}
 use Rattle.qcow2_types.specs.Words.{Mapping, damaged, unmapped, mapping_of, is_damaged, is_place, table_offset, l1_word_sound, bits_at, max_offset}
 use Rattle.qcow2_types.specs.Entries.{entry, entry_through, entry_of_table, l1_table_sound, l2_table, l2_table_sound, l2_mapping}
-use Rattle.qcow2_types.proofs.Bounded.{all-below}
-use Rattle.qcow2_types.proofs.Sound.{all-below-holds}
-use Rattle.qcow2_types.proofs.WordLemmas.{zero-place}
-use Rattle.qcow2_types.proofs.WriteBack.{place-whole, place-near}
+use Rattle.qcow2_types.proofs.Counting.Bounded.{all-below}
+use Rattle.qcow2_types.proofs.Counting.Sound.{all-below-holds}
+use Rattle.qcow2_types.proofs.Numbers.WordLemmas.{zero-place}
+use Rattle.qcow2_types.proofs.Changes.WriteBack.{place-whole, place-near}
 use Rattle.qcow2_metadata.specs.Tables.{TableValue, IsTable, HasUnsound, word_sound, l2_words, words_in, mapping_in}
 use Rattle.qcow2_metadata.specs.Places.{IsInReach}
 use Rattle.qcow2_metadata.proofs.TableFacts.{words_long, words_at}

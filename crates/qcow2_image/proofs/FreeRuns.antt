@@ -12,8 +12,8 @@ use Rattle.qcow2_types.specs.Bytes.{Bytes}
 use Rattle.qcow2_types.specs.Counts.{count, counters_of_block}
 use Rattle.qcow2_types.specs.Header.{Fields, Header, cluster_size, words_of_cluster}
 use Rattle.qcow2_types.specs.Words.{max_offset}
-use Rattle.qcow2_types.proofs.Consistent.{consistent-shaped}
-use Rattle.qcow2_types.proofs.HeaderLimits.{header-limited, least-cluster}
+use Rattle.qcow2_types.proofs.Counting.Consistent.{consistent-shaped}
+use Rattle.qcow2_types.proofs.Fields.HeaderLimits.{header-limited, least-cluster}
 use Rattle.qcow2_alloc.specs.Allocators.{mark_of}
 use Rattle.qcow2_alloc.specs.Crowding.{room_for, space}
 use Rattle.qcow2_alloc.specs.Quiet.{counted}

@@ -26,7 +26,7 @@ use Rattle.qcow2_types.specs.Words.{Mapping, data_at, zeroes, packed, damaged, m
 use Rattle.qcow2_types.specs.Words as words
 use Rattle.qcow2_types.specs.Entries.{entry, l2_table}
 use Rattle.qcow2_types.specs.Consistency.{IsConsistent}
-use Rattle.qcow2_types.proofs.Consistent.{header-reading}
+use Rattle.qcow2_types.proofs.Counting.Consistent.{header-reading}
 use Rattle.qcow2_metadata.specs.Tables.{WhyNotLoaded, block_words, words_in}
 use Rattle.qcow2_alloc.specs.declared.allocation.Allocator.{Allocator}
 use Rattle.qcow2_alloc.specs.Allocators.{IsTablePlaced, LoadsAllocator}

@@ -8,7 +8,7 @@ use Rattle.qcow2_types.specs.Header.{Fields, cluster_size}
 use Rattle.qcow2_types.specs.References.{meets, structure}
 use Rattle.qcow2_types.specs.Words.{Mapping, damaged, data_at, packed, zeroes}
 use Rattle.qcow2_types.specs.Words as words
-use Rattle.qcow2_types.proofs.Consistent.{meets-own}
+use Rattle.qcow2_types.proofs.Counting.Consistent.{meets-own}
 use Rattle.qcow2_steps.specs.Data.{IsKeptFor}
 use Rattle.qcow2_clusters.specs.declared.space.Space.{Space}
 use Rattle.qcow2_image.specs.Allocating.{HasKept, kept_by}

@@ -14,7 +14,7 @@ use Rattle.qcow2_types.specs.Entries.{entry}
 use Rattle.qcow2_types.specs.Frames.{Outside}
 use Rattle.qcow2_types.specs.Header.{Fields, cluster_size}
 use Rattle.qcow2_types.specs.Words.{data_at}
-use Rattle.qcow2_types.proofs.DataSteps.{untouched-keeps}
+use Rattle.qcow2_types.proofs.Changes.DataSteps.{untouched-keeps}
 use Rattle.qcow2_alloc.specs.Quiet.{Metadata, IsSound}
 use Rattle.qcow2_steps.specs.Data.{IsHidden, KeepsWords, WritesBeside}
 use Rattle.qcow2_steps.proofs.DataRuns.{beside-reserved, beside-words}

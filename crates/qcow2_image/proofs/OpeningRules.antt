@@ -12,11 +12,11 @@ use Rattle.qcow2_types.specs.Words.{Layout, l1_word_sound, max_offset}
 use Rattle.qcow2_types.specs.Counts.{refcount_table_sound}
 use Rattle.qcow2_types.specs.Header.{Header, Limited, refcount_table_entries, first_fault, header_of, has_external_data, cluster_size, layout_of, ◌and-then◌, ◌>>=◌}
 use Rattle.qcow2_types.specs.Entries.{l1_table_sound}
-use Rattle.qcow2_types.proofs.Bounded.{all-below}
-use Rattle.qcow2_types.proofs.Consistent.{header-reading}
-use Rattle.qcow2_types.proofs.HeaderLimits.{header-limited}
-use Rattle.qcow2_types.proofs.Sound.{all-below-holds}
-use Rattle.qcow2_types.proofs.WriteBack.{place-near, place-whole}
+use Rattle.qcow2_types.proofs.Counting.Bounded.{all-below}
+use Rattle.qcow2_types.proofs.Counting.Consistent.{header-reading}
+use Rattle.qcow2_types.proofs.Fields.HeaderLimits.{header-limited}
+use Rattle.qcow2_types.proofs.Counting.Sound.{all-below-holds}
+use Rattle.qcow2_types.proofs.Changes.WriteBack.{place-near, place-whole}
 use Rattle.qcow2_metadata.specs.Loading.{NotLoaded}
 use Rattle.qcow2_metadata.specs.Places.{IsInReach}
 use Rattle.qcow2_metadata.specs.Tables.{TableValue, Kind, AreSound, HasUnsound, WhyNotLoaded, block_words, l1_words, table_in, word_sound, words_in}

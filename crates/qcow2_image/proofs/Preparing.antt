@@ -30,10 +30,10 @@ use Rattle.qcow2_types.specs.Words.{Mapping, data_at, zeroes, packed, damaged, i
 use Rattle.qcow2_types.specs.Words as words
 use Rattle.qcow2_types.specs.Entries.{entry, l2_table}
 use Rattle.qcow2_types.specs.Consistency.{IsConsistent}
-use Rattle.qcow2_types.proofs.Consistent.{some-words, consistent-shaped}
-use Rattle.qcow2_types.proofs.Shows.{guest-slot-there, guest-slot-none, guest-live}
-use Rattle.qcow2_types.proofs.Sound.{sound-words}
-use Rattle.qcow2_types.proofs.Values.{entry-slot}
+use Rattle.qcow2_types.proofs.Counting.Consistent.{some-words, consistent-shaped}
+use Rattle.qcow2_types.proofs.Showing.Shows.{guest-slot-there, guest-slot-none, guest-live}
+use Rattle.qcow2_types.proofs.Counting.Sound.{sound-words}
+use Rattle.qcow2_types.proofs.Showing.Values.{entry-slot}
 use Rattle.qcow2_image.specs.contracts.qcow2.Qcow2Seen.TheImpl.{ghosts}
 use Rattle.qcow2_image.specs.declared.qcow2.Qcow2.{Qcow2}
 use Rattle.qcow2_image.specs.declared.qcow2.PreparedMappingState.{PreparedMappingState}

@@ -8,9 +8,9 @@ use Rattle.qcow2_types.specs.Bytes.{Bytes, be, bytes_of}
 use Rattle.qcow2_types.specs.Header.{Header, header_of, first_fault, rules_of_kind}
 use Rattle.qcow2_types.specs.OnDisk.{v2_bytes}
 use Rattle.qcow2_types.specs.declared.on_disk.V2Header.{V2Header}
-use Rattle.qcow2_types.proofs.HeaderFields.{holds-same, v2-magic, v2-version}
-use Rattle.qcow2_types.proofs.Splices.{be-same}
-use Rattle.qcow2_types.proofs.HeaderFrame.{and-then-none, two-passed}
+use Rattle.qcow2_types.proofs.Fields.HeaderFields.{holds-same, v2-magic, v2-version}
+use Rattle.qcow2_types.proofs.Numbers.Splices.{be-same}
+use Rattle.qcow2_types.proofs.Fields.HeaderFrame.{and-then-none, two-passed}
 use Rattle.qcow2_image.specs.Opening.{is_qcow2}
 
 module _ (file start : List ℕ) (reads : Reads file 0 start) (long : length start ≡ 72) where

@@ -15,10 +15,10 @@ use Rattle.qcow2_types.specs.Counts.{block_at}
 use Rattle.qcow2_types.specs.References.{structure, meets}
 use Rattle.qcow2_types.specs.Consistency.{IsConsistent}
 use Rattle.qcow2_types.specs.Frames.{Outside, Kept, nothing}
-use Rattle.qcow2_types.proofs.Consistent.{some-words, consistent-shaped}
-use Rattle.qcow2_types.proofs.Frames.{word-same}
-use Rattle.qcow2_types.proofs.Shows.{guest-kept, entries-same}
-use Rattle.qcow2_types.proofs.DataSteps.{untouched-keeps, untouched-consistent, run-written}
+use Rattle.qcow2_types.proofs.Counting.Consistent.{some-words, consistent-shaped}
+use Rattle.qcow2_types.proofs.Changes.Frames.{word-same}
+use Rattle.qcow2_types.proofs.Showing.Shows.{guest-kept, entries-same}
+use Rattle.qcow2_types.proofs.Changes.DataSteps.{untouched-keeps, untouched-consistent, run-written}
 use Rattle.qcow2_metadata.specs.Tables.{words_in}
 use Rattle.qcow2_steps.specs.Data.{IsHidden}
 use Rattle.qcow2_metadata.proofs.TableFacts.{words_same}

@@ -9,9 +9,9 @@ use Rattle.qcow2_types.specs.Consistency.{leak_at, leaks, leaks_below}
 use Rattle.qcow2_types.specs.Counts.{count, counters_of_block}
 use Rattle.qcow2_types.specs.Header.{Fields, refcount_table_entries}
 use Rattle.qcow2_types.specs.References.{refs}
-use Rattle.qcow2_types.proofs.Consistent.{consistent-shaped}
-use Rattle.qcow2_types.proofs.Counters.{some-counters}
-use Rattle.qcow2_types.proofs.Leaks.{count-beyond, no-leak}
+use Rattle.qcow2_types.proofs.Counting.Consistent.{consistent-shaped}
+use Rattle.qcow2_types.proofs.Counting.Counters.{some-counters}
+use Rattle.qcow2_types.proofs.Counting.Leaks.{count-beyond, no-leak}
 use Rattle.qcow2_image.specs.Leaking.{KeepsLeaks, leaks_of, pending}
 use Rattle.qcow2_image.specs.Rooms.{IsSafe}
 use Rattle.qcow2_image.specs.Seen.{file_of}

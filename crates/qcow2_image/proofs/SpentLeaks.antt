@@ -14,11 +14,11 @@ use Rattle.qcow2_types.specs.Header.{Fields, cluster_size, layout_of, words_of_c
 use Rattle.qcow2_types.specs.References.{meets, of_mapping, refs}
 use Rattle.qcow2_types.specs.Slots.{Live, slot}
 use Rattle.qcow2_types.specs.Words.{Mapping, mapping_of}
-use Rattle.qcow2_types.proofs.Consistent.{consistent-shaped, some-words}
-use Rattle.qcow2_types.proofs.Either.{refs-file}
-use Rattle.qcow2_types.proofs.Shows.{guest-slot-there}
-use Rattle.qcow2_types.proofs.Slots.{contents-slots, slot-le}
-use Rattle.qcow2_types.proofs.Values.{entry-slot}
+use Rattle.qcow2_types.proofs.Counting.Consistent.{consistent-shaped, some-words}
+use Rattle.qcow2_types.proofs.Counting.Either.{refs-file}
+use Rattle.qcow2_types.proofs.Showing.Shows.{guest-slot-there}
+use Rattle.qcow2_types.proofs.Counting.Slots.{contents-slots, slot-le}
+use Rattle.qcow2_types.proofs.Showing.Values.{entry-slot}
 use Rattle.qcow2_metadata.specs.Allocations.{allocation_of, freed, newly, replaced}
 use Rattle.qcow2_metadata.specs.Places.{IsInReach}
 use Rattle.qcow2_metadata.proofs.Conservation.{map_conserves}

@@ -29,10 +29,10 @@ use Rattle.qcow2_types.specs.Words.{Mapping}
 use Rattle.qcow2_types.specs.Entries.{entry, l2_table}
 use Rattle.qcow2_types.specs.Consistency.{IsConsistent}
 use Rattle.qcow2_types.specs.Frames.{Outside, Kept, nothing}
-use Rattle.qcow2_types.proofs.Consistent.{header-reading}
+use Rattle.qcow2_types.proofs.Counting.Consistent.{header-reading}
 use Rattle.qcow2_types.specs.Counts.{count}
 use Rattle.qcow2_types.specs.References.{refs}
-use Rattle.qcow2_types.proofs.DataSteps.{untouched-counts, untouched-keeps, untouched-references}
+use Rattle.qcow2_types.proofs.Changes.DataSteps.{untouched-counts, untouched-keeps, untouched-references}
 use Rattle.qcow2_metadata.specs.Tables.{TableValue, words_in}
 use Rattle.qcow2_alloc.specs.declared.async_lru_cache.Slot.{Slot}
 use Rattle.qcow2_alloc.specs.Caches.{cached_in}

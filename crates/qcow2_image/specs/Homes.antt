@@ -11,12 +11,12 @@ use Rattle.qcow2_types.specs.Words as words
 use Rattle.qcow2_types.specs.Entries.{entry, l2_table}
 use Rattle.qcow2_types.specs.References.{structure, contents, of_mapping, of_copied, meets, refs}
 use Rattle.qcow2_types.specs.Slots.{slot, Live}
-use Rattle.qcow2_types.proofs.Consistent.{some-words, meets-own, consistent-shaped}
-use Rattle.qcow2_types.proofs.Slots.{contents-slots}
-use Rattle.qcow2_types.proofs.Shows.{guest-slot-there, guest-slot-none, guest-live}
-use Rattle.qcow2_types.proofs.Values.{entry-slot}
-use Rattle.qcow2_types.proofs.DataWrites.{slots-two}
-use Rattle.qcow2_types.proofs.DataSteps.{marked-named-once, marked-apart-from-structure}
+use Rattle.qcow2_types.proofs.Counting.Consistent.{some-words, meets-own, consistent-shaped}
+use Rattle.qcow2_types.proofs.Counting.Slots.{contents-slots}
+use Rattle.qcow2_types.proofs.Showing.Shows.{guest-slot-there, guest-slot-none, guest-live}
+use Rattle.qcow2_types.proofs.Showing.Values.{entry-slot}
+use Rattle.qcow2_types.proofs.Changes.DataWrites.{slots-two}
+use Rattle.qcow2_types.proofs.Changes.DataSteps.{marked-named-once, marked-apart-from-structure}
 use Rattle.qcow2_types.specs.Consistency.{IsConsistent}
 use Rattle.qcow2_alloc.specs.Caches.{cached_in}
 use Rattle.qcow2_alloc.proofs.Memory.SafeLaws.{clean-memory}

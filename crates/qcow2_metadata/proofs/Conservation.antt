@@ -9,7 +9,7 @@ use Rattle.std.proofs.lemmas.Nat.{pow_pos, div-add-mod', mod_below, mul-le, div-
 use Rattle.qcow2_types.specs.Words.{Layout, Mapping, unmapped, data_at, zeroes, packed, damaged, mapping_of, is_place, is_copied, has_bit, bits_at, table_offset, names_cluster, standard_word_sound, max_offset, packed_place, packed_end}
 use Rattle.qcow2_types.specs.Header.{Fields, cluster_size}
 use Rattle.qcow2_types.specs.References.{of_mapping, meets}
-use Rattle.qcow2_types.proofs.WordLemmas.{zero-word}
+use Rattle.qcow2_types.proofs.Numbers.WordLemmas.{zero-word}
 use Rattle.qcow2_metadata.specs.Places.{IsInReach}
 use Rattle.qcow2_metadata.specs.Tables.{zero_word}
 use Rattle.qcow2_metadata.specs.Allocations.{allocation_of, clusters_of_range, freed, holds, replaced, newly, unkept, kept_for_zero, kept_where, zeroed_word, Conserves, IsKeptInReach}

@@ -1,7 +1,7 @@
 -- A digit of a number that is raised by one, where it does not carry.
 use Rattle.std.proofs.Common.{◌≡◌, ℕ, ◌+◌, ◌-◌, ◌*◌, ◌/◌, ◌%◌, ◌<◌, ◌≤◌, ◌^◌, ◌∙◌, ap, sym, arith, refl}
 use Rattle.std.proofs.lemmas.Nat.{mul-add-lt, shr_below, shr_split, shr-shr, pow-add, div-mul-add, mod-mul-add, mod_below, pow_pos}
-use Rattle.qcow2_types.proofs.TableSizes.{next_below}
+use Rattle.qcow2_types.proofs.Counting.TableSizes.{next_below}
 
 -- the quotient goes up by one
 pub raised_quotient : (x s : ℕ) → (x + 2 ^ s) / 2 ^ s ≡ x / 2 ^ s + 1

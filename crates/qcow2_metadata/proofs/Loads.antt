@@ -8,7 +8,7 @@ use Rattle.imago_storage.specs.declared.fault.Fault.TheVariants.{Memory, Storage
 use Rattle.qcow2_types.specs.Bytes.{Bytes, bytes_of}
 use Rattle.qcow2_types.specs.Frames.{Same}
 use Rattle.qcow2_types.specs.Header.{Fields, Header, fields_of, first_fault, ◌and-then◌, ◌>>=◌, rules_of_kind, rules_of_shape, rules_of_size, rules_of_writing, backing_name_read, extensions_read, text_read, last_of, texts_of, header_of, cluster_size}
-use Rattle.qcow2_types.proofs.HeaderFrame.{start-be, fields-same, texts-alike, bind-ok}
+use Rattle.qcow2_types.proofs.Fields.HeaderFrame.{start-be, fields-same, texts-alike, bind-ok}
 use Rattle.qcow2_metadata.specs.Loading.{fields_fault, ◌or-else◌, RefusedBy, NotLoaded}
 use Rattle.qcow2_metadata.proofs.Refusals.{header-refusal}
 

@@ -12,8 +12,8 @@ use Rattle.qcow2_types.specs.Bytes.{Bytes, bytes_of, be}
 use Rattle.qcow2_types.specs.Header.{Fields, Shaped, cluster_size}
 use Rattle.qcow2_types.specs.Counts.{counter_of, wide_counter, narrow_counter, counters_of_block}
 use Rattle.qcow2_types.specs.Counts.{counter as counter_in}
-use Rattle.qcow2_types.proofs.Counters.{counter-moved}
-use Rattle.qcow2_types.proofs.Digits.{be-below}
+use Rattle.qcow2_types.proofs.Counting.Counters.{counter-moved}
+use Rattle.qcow2_types.proofs.Numbers.Digits.{be-below}
 use Rattle.imago_storage.specs.Calls.{Reads}
 use Rattle.qcow2_metadata.specs.Cells.{big_endian, cell_bytes, cell_counters, counter, counter_count, counters_of, HasCounter}
 use Rattle.qcow2_metadata.specs.Blocks.{counters_in}

@@ -6,7 +6,7 @@ use Rattle.std.proofs.lemmas.List.{get_or-take, get_or-drop}
 use Rattle.std.proofs.lemmas.Bool.Decides.{nat_tests}
 use Rattle.qcow2_types.specs.Bytes.{bytes_of, be}
 use Rattle.qcow2_types.specs.Header.{fields_of}
-use Rattle.qcow2_types.proofs.Splices.{be-same}
+use Rattle.qcow2_types.proofs.Numbers.Splices.{be-same}
 use Rattle.qcow2_types.specs.declared.on_disk.V2Header.{V2Header}
 use Rattle.qcow2_types.specs.declared.on_disk.V3HeaderBase.{V3HeaderBase}
 use Rattle.qcow2_metadata.specs.Parts.{IsV2At, IsV3At}

@@ -4,7 +4,7 @@ use Rattle.std.specs.Prelude.{IsTrue, Option, Some, None}
 use Rattle.std.proofs.lemmas.Nat.{div-add-mod', div_below, le-div, mul-le, pow_pos, pow-add}
 use Rattle.qcow2_types.specs.Words.{is_place}
 use Rattle.qcow2_types.specs.Header.{Fields, Limited, first_fault, rules_of_size, words_of_cluster}
-use Rattle.qcow2_types.proofs.HeaderLimits.{fields-limited, limited-fields}
+use Rattle.qcow2_types.proofs.Fields.HeaderLimits.{fields-limited, limited-fields}
 use Rattle.qcow2_metadata.specs.Places.{IsPlaced, place_of}
 use Rattle.qcow2_metadata.proofs.TableSteps.{cluster_place}
 

@@ -15,8 +15,8 @@ use Rattle.qcow2_types.specs.OnDisk.{Holds}
 use Rattle.qcow2_types.specs.Header.{Feature, Fields, Header, Extension, Shaped, fields_of, header_of, texts_of, cluster_size, is_version_3, has_backing_name, backing_name_read, extensions_read, extensions_end, extensions_at, text_read, last_of, features_read}
 use Rattle.qcow2_types.specs.HeaderBytes.{first_bytes, newer_bytes, fields_bytes, fields_length, extension_bytes, extension_of, extensions_of, extensions_bytes, names_data, name_bytes, name_place, written_fields, written, header_bytes}
 use Rattle.qcow2_types.specs.HeaderSwitch.{FirstFieldsFit}
-use Rattle.qcow2_types.proofs.HeldBytes.{holds-front, holds-back, holds-as, held_4, held_8, run-held, ArePlain, extensions-held, length-extension_bytes}
-use Rattle.qcow2_types.proofs.HeaderSwitch.{header-made, kind-kept, splice-holds, first-magic, first-version, first-backing_offset, first-backing_length, first-cluster_bits, first-size, first-crypt_method, first-l1_entries, first-l1_offset, first-refcount_table_offset, first-refcount_table_clusters, first-snapshots}
+use Rattle.qcow2_types.proofs.Numbers.HeldBytes.{holds-front, holds-back, holds-as, held_4, held_8, run-held, ArePlain, extensions-held, length-extension_bytes}
+use Rattle.qcow2_types.proofs.Switching.HeaderSwitch.{header-made, kind-kept, splice-holds, first-magic, first-version, first-backing_offset, first-backing_length, first-cluster_bits, first-size, first-crypt_method, first-l1_entries, first-l1_offset, first-refcount_table_offset, first-refcount_table_clusters, first-snapshots}
 use Rattle.qcow2_metadata.specs.Reloading.{is_text, LaterFieldsFit, HasNothingNewer, IsReloadable}
 use Rattle.qcow2_metadata.proofs.RuleLemmas.{shape-passed}
 use Rattle.qcow2_metadata.proofs.Written.{length-fields_bytes, length-header_bytes, fields-long}

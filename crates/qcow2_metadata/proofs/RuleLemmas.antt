@@ -6,7 +6,7 @@ use Rattle.imago_storage.specs.declared.fault.Fault.{Fault}
 use Rattle.imago_storage.specs.declared.fault.Fault.TheVariants.{DamagedHeader, Unsupported}
 use Rattle.qcow2_types.specs.Bytes.{Bytes, be}
 use Rattle.qcow2_types.specs.Header.{Fields, Shaped, fields_of, first_fault, rules_of_kind, rules_of_shape, rules_of_size}
-use Rattle.qcow2_types.proofs.HeaderFrame.{two-passed}
+use Rattle.qcow2_types.proofs.Fields.HeaderFrame.{two-passed}
 use Rattle.qcow2_metadata.specs.Loading.{fields_fault}
 
 -- the rules on magic and version are kept

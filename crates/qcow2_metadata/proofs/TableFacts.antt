@@ -17,7 +17,7 @@ use Rattle.imago_storage.specs.Calls.{Reads, Cause}
 use Rattle.imago_storage.specs.declared.fault.Fault.{Fault}
 use Rattle.imago_storage.specs.declared.fault.Fault.TheVariants.{Memory, DamagedTable, Storage}
 use Rattle.qcow2_types.specs.Bytes.{Bytes, bytes_of, be, word}
-use Rattle.qcow2_types.proofs.Splices.{be-same}
+use Rattle.qcow2_types.proofs.Numbers.Splices.{be-same}
 use Rattle.qcow2_metadata.specs.Tables.{words_in, AreSound, HasUnsound, WhyNotDecoded, WhyNotLoaded, word_sound}
 use Rattle.qcow2_metadata.specs.Places.{IsPlaced, place_of}
 use Rattle.qcow2_metadata.proofs.TableSteps.{EachWord}

@@ -11,7 +11,7 @@ use Rattle.std.proofs.lemmas.List.FromFn.{length-map-range_with_len, get_or-map-
 use Rattle.std.proofs.lemmas.Nat.{pow-add}
 use Rattle.std.proofs.Math.Nat.{mul-mod_left}
 use Rattle.qcow2_types.specs.Words.{Layout, is_place, max_offset, block_word_sound, block_offset, l1_word_sound, table_offset}
-use Rattle.qcow2_types.proofs.WordLemmas.{zero-word, zero-l1-word, fresh-l1-word}
+use Rattle.qcow2_types.proofs.Numbers.WordLemmas.{zero-word, zero-l1-word, fresh-l1-word}
 use Rattle.qcow2_metadata.specs.Places.{IsPlaced, place_of}
 use Rattle.qcow2_metadata.specs.Tables.{Kind, l1_words, l2_words, block_words, IsTable, IsLength, AreSound, word_sound, padded}
 use Rattle.qcow2_types.specs.TableBytes.{AreFit}

@@ -11,7 +11,7 @@ use borrow.Rule.Slice.PartMut.{put_mid}
 use Rattle.std.proofs.Math.Seq.{take-append_seam, drop-append_seam}
 use Rattle.std.proofs.lemmas.List.{take-append-drop, length-replicate}
 use Rattle.std.proofs.lemmas.Slice.{take-put_mid, drop-put_mid, drop-append-drop}
-use Rattle.qcow2_types.proofs.HeaderFields.{length-v2_bytes, length-v3_bytes}
+use Rattle.qcow2_types.proofs.Fields.HeaderFields.{length-v2_bytes, length-v3_bytes}
 use Rattle.qcow2_types.specs.declared.on_disk.V2Header.{V2Header}
 use Rattle.qcow2_types.specs.declared.on_disk.V3HeaderBase.{V3HeaderBase}
 use Rattle.qcow2_metadata.specs.FieldsView.{seen_fields}

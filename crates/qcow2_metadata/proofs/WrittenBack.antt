@@ -7,8 +7,8 @@ use Rattle.std.proofs.lemmas.Grind.{flat_map-append, same_number_lists}
 use Rattle.std.proofs.lemmas.List.{append-nil}
 use Rattle.std.proofs.lemmas.Bool.{cases_lt}
 use Rattle.qcow2_types.specs.Bytes.{Bytes, bytes_of, be, word, run, splice}
-use Rattle.qcow2_types.proofs.Over.{table-over}
-use Rattle.qcow2_types.proofs.Splices.{be-same, be-of-bytes}
+use Rattle.qcow2_types.proofs.Changes.Over.{table-over}
+use Rattle.qcow2_types.proofs.Numbers.Splices.{be-same, be-of-bytes}
 use Rattle.qcow2_metadata.specs.Tables.{words_in}
 use Rattle.qcow2_types.specs.TableBytes.{AreFit, table_bytes}
 use Rattle.qcow2_metadata.proofs.TableFacts.{words_long, words_at, words_more}

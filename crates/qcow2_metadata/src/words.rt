@@ -102,7 +102,7 @@ pub(crate) fn is_block_word(word: u64, cluster_bits: u32) -> bool
 }
 
 /// The place of the first byte that a compressed word names, and the bytes from there to the end of its last sector.
-#[tactic(auto, using(qcow2_types::proofs::Reach::sectors_fit, crate::proofs::WordFacts::packed_fits))]
+#[tactic(auto, using(qcow2_types::proofs::Numbers::Reach::sectors_fit, crate::proofs::WordFacts::packed_fits))]
 pub(crate) fn packed_range(word: u64, cluster_bits: u32) -> (u64, u64)
     requires { (9 ≤ cluster_bits) × (cluster_bits ≤ 21) }
     ensures place { result.0 ≡ packed_place cluster_bits word }
@@ -136,7 +136,7 @@ pub(crate) fn compressed(word: u64, cluster_bits: u32) -> Result<L2Mapping, Faul
 }
 
 /// What a standard word means, or `Fault::DamagedTable` where it means nothing. The layer below is read at `backing_offset`.
-#[tactic(auto, using(qcow2_types::proofs::Reach::cluster_begin))]
+#[tactic(auto, using(qcow2_types::proofs::Numbers::Reach::cluster_begin))]
 pub(crate) fn standard(
     word: u64,
     layout: TableLayout,

@@ -15,13 +15,13 @@ use Rattle.qcow2_types.specs.Slots.{slot}
 use Rattle.qcow2_types.specs.Steps.{TableReplaced, TableSwapped}
 use Rattle.qcow2_types.specs.Unmarked.{unmarked_mapping}
 use Rattle.qcow2_types.specs.Words.{Mapping, data_at, zeroes, packed, unmapped, damaged, is_damaged, l1_word_sound, mapping_of, table_offset}
-use Rattle.qcow2_types.proofs.Consistent.{consistent-shaped, copied-named-once, meets-own, meets-other, named-counted, some-words, structure-named-once}
-use Rattle.qcow2_types.proofs.Limit.{sum-zero}
-use Rattle.qcow2_types.proofs.Named.{structure-le-refs}
-use Rattle.qcow2_types.proofs.Sound.{sound-words}
-use Rattle.qcow2_types.proofs.Sums.{sum-mono, sum-same, term-le-sum}
-use Rattle.qcow2_types.proofs.TableReplaces.{table-replaced-spliced, table-swapped-spliced}
-use Rattle.qcow2_types.proofs.Values.{entry-slot}
+use Rattle.qcow2_types.proofs.Counting.Consistent.{consistent-shaped, copied-named-once, meets-own, meets-other, named-counted, some-words, structure-named-once}
+use Rattle.qcow2_types.proofs.Counting.Limit.{sum-zero}
+use Rattle.qcow2_types.proofs.Counting.Named.{structure-le-refs}
+use Rattle.qcow2_types.proofs.Counting.Sound.{sound-words}
+use Rattle.qcow2_types.proofs.Numbers.Sums.{sum-mono, sum-same, term-le-sum}
+use Rattle.qcow2_types.proofs.Changes.TableReplaces.{table-replaced-spliced, table-swapped-spliced}
+use Rattle.qcow2_types.proofs.Showing.Values.{entry-slot}
 use Rattle.qcow2_alloc.proofs.Memory.Patches.{place-there}
 use Rattle.qcow2_steps.specs.NewTables.{copied_as, slot_or_none}
 

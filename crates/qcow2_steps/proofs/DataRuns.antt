@@ -11,9 +11,9 @@ use Rattle.qcow2_types.specs.References.{meets}
 use Rattle.qcow2_types.specs.Slots.{Live, slot}
 use Rattle.qcow2_types.specs.Steps.{RunWritten}
 use Rattle.qcow2_types.specs.Versions.{SamePlaces, copied}
-use Rattle.qcow2_types.proofs.Consistent.{named-counted}
-use Rattle.qcow2_types.proofs.DataSteps.{run-written}
-use Rattle.qcow2_types.proofs.Either.{structure-same}
+use Rattle.qcow2_types.proofs.Counting.Consistent.{named-counted}
+use Rattle.qcow2_types.proofs.Changes.DataSteps.{run-written}
+use Rattle.qcow2_types.proofs.Counting.Either.{structure-same}
 use Rattle.qcow2_metadata.specs.Blocks.{Block}
 use Rattle.qcow2_alloc.specs.Memory.{patches}
 use Rattle.qcow2_alloc.specs.Quiet.{Metadata, IsSound, IsUsed, in_memory, named_at_all}

@@ -12,11 +12,11 @@ use Rattle.qcow2_types.specs.Header.{Fields, Header, cluster_size, words_of_clus
 use Rattle.qcow2_types.specs.References.{meets, of_copied, of_mapping, refs, structure}
 use Rattle.qcow2_types.specs.Slots.{Live, slot}
 use Rattle.qcow2_types.specs.Words.{data_at, unmapped, zeroes}
-use Rattle.qcow2_types.proofs.Consistent.{consistent-shaped, meets-own, some-words}
-use Rattle.qcow2_types.proofs.Either.{structure-same}
-use Rattle.qcow2_types.proofs.Shows.{guest-live, guest-slot-none, guest-slot-there}
-use Rattle.qcow2_types.proofs.Slots.{contents-slots, slot-le}
-use Rattle.qcow2_types.proofs.Values.{entry-slot}
+use Rattle.qcow2_types.proofs.Counting.Consistent.{consistent-shaped, meets-own, some-words}
+use Rattle.qcow2_types.proofs.Counting.Either.{structure-same}
+use Rattle.qcow2_types.proofs.Showing.Shows.{guest-live, guest-slot-none, guest-slot-there}
+use Rattle.qcow2_types.proofs.Counting.Slots.{contents-slots, slot-le}
+use Rattle.qcow2_types.proofs.Showing.Values.{entry-slot}
 use Rattle.qcow2_alloc.specs.Quiet.{Metadata, IsSound, IsUsed, in_memory, referenced}
 use Rattle.qcow2_steps.specs.Advancing.{Advances, MayBeLeft}
 use Rattle.qcow2_steps.specs.Data.{AreNamedFor, IsHidden, IsHiddenIn, IsKeptFor, IsNamedFor, WritesBeside}

@@ -16,14 +16,14 @@ use Rattle.qcow2_types.specs.Slots.{Live, or_none, over_slots, slot}
 use Rattle.qcow2_types.specs.Switched.{L1Switched, with_l1, with_l1_table}
 use Rattle.qcow2_types.specs.Versions.{SamePlaces, copied}
 use Rattle.qcow2_types.specs.Words.{data_at}
-use Rattle.qcow2_types.proofs.Consistent.{header-kept, meets-own, named-counted}
-use Rattle.qcow2_types.proofs.Either.{refs-cached, refs-file}
-use Rattle.qcow2_types.proofs.Frames.{l1-part, touches-cluster, word-same}
-use Rattle.qcow2_types.proofs.L1Switch.{l1-table-switched}
-use Rattle.qcow2_types.proofs.Parts.{header, l1_table, one-part, touches-inside}
-use Rattle.qcow2_types.proofs.Shows.{table-inside}
-use Rattle.qcow2_types.proofs.Sums.{sum-same}
-use Rattle.qcow2_types.proofs.Switches.{cluster-long, l1-switched, sum-longer}
+use Rattle.qcow2_types.proofs.Counting.Consistent.{header-kept, meets-own, named-counted}
+use Rattle.qcow2_types.proofs.Counting.Either.{refs-cached, refs-file}
+use Rattle.qcow2_types.proofs.Changes.Frames.{l1-part, touches-cluster, word-same}
+use Rattle.qcow2_types.proofs.Switching.L1Switch.{l1-table-switched}
+use Rattle.qcow2_types.proofs.Counting.Parts.{header, l1_table, one-part, touches-inside}
+use Rattle.qcow2_types.proofs.Showing.Shows.{table-inside}
+use Rattle.qcow2_types.proofs.Numbers.Sums.{sum-same}
+use Rattle.qcow2_types.proofs.Switching.Switches.{cluster-long, l1-switched, sum-longer}
 use Rattle.qcow2_metadata.specs.Blocks.{Block}
 use Rattle.qcow2_metadata.specs.Tables.{TableValue}
 use Rattle.qcow2_alloc.specs.Memory.{memory, patches}

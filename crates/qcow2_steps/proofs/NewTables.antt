@@ -17,13 +17,13 @@ use Rattle.qcow2_types.specs.Steps.{TableSwapped}
 use Rattle.qcow2_types.specs.Unmarked.{unmarked_mapping}
 use Rattle.qcow2_types.specs.Versions.{SamePlaces, copied, named, of_either}
 use Rattle.qcow2_types.specs.Words.{Mapping, data_at, zeroes, packed, unmapped, damaged, mapping_of}
-use Rattle.qcow2_types.proofs.Consistent.{meets-other, meets-own, named-counted}
-use Rattle.qcow2_types.proofs.Either.{refs-cached, refs-file}
-use Rattle.qcow2_types.proofs.Frames.{l1-part, splice-is-outside, word-same}
-use Rattle.qcow2_types.proofs.Limit.{sum-zero}
-use Rattle.qcow2_types.proofs.Parts.{l1_table, words-fit}
-use Rattle.qcow2_types.proofs.Sums.{sum-mono, sum-same, term-le-sum}
-use Rattle.qcow2_types.proofs.Switches.{table-switched}
+use Rattle.qcow2_types.proofs.Counting.Consistent.{meets-other, meets-own, named-counted}
+use Rattle.qcow2_types.proofs.Counting.Either.{refs-cached, refs-file}
+use Rattle.qcow2_types.proofs.Changes.Frames.{l1-part, splice-is-outside, word-same}
+use Rattle.qcow2_types.proofs.Counting.Limit.{sum-zero}
+use Rattle.qcow2_types.proofs.Counting.Parts.{l1_table, words-fit}
+use Rattle.qcow2_types.proofs.Numbers.Sums.{sum-mono, sum-same, term-le-sum}
+use Rattle.qcow2_types.proofs.Switching.Switches.{table-switched}
 use Rattle.qcow2_metadata.specs.Blocks.{Block}
 use Rattle.qcow2_metadata.specs.Tables.{TableValue, words_in}
 use Rattle.qcow2_alloc.specs.Quiet.{Metadata, IsSound, counted, in_memory, named_at_all, one_at, referenced, waiting}

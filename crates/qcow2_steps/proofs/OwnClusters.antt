@@ -9,9 +9,9 @@ use Rattle.qcow2_types.specs.Header.{Fields, words_of_cluster}
 use Rattle.qcow2_types.specs.References.{meets, of_copied, of_mapping, structure}
 use Rattle.qcow2_types.specs.Slots.{Live, slot}
 use Rattle.qcow2_types.specs.Versions.{copied, named, of_either}
-use Rattle.qcow2_types.proofs.DataWrites.{alone-slot, alone-structure}
-use Rattle.qcow2_types.proofs.Named.{copied-named}
-use Rattle.qcow2_types.proofs.Slots.{slot-le}
+use Rattle.qcow2_types.proofs.Changes.DataWrites.{alone-slot, alone-structure}
+use Rattle.qcow2_types.proofs.Counting.Named.{copied-named}
+use Rattle.qcow2_types.proofs.Counting.Slots.{slot-le}
 use Rattle.qcow2_alloc.specs.Quiet.{Metadata, IsSound, in_memory, named_at_all}
 use Rattle.qcow2_steps.specs.Data.{IsNamedFor}
 

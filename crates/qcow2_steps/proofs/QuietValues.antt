@@ -13,10 +13,10 @@ use Rattle.qcow2_types.specs.References.{meets, of_mapping, refs}
 use Rattle.qcow2_types.specs.Slots.{Live, slot}
 use Rattle.qcow2_types.specs.Switched.{with_refcount_table, with_reftable}
 use Rattle.qcow2_types.specs.Words.{Mapping, data_at, unmapped}
-use Rattle.qcow2_types.proofs.Consistent.{consistent-shaped, meets-own, some-words}
-use Rattle.qcow2_types.proofs.Parts.{touches-inside}
-use Rattle.qcow2_types.proofs.Shows.{guest-live}
-use Rattle.qcow2_types.proofs.Values.{entry-slot}
+use Rattle.qcow2_types.proofs.Counting.Consistent.{consistent-shaped, meets-own, some-words}
+use Rattle.qcow2_types.proofs.Counting.Parts.{touches-inside}
+use Rattle.qcow2_types.proofs.Showing.Shows.{guest-live}
+use Rattle.qcow2_types.proofs.Showing.Values.{entry-slot}
 use Rattle.qcow2_alloc.specs.Quiet.{Metadata, IsQuiet, IsSound, IsUsed, ShowsEither, in_memory, referenced}
 use Rattle.qcow2_alloc.proofs.Memory.WordsKept.{word-contents}
 use Rattle.qcow2_alloc.proofs.Quiet.QuietShows.{named-apart}

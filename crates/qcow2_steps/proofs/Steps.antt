@@ -10,7 +10,7 @@ use Rattle.qcow2_types.specs.Header.{Fields, cluster_size, words_of_cluster}
 use Rattle.qcow2_types.specs.Pending.{FreeEntry}
 use Rattle.qcow2_types.specs.References.{meets, of_mapping}
 use Rattle.qcow2_types.specs.Words.{Mapping, data_at}
-use Rattle.qcow2_types.proofs.Consistent.{meets-other, meets-own}
+use Rattle.qcow2_types.proofs.Counting.Consistent.{meets-other, meets-own}
 use Rattle.qcow2_alloc.specs.FreeList.{covers}
 use Rattle.qcow2_alloc.specs.Memory.{Cached}
 use Rattle.qcow2_alloc.specs.Quiet.{Metadata, IsQuiet, IsSound, counted, covers_metadata, in_memory, named_at_all, one_at, referenced, waiting}

@@ -4,8 +4,8 @@ use Rattle.std.proofs.lemmas.Bool.{cases_eq}
 use Rattle.qcow2_types.specs.Pending.{FreeEntry}
 use Rattle.qcow2_types.specs.References.{meets, of_mapping}
 use Rattle.qcow2_types.specs.Words.{Mapping, data_at}
-use Rattle.qcow2_types.proofs.Consistent.{meets-other, meets-own}
-use Rattle.qcow2_types.proofs.Either.{refs-cached}
+use Rattle.qcow2_types.proofs.Counting.Consistent.{meets-other, meets-own}
+use Rattle.qcow2_types.proofs.Counting.Either.{refs-cached}
 use Rattle.qcow2_alloc.specs.FreeList.{covers}
 use Rattle.qcow2_alloc.specs.Memory.{Cached}
 use Rattle.qcow2_alloc.specs.Quiet.{Metadata, IsSound, IsUsed, counted, covers_metadata, in_memory, named_at_all, referenced, waiting}

@@ -13,9 +13,9 @@ use Rattle.qcow2_types.specs.References.{meets, of_mapping}
 use Rattle.qcow2_types.specs.Slots.{Live, slot}
 use Rattle.qcow2_types.specs.Versions.{of_either}
 use Rattle.qcow2_types.specs.Words.{Mapping, data_at, zeroes, packed, unmapped, damaged}
-use Rattle.qcow2_types.proofs.Consistent.{consistent-shaped, meets-own, some-words}
-use Rattle.qcow2_types.proofs.Shows.{guest-live, guest-slot-none, guest-slot-there}
-use Rattle.qcow2_types.proofs.Values.{entry-slot}
+use Rattle.qcow2_types.proofs.Counting.Consistent.{consistent-shaped, meets-own, some-words}
+use Rattle.qcow2_types.proofs.Showing.Shows.{guest-live, guest-slot-none, guest-slot-there}
+use Rattle.qcow2_types.proofs.Showing.Values.{entry-slot}
 use Rattle.qcow2_alloc.specs.Quiet.{Metadata, IsSound, in_memory}
 use Rattle.qcow2_steps.specs.Advancing.{MayBeLeft}
 use Rattle.qcow2_steps.specs.Data.{AreNamedFor, GivesData, WritesBeside}

@@ -14,10 +14,6 @@ use Rattle.qcow2_types.specs.Unmarked.{unmarked_mapping}
 use Rattle.qcow2_types.specs.Frames.{Same, Kept, nothing, block, table, l1_word, block_word, ShowsAs}
 use Rattle.qcow2_types.specs.Versions.{KeepsSlots, SamePlaces}
 
--- By how much a cluster is counted more often than it is named stays the same, for each cluster.
-abbrev pub SurplusKept : Bytes → Bytes → Fields → Type 0
-SurplusKept f g h = (c : ℕ) → count g h c + refs f h c ≡ count f h c + refs g h c
-
 -- Each place whose guest cluster has the mapping that it had, but perhaps for the mark of its cluster, shows what it did.
 abbrev pub ShownByUnmarked : Bytes → Bytes → Header → Type 0
 ShownByUnmarked f g H = (external : Bytes) (p : ℕ) (below : Value) → unmarked_mapping (entry g H.fields (p / cluster_size H.fields)) ≡ unmarked_mapping (entry f H.fields (p / cluster_size H.fields))

@@ -94,7 +94,7 @@ impl GuestOffset {
     }
 
     /// The bytes from this one to the end of what its L2 table maps, this one among them.
-    #[tactic(auto, using(crate::proofs::TableSizes::mapped_power))]
+    #[tactic(auto, using(crate::proofs::Counting::TableSizes::mapped_power))]
     pub fn remaining_in_l2_table(self, cluster_bits: u32) -> u64
         requires bits { (9 ≤ cluster_bits) × (cluster_bits ≤ 21) }
         ensures { let mapped = l2_entries cluster_bits * 2 ^ cluster_bits in result ≡ mapped - self % mapped }
@@ -115,7 +115,7 @@ impl GuestCluster {
     }
 
     /// The index of its word in the L2 table.
-    #[tactic(auto, using(crate::proofs::TableSizes::entries_power))]
+    #[tactic(auto, using(crate::proofs::Counting::TableSizes::entries_power))]
     pub fn l2_index(self, cluster_bits: u32) -> usize
         requires bits { (9 ≤ cluster_bits) × (cluster_bits ≤ 21) }
         ensures { result ≡ self % l2_entries cluster_bits }
@@ -124,7 +124,7 @@ impl GuestCluster {
     }
 
     /// The index of its L2 table's word in the L1 table.
-    #[tactic(auto, using(crate::proofs::TableSizes::entries_power))]
+    #[tactic(auto, using(crate::proofs::Counting::TableSizes::entries_power))]
     pub fn l1_index(self, cluster_bits: u32) -> usize
         requires bits { (9 ≤ cluster_bits) × (cluster_bits ≤ 21) }
         ensures { result ≡ self / l2_entries cluster_bits }
@@ -133,7 +133,7 @@ impl GuestCluster {
     }
 
     /// The cluster whose word has these two indices.
-    #[tactic(auto, using(crate::proofs::TableSizes::entries_power))]
+    #[tactic(auto, using(crate::proofs::Counting::TableSizes::entries_power))]
     pub fn from_l1_l2_indices(l1_index: usize, l2_index: usize, cluster_bits: u32) -> GuestCluster
         requires bits { (9 ≤ cluster_bits) × (cluster_bits ≤ 21) }
         requires in_table { l2_index < l2_entries cluster_bits }
@@ -144,7 +144,7 @@ impl GuestCluster {
     }
 
     /// The next cluster, or none where another L2 table maps it.
-    #[tactic(auto, using(crate::proofs::TableSizes::entries_power))]
+    #[tactic(auto, using(crate::proofs::Counting::TableSizes::entries_power))]
     pub fn next_in_l2(self, cluster_bits: u32) -> Option<GuestCluster>
         requires bits { (9 ≤ cluster_bits) × (cluster_bits ≤ 21) }
         ensures { SomeIff result (self % l2_entries cluster_bits + 1 < l2_entries cluster_bits) (self + 1) }
@@ -158,7 +158,7 @@ impl GuestCluster {
     }
 
     /// The first cluster that the next L2 table maps.
-    #[tactic(auto, using(crate::proofs::TableSizes::entries_power))]
+    #[tactic(auto, using(crate::proofs::Counting::TableSizes::entries_power))]
     pub fn first_in_next_l2(self, cluster_bits: u32) -> GuestCluster
         requires bits { (9 ≤ cluster_bits) × (cluster_bits ≤ 21) }
         requires fits { (self / l2_entries cluster_bits + 1) * l2_entries cluster_bits < 2 ^ 64 }

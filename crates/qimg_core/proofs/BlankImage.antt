@@ -12,9 +12,9 @@ use Rattle.qcow2_types.specs.Entries.{l1_table_sound, l2_table_sound, l2_table}
 use Rattle.qcow2_types.specs.Counts.{count, counter, refcount_table_sound, block_at}
 use Rattle.qcow2_types.specs.References.{structure, contents, of_table, refs}
 use Rattle.qcow2_types.specs.Consistency.{IsConsistent, tables_sound, shares_structure, is_false_copied, is_under_counted, leaks_below, leaks}
-use Rattle.qcow2_types.proofs.Named.{reaching, past}
-use Rattle.qcow2_types.proofs.Bounded.{nowhere-from, all-below, shared-beyond, copied-beyond, under-beyond}
-use Rattle.qcow2_types.proofs.Leaks.{leaks-skip, count-no-block}
+use Rattle.qcow2_types.proofs.Counting.Named.{reaching, past}
+use Rattle.qcow2_types.proofs.Counting.Bounded.{nowhere-from, all-below, shared-beyond, copied-beyond, under-beyond}
+use Rattle.qcow2_types.proofs.Counting.Leaks.{leaks-skip, count-no-block}
 use Rattle.qimg_core.specs.Created.{blank, blank_fields, blank_header, nothing_in, extension_bytes}
 
 -- its header loads

@@ -13,18 +13,18 @@ use Rattle.qcow2_types.specs.Header.{Fields, Header, header_of, cluster_size, la
 use Rattle.qcow2_types.specs.Counts.{block_at, refcount_table_sound}
 use Rattle.qcow2_types.specs.Entries.{l1_table_sound}
 use Rattle.qcow2_types.specs.Consistency.{tables_sound}
-use Rattle.qcow2_types.proofs.Bounded.{all-below}
-use Rattle.qcow2_types.proofs.HeaderLimits.{header-limited}
-use Rattle.qcow2_types.proofs.Sound.{all-below-holds}
+use Rattle.qcow2_types.proofs.Counting.Bounded.{all-below}
+use Rattle.qcow2_types.proofs.Fields.HeaderLimits.{header-limited}
+use Rattle.qcow2_types.proofs.Counting.Sound.{all-below-holds}
 use Rattle.qcow2_metadata.specs.Tables.{AreSound, HasUnsound, WhyNotLoaded, words_in, block_words}
 use Rattle.qcow2_metadata.proofs.TableFacts.{words_long, words_at}
 use Rattle.qimg_core.specs.declared.check.CheckFault.TheVariants.{Table}
 use Rattle.qimg_core.specs.Files.{file}
-use Rattle.qcow2_types.proofs.WordLemmas.{zero-place}
+use Rattle.qcow2_types.proofs.Numbers.WordLemmas.{zero-place}
 use Rattle.qimg_core.specs.CheckParts.{IsUnsound, IsBlocks, fault_of_load}
 use Rattle.qimg_core.specs.Check.{Found}
 use Rattle.qimg_core.proofs.FewerWords.{past-word}
-use Rattle.qcow2_types.proofs.WriteBack.{place-whole, place-near}
+use Rattle.qcow2_types.proofs.Changes.WriteBack.{place-whole, place-near}
 use Rattle.qimg_core.proofs.ScanLemmas.{tests-miss}
 
 -- a damaged refcount table

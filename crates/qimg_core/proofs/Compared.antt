@@ -11,7 +11,7 @@ use Rattle.qcow2_types.specs.Header.{Fields, refcount_table_entries}
 use Rattle.qcow2_types.specs.Counts.{count, counters_of_block}
 use Rattle.qcow2_types.specs.References.{refs}
 use Rattle.qcow2_types.specs.Consistency.{leaks_below, leak_at, leaks, is_under_counted, Nowhere, IsLeast}
-use Rattle.qcow2_types.proofs.Leaks.{leaks-skip, count-no-block}
+use Rattle.qcow2_types.proofs.Counting.Leaks.{leaks-skip, count-no-block}
 use Rattle.qcow2_metadata.proofs.TableSteps.{past_end}
 use Rattle.qcow2_metadata.specs.Blocks.{Block}
 use Rattle.qimg_core.specs.declared.check.names.Times.{Times}

@@ -8,11 +8,11 @@ use Rattle.std.proofs.lemmas.List.FromFn.{get_or-map-range_with_len, length-map-
 use Rattle.qcow2_types.specs.Bytes.{Bytes, bytes_of}
 use Rattle.qcow2_types.specs.Header.{Fields, cluster_size}
 use Rattle.qcow2_types.specs.Counts.{block_at, count, counter, counter_bits, counters_of_block, wide_counter, narrow_counter}
-use Rattle.qcow2_types.proofs.Splices.{be-zeroes}
+use Rattle.qcow2_types.proofs.Numbers.Splices.{be-zeroes}
 use Rattle.qcow2_metadata.specs.Blocks.{Block, block_in, counters_in}
 use Rattle.qcow2_metadata.proofs.TableSteps.{past_end}
 use Rattle.qimg_core.specs.CheckParts.{IsBlocks, HoldsCounters}
-use Rattle.qcow2_types.proofs.WriteBack.{place-whole}
+use Rattle.qcow2_types.proofs.Changes.WriteBack.{place-whole}
 
 -- a counter past the file's end
 counter-past : (f : Bytes) (h : Fields) (block j : ℕ) → ((p : ℕ) → block ≤ p → f p ≡ 0) → counter f h block j ≡ 0

@@ -14,7 +14,7 @@ use Rattle.imago_storage.specs.Through.{round_up, Overflows, UnlessOverflow, Not
 use Rattle.imago_storage.specs.declared.fault.Fault.{Fault}
 use Rattle.imago_storage.specs.declared.fault.Fault.TheVariants.{RangeOverflow, Memory, Storage}
 use Rattle.qcow2_types.specs.Bytes.{Bytes, bytes_of, splice}
-use Rattle.qcow2_types.proofs.Splices.{splice-outside, splice-inside}
+use Rattle.qcow2_types.proofs.Numbers.Splices.{splice-outside, splice-inside}
 use Rattle.qimg_core.specs.Created.{Piece, with_pieces, nothing_in, blank_pieces, blank, first_counts, created, created_length, extension_bytes, l1_entries_of, Creates, NotCreated}
 
 -- a list that is another with bytes at a place, by places

@@ -14,10 +14,10 @@ use Rattle.qcow2_types.specs.Entries.{entry, l2_table}
 use Rattle.qcow2_types.specs.Consistency.{IsConsistent, leaks}
 use Rattle.qcow2_types.specs.Disk.{shown_by, host_byte, in_qcow2}
 use Rattle.qcow2_types.specs.Switched.{sized, with_size, SizeSwitched}
-use Rattle.qcow2_types.proofs.HeaderSwitch.{header-made}
-use Rattle.qcow2_types.proofs.SizeSwitch.{size-switched}
-use Rattle.qcow2_types.proofs.Splices.{be-written, splice-outside}
-use Rattle.qcow2_types.proofs.Values.{entry-slot}
+use Rattle.qcow2_types.proofs.Switching.HeaderSwitch.{header-made}
+use Rattle.qcow2_types.proofs.Switching.SizeSwitch.{size-switched}
+use Rattle.qcow2_types.proofs.Numbers.Splices.{be-written, splice-outside}
+use Rattle.qcow2_types.proofs.Showing.Values.{entry-slot}
 use Rattle.qimg_core.specs.Files.{value_at}
 use Rattle.qimg_core.specs.Created.{blank, blank_fields, blank_header, created, new_header, nothing_in, extension_bytes, l1_entries_of}
 use Rattle.qimg_core.proofs.BlankImage.{blank-consistent, blank-leaks, blank-no_table}

@@ -10,10 +10,10 @@ use Rattle.qcow2_types.specs.Words.{l1_word_sound}
 use Rattle.qcow2_types.specs.Header.{Fields, Header, header_of, cluster_size, layout_of, Limited}
 use Rattle.qcow2_types.specs.Entries.{l1_table_sound}
 use Rattle.qcow2_types.specs.Consistency.{tables_sound}
-use Rattle.qcow2_types.proofs.HeaderLimits.{header-limited}
-use Rattle.qcow2_types.proofs.Sound.{all-below-holds}
-use Rattle.qcow2_types.proofs.Splices.{be-zeroes}
-use Rattle.qcow2_types.proofs.WordLemmas.{zero-l1-word}
+use Rattle.qcow2_types.proofs.Fields.HeaderLimits.{header-limited}
+use Rattle.qcow2_types.proofs.Counting.Sound.{all-below-holds}
+use Rattle.qcow2_types.proofs.Numbers.Splices.{be-zeroes}
+use Rattle.qcow2_types.proofs.Numbers.WordLemmas.{zero-l1-word}
 use Rattle.qcow2_metadata.specs.Tables.{TableValue, AreSound, HasUnsound, WhyNotLoaded, words_in, table_in, l1_words}
 use Rattle.qcow2_metadata.proofs.TableFacts.{words_long, words_at}
 use Rattle.qcow2_metadata.proofs.TableSteps.{past_end}

@@ -8,7 +8,7 @@ use Rattle.qcow2_types.specs.Header.{Header, refcount_table_entries}
 use Rattle.qcow2_types.specs.Entries.{l2_table}
 use Rattle.qcow2_types.specs.Counts.{block_at}
 use Rattle.qcow2_types.specs.References.{Weight, meets, of_cluster, of_mapping, of_copied, of_table, of_table_or_none, structure, contents}
-use Rattle.qcow2_types.proofs.Sums.{sum-same}
+use Rattle.qcow2_types.proofs.Numbers.Sums.{sum-same}
 use Rattle.qimg_core.specs.declared.check.names.Tallies.{Tallies}
 use Rattle.qimg_core.specs.Names.{TellsNothing, named_by, structure_part, mapped_part, copied_part}
 use Rattle.qimg_core.specs.CheckParts.{Tells, HoldsPlaces, tables_of, sum_over, structure_over}

@@ -5,7 +5,7 @@ use Rattle.qcow2_types.specs.Bytes.{Bytes, word}
 use Rattle.qcow2_types.specs.Words.{mapping_of, is_damaged}
 use Rattle.qcow2_types.specs.Header.{Fields, cluster_size, words_of_cluster, layout_of}
 use Rattle.qcow2_types.specs.Entries.{l2_mapping, l2_table_sound}
-use Rattle.qcow2_types.proofs.Sound.{all-below-holds}
+use Rattle.qcow2_types.proofs.Counting.Sound.{all-below-holds}
 use Rattle.qcow2_metadata.specs.Tables.{AreSound, HasUnsound, words_in, l2_words}
 use Rattle.qcow2_metadata.proofs.TableFacts.{words_long, words_at}
 use Rattle.qimg_core.proofs.ScanLemmas.{tests-miss}

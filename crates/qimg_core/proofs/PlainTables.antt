@@ -16,10 +16,10 @@ use Rattle.qcow2_types.specs.Header.{Fields, Header, header_of, cluster_size, wo
 use Rattle.qcow2_types.specs.Entries.{entry, entry_through, l2_table, l1_table_sound, l2_table_sound}
 use Rattle.qcow2_types.specs.Disk.{shown_by, host_byte}
 use Rattle.qcow2_types.specs.Places.{l2_entries}
-use Rattle.qcow2_types.proofs.Bounded.{all-below}
-use Rattle.qcow2_types.proofs.HeaderLimits.{header-limited}
-use Rattle.qcow2_types.proofs.TableSizes.{entries_power}
-use Rattle.qcow2_types.proofs.WriteBack.{place-whole, place-near}
+use Rattle.qcow2_types.proofs.Counting.Bounded.{all-below}
+use Rattle.qcow2_types.proofs.Fields.HeaderLimits.{header-limited}
+use Rattle.qcow2_types.proofs.Counting.TableSizes.{entries_power}
+use Rattle.qcow2_types.proofs.Changes.WriteBack.{place-whole, place-near}
 use Rattle.qcow2_metadata.specs.Tables.{TableValue, AreSound, HasUnsound, WhyNotLoaded, words_in, table_in, place_or_none, l2_words}
 use Rattle.qcow2_metadata.proofs.TableFacts.{words_long}
 use Rattle.qimg_core.specs.Plain.{IsFirstFault, NotShown, NamesTables, mapped_value, table_value, image_value, value_fault}

@@ -5,7 +5,7 @@ use Rattle.std.proofs.lemmas.Bool.Decides.{nat_tests}
 use Rattle.imago_storage.specs.State.{StorageState}
 use Rattle.imago_storage.specs.Calls.{Kept}
 use Rattle.qcow2_types.specs.Bytes.{bytes_of, all_below}
-use Rattle.qcow2_types.proofs.Bounded.{all-below}
+use Rattle.qcow2_types.proofs.Counting.Bounded.{all-below}
 use Rattle.qimg_core.specs.Files.{file}
 
 -- where one test fails

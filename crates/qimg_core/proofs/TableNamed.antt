@@ -11,10 +11,10 @@ use Rattle.qcow2_types.specs.Words.{Mapping, unmapped, is_place, mapping_of, is_
 use Rattle.qcow2_types.specs.Header.{Fields, cluster_size, words_of_cluster, layout_of}
 use Rattle.qcow2_types.specs.Entries.{l2_mapping, l2_table_sound}
 use Rattle.qcow2_types.specs.References.{meets, of_mapping, of_copied, of_table}
-use Rattle.qcow2_types.proofs.Limit.{sum-zero}
-use Rattle.qcow2_types.proofs.Sound.{all-below-holds}
-use Rattle.qcow2_types.proofs.Sums.{sum-none, sum-more}
-use Rattle.qcow2_types.proofs.WordLemmas.{zero-word}
+use Rattle.qcow2_types.proofs.Counting.Limit.{sum-zero}
+use Rattle.qcow2_types.proofs.Counting.Sound.{all-below-holds}
+use Rattle.qcow2_types.proofs.Numbers.Sums.{sum-none, sum-more}
+use Rattle.qcow2_types.proofs.Numbers.WordLemmas.{zero-word}
 use Rattle.qcow2_metadata.specs.Tables.{TableValue, WhyNotLoaded, words_in, table_in, l2_words}
 use Rattle.qcow2_metadata.proofs.TableFacts.{words_long, words_more}
 use Rattle.qimg_core.specs.declared.check.CheckFault.TheVariants.{Table}
@@ -26,7 +26,7 @@ use Rattle.qimg_core.specs.CheckParts.{IsDamagedTable, words_over, fault_of_load
 use Rattle.qimg_core.specs.Check.{Found}
 use Rattle.qimg_core.proofs.FewerWords.{past-word}
 use Rattle.qimg_core.proofs.L2Words.{l2-unsound}
-use Rattle.qcow2_types.proofs.WriteBack.{place-whole}
+use Rattle.qcow2_types.proofs.Changes.WriteBack.{place-whole}
 
 -- the sum over the first n words
 words-summed : (f : Bytes) (h : Fields) (of : Mapping → ℕ) (place n : ℕ) → words_over h of (words_in f place n) ≡ sum_below n (λ i. of (l2_mapping f h place i))

@@ -14,10 +14,10 @@ use Rattle.qcow2_types.specs.Header.{Fields, Shaped, cluster_size, words_of_clus
 use Rattle.qcow2_types.specs.Entries.{l2_table, l1_table_sound, l2_table_sound}
 use Rattle.qcow2_types.specs.Counts.{refcount_table_sound}
 use Rattle.qcow2_types.specs.Consistency.{tables_sound}
-use Rattle.qcow2_types.proofs.Bounded.{all-below}
-use Rattle.qcow2_types.proofs.Sound.{all-below-holds}
-use Rattle.qcow2_types.proofs.Counters.{whole}
-use Rattle.qcow2_types.proofs.Sums.{sum-none, sum-more}
+use Rattle.qcow2_types.proofs.Counting.Bounded.{all-below}
+use Rattle.qcow2_types.proofs.Counting.Sound.{all-below-holds}
+use Rattle.qcow2_types.proofs.Counting.Counters.{whole}
+use Rattle.qcow2_types.proofs.Numbers.Sums.{sum-none, sum-more}
 use Rattle.qcow2_metadata.proofs.TableSteps.{past_end}
 use Rattle.imago_storage.specs.State.{StorageState}
 use Rattle.qimg_core.specs.declared.check.CheckFault.{CheckFault}
@@ -25,7 +25,7 @@ use Rattle.qimg_core.specs.declared.check.CheckFault.TheVariants.{Table, Memory,
 use Rattle.qimg_core.specs.Files.{file}
 use Rattle.qimg_core.specs.CheckParts.{tables_of, sum_over, AreTables, IsUnsound, IsOneDamaged}
 use Rattle.qimg_core.specs.Check.{Found}
-use Rattle.qcow2_types.proofs.WriteBack.{place-near}
+use Rattle.qcow2_types.proofs.Changes.WriteBack.{place-near}
 use Rattle.qimg_core.proofs.TablePlaces.{tables_to, tables-more, tables-skip}
 use Rattle.qimg_core.proofs.ScanLemmas.{tests-miss, not-same}
 

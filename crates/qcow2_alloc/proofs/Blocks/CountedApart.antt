@@ -12,7 +12,7 @@ use Rattle.qcow2_types.specs.Header.{Header, cluster_size}
 use Rattle.qcow2_types.specs.Counts.{counters_of_block}
 use Rattle.qcow2_types.specs.Pending.{FreeEntry}
 use Rattle.qcow2_types.specs.Versions.{named}
-use Rattle.qcow2_types.proofs.Parts.{block-inside}
+use Rattle.qcow2_types.proofs.Counting.Parts.{block-inside}
 use Rattle.qcow2_metadata.specs.Tables.{TableValue}
 use Rattle.qcow2_metadata.specs.Blocks.{Block, with_counter}
 use Rattle.qcow2_alloc.specs.declared.async_lru_cache.Slot.{Slot}

@@ -5,10 +5,10 @@ use Rattle.std.proofs.lemmas.Bool.{ne_eqb}
 use Rattle.qcow2_types.specs.Words.{Layout, block_offset, is_place, max_offset}
 use Rattle.qcow2_types.specs.Header.{cluster_size, refcount_table_entries}
 use Rattle.qcow2_types.specs.Counts.{block_at, count, counters_of_block}
-use Rattle.qcow2_types.proofs.BlockSteps.{block-place}
-use Rattle.qcow2_types.proofs.Parts.{block-inside}
-use Rattle.qcow2_types.proofs.Sound.{sound-words}
-use Rattle.qcow2_types.proofs.WriteBack.{place-near, place-whole}
+use Rattle.qcow2_types.proofs.Changes.BlockSteps.{block-place}
+use Rattle.qcow2_types.proofs.Counting.Parts.{block-inside}
+use Rattle.qcow2_types.proofs.Counting.Sound.{sound-words}
+use Rattle.qcow2_types.proofs.Changes.WriteBack.{place-near, place-whole}
 use Rattle.qcow2_metadata.specs.Places.{IsInReach}
 use Rattle.qcow2_alloc.specs.Allocators.{named_block}
 use Rattle.qcow2_alloc.specs.Quiet.{Metadata, IsSound, counted, in_memory}

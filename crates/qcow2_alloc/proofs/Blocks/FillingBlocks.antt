@@ -6,7 +6,7 @@ use Rattle.std.proofs.Math.Nat.{mul-le-mul, div-mul-le_self}
 use Rattle.std.proofs.lemmas.Nat.{le-div}
 use Rattle.imago_storage.specs.State.{StorageState}
 use Rattle.imago_storage.proofs.Composing.{keeps_on}
-use Rattle.qcow2_types.proofs.Counters.{some-counters}
+use Rattle.qcow2_types.proofs.Counting.Counters.{some-counters}
 use Rattle.qcow2_types.specs.Counts.{counters_of_block}
 use Rattle.qcow2_types.specs.Header.{Header}
 use Rattle.qcow2_types.specs.Words.{block_offset}

@@ -16,11 +16,11 @@ use Rattle.qcow2_types.specs.Counts.{counters_of_block}
 use Rattle.qcow2_types.specs.Header.{Header, cluster_size}
 use Rattle.qcow2_types.specs.References.{meets}
 use Rattle.qcow2_types.specs.Words.{Layout, block_offset, max_offset}
-use Rattle.qcow2_types.proofs.Consistent.{meets-own}
-use Rattle.qcow2_types.proofs.Frames.{header-part}
-use Rattle.qcow2_types.proofs.HeaderLimits.{header-limited}
-use Rattle.qcow2_types.proofs.Named.{structure-le-refs}
-use Rattle.qcow2_types.proofs.WriteBack.{place-near, place-whole}
+use Rattle.qcow2_types.proofs.Counting.Consistent.{meets-own}
+use Rattle.qcow2_types.proofs.Changes.Frames.{header-part}
+use Rattle.qcow2_types.proofs.Fields.HeaderLimits.{header-limited}
+use Rattle.qcow2_types.proofs.Counting.Named.{structure-le-refs}
+use Rattle.qcow2_types.proofs.Changes.WriteBack.{place-near, place-whole}
 use Rattle.qcow2_metadata.specs.Blocks.{Block, BlockPut, block_of}
 use Rattle.qcow2_metadata.specs.Places.{IsInReach, IsPlaced}
 use Rattle.qcow2_metadata.specs.Tables.{TableValue, IsNamable, with_word, table_place}

@@ -22,7 +22,7 @@ use Rattle.imago_storage.proofs.Composing.{keeps_on}
 use Rattle.qcow2_alloc.specs.Quiet.{Metadata, in_memory, counted, referenced, named_at_all, waiting, one_at, IsUsed, IsSound, IsIn, Quietly}
 use Rattle.qcow2_alloc.specs.Safety.{AreBlocksClean}
 use Rattle.std.proofs.lemmas.Bool.{cases_eq}
-use Rattle.qcow2_types.proofs.Either.{refs-cached}
+use Rattle.qcow2_types.proofs.Counting.Either.{refs-cached}
 use Rattle.qcow2_alloc.proofs.Quiet.QuietCounters.{here-one, away-none}
 use Rattle.qcow2_alloc.proofs.Quiet.QuietThen.{quietly-otherwise}
 use Rattle.qcow2_alloc.proofs.Searching.FreeClusters.{uncounted-free, clean-counts}

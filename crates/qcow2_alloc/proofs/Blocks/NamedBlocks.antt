@@ -8,9 +8,9 @@ use Rattle.qcow2_types.specs.Header.{Header, cluster_size, refcount_table_entrie
 use Rattle.qcow2_types.specs.Words.{Layout, block_offset, max_offset}
 use Rattle.qcow2_types.specs.Counts.{block_at}
 use Rattle.qcow2_types.specs.Consistency.{IsConsistent}
-use Rattle.qcow2_types.proofs.BlockSteps.{block-place}
-use Rattle.qcow2_types.proofs.Sound.{sound-words}
-use Rattle.qcow2_types.proofs.WriteBack.{place-near, place-whole}
+use Rattle.qcow2_types.proofs.Changes.BlockSteps.{block-place}
+use Rattle.qcow2_types.proofs.Counting.Sound.{sound-words}
+use Rattle.qcow2_types.proofs.Changes.WriteBack.{place-near, place-whole}
 use Rattle.qcow2_metadata.specs.Places.{IsInReach}
 use Rattle.qcow2_metadata.specs.Tables.{TableValue}
 use Rattle.qcow2_alloc.specs.Allocators.{named_block}

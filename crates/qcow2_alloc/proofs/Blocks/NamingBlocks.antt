@@ -18,14 +18,14 @@ use Rattle.qcow2_types.specs.References.{structure, of_mapping, meets}
 use Rattle.qcow2_types.specs.Slots.{slot, Live}
 use Rattle.qcow2_types.specs.Steps.{BlockEntered}
 use Rattle.qcow2_types.specs.Versions.{copied, SamePlaces}
-use Rattle.qcow2_types.proofs.BlockWordSteps.{block-entered-spliced}
-use Rattle.qcow2_types.proofs.Consistent.{named-counted, meets-own, meets-other}
-use Rattle.qcow2_types.proofs.Counters.{counter-same, some-counters}
-use Rattle.qcow2_types.proofs.Either.{refs-file, refs-cached}
-use Rattle.qcow2_types.proofs.Frames.{splice-is-outside, refcount_table-part, entries-fit}
-use Rattle.qcow2_types.proofs.HeaderLimits.{header-limited}
-use Rattle.qcow2_types.proofs.Parts.{refcount_table}
-use Rattle.qcow2_types.proofs.WriteBack.{place-whole}
+use Rattle.qcow2_types.proofs.Changes.BlockWordSteps.{block-entered-spliced}
+use Rattle.qcow2_types.proofs.Counting.Consistent.{named-counted, meets-own, meets-other}
+use Rattle.qcow2_types.proofs.Counting.Counters.{counter-same, some-counters}
+use Rattle.qcow2_types.proofs.Counting.Either.{refs-file, refs-cached}
+use Rattle.qcow2_types.proofs.Changes.Frames.{splice-is-outside, refcount_table-part, entries-fit}
+use Rattle.qcow2_types.proofs.Fields.HeaderLimits.{header-limited}
+use Rattle.qcow2_types.proofs.Counting.Parts.{refcount_table}
+use Rattle.qcow2_types.proofs.Changes.WriteBack.{place-whole}
 use Rattle.qcow2_metadata.specs.Places.{place_of}
 use Rattle.qcow2_metadata.specs.Tables.{TableValue, with_word, table_place}
 use Rattle.qcow2_metadata.specs.Blocks.{Block, counters_in}

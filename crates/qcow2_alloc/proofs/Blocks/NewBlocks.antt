@@ -12,7 +12,7 @@ use Rattle.std.proofs.Math.Nat.{div-add-mod}
 use Rattle.qcow2_types.specs.Bytes.{Bytes}
 use Rattle.qcow2_types.specs.Header.{Fields, cluster_size}
 use Rattle.qcow2_types.specs.Counts.{counter, counters_of_block}
-use Rattle.qcow2_types.proofs.Counters.{some-counters}
+use Rattle.qcow2_types.proofs.Counting.Counters.{some-counters}
 use Rattle.qcow2_metadata.specs.Blocks.{Block, counters_in}
 use Rattle.qcow2_alloc.specs.declared.async_lru_cache.Slot.{Slot}
 use Rattle.qcow2_alloc.specs.Quiet.{Metadata, one_at, IsSound}

@@ -13,7 +13,7 @@ use Rattle.qcow2_types.specs.Header.{Fields, Header, cluster_size, refcount_tabl
 use Rattle.qcow2_types.specs.Pending.{FreeEntry}
 use Rattle.qcow2_types.specs.References.{structure, of_cluster, meets, refs}
 use Rattle.qcow2_types.specs.Words.{block_offset}
-use Rattle.qcow2_types.proofs.Sums.{sum-same, sum-change}
+use Rattle.qcow2_types.proofs.Numbers.Sums.{sum-same, sum-change}
 use Rattle.qcow2_metadata.specs.Blocks.{Block}
 use Rattle.qcow2_metadata.specs.Places.{IsInReach, place_of}
 use Rattle.qcow2_metadata.specs.Tables.{TableValue}

@@ -15,8 +15,8 @@ use Rattle.qcow2_types.specs.Bytes.{Bytes, bytes_of}
 use Rattle.qcow2_types.specs.Header.{Fields, Header, cluster_size}
 use Rattle.qcow2_types.specs.Counts.{counters_of_block}
 use Rattle.qcow2_types.specs.Frames.{Same}
-use Rattle.qcow2_types.proofs.Counters.{some-counters}
-use Rattle.qcow2_types.proofs.Either.{refs-cached}
+use Rattle.qcow2_types.proofs.Counting.Counters.{some-counters}
+use Rattle.qcow2_types.proofs.Counting.Either.{refs-cached}
 use Rattle.qcow2_metadata.specs.Blocks.{Block, BlockPut, counters_in}
 use Rattle.qcow2_metadata.specs.Places.{IsInReach, place_of}
 use Rattle.qcow2_metadata.specs.Tables.{TableValue}

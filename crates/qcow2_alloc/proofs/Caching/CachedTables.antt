@@ -11,8 +11,8 @@ use Rattle.qcow2_types.specs.Header.{Fields, Header, cluster_size}
 use Rattle.qcow2_types.specs.TableBytes.{table_bytes}
 use Rattle.qcow2_types.specs.Consistency.{IsConsistent}
 use Rattle.qcow2_types.specs.Over.{Patch, over}
-use Rattle.qcow2_types.proofs.Over.{IsClear, over-settled, over-shows}
-use Rattle.qcow2_types.proofs.Patches.{IsPatch, clear-apart}
+use Rattle.qcow2_types.proofs.Changes.Over.{IsClear, over-settled, over-shows}
+use Rattle.qcow2_types.proofs.Changes.Patches.{IsPatch, clear-apart}
 use Rattle.qcow2_metadata.specs.Tables.{TableValue}
 use Rattle.qcow2_metadata.specs.Blocks.{Block}
 use Rattle.qcow2_alloc.specs.declared.async_lru_cache.Slot.{Slot}

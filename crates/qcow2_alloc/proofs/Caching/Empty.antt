@@ -9,8 +9,8 @@ use Rattle.qcow2_types.specs.Counts.{count}
 use Rattle.qcow2_types.specs.References.{structure, contents, of_copied, meets, refs}
 use Rattle.qcow2_types.specs.Consistency.{IsConsistent, shares_structure, is_false_copied, is_under_counted}
 use Rattle.qcow2_types.specs.Versions.{named, copied, NamedApart}
-use Rattle.qcow2_types.proofs.Either.{named-clean}
-use Rattle.qcow2_types.proofs.Slots.{contents-slots, slots-same}
+use Rattle.qcow2_types.proofs.Counting.Either.{named-clean}
+use Rattle.qcow2_types.proofs.Counting.Slots.{contents-slots, slots-same}
 use Rattle.qcow2_alloc.specs.declared.cache.CacheDependency.TheVariants.{Unset}
 use Rattle.std.specs.List.{IsDistinct}
 use Rattle.qcow2_types.specs.Over.{over}

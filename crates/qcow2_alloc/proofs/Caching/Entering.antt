@@ -9,7 +9,7 @@ use Rattle.std.proofs.lemmas.List.Elements.{filter_map-append}
 use Rattle.qcow2_types.specs.Bytes.{Bytes}
 use Rattle.qcow2_types.specs.Header.{Header, cluster_size}
 use Rattle.qcow2_types.specs.Over.{Patch, over}
-use Rattle.qcow2_types.proofs.Over.{over-first, over-ahead}
+use Rattle.qcow2_types.proofs.Changes.Over.{over-first, over-ahead}
 use Rattle.qcow2_metadata.specs.Tables.{TableValue}
 use Rattle.qcow2_metadata.specs.Blocks.{Block}
 use Rattle.qcow2_alloc.specs.declared.async_lru_cache.Slot.{Slot}

@@ -10,9 +10,9 @@ use Rattle.qcow2_types.specs.BlockBytes.{block_bytes}
 use Rattle.qcow2_types.specs.Over.{Patch, over}
 use Rattle.qcow2_types.specs.Counts.{block_at, count}
 use Rattle.qcow2_types.specs.References.{meets}
-use Rattle.qcow2_types.proofs.Consistent.{meets-own}
-use Rattle.qcow2_types.proofs.Frames.{block-part}
-use Rattle.qcow2_types.proofs.Parts.{block-inside}
+use Rattle.qcow2_types.proofs.Counting.Consistent.{meets-own}
+use Rattle.qcow2_types.proofs.Changes.Frames.{block-part}
+use Rattle.qcow2_types.proofs.Counting.Parts.{block-inside}
 use Rattle.qcow2_metadata.specs.Blocks.{Block}
 use Rattle.qcow2_alloc.specs.declared.async_lru_cache.Slot.{Slot}
 use Rattle.qcow2_alloc.specs.Changes.{StaysAsItIs}

@@ -8,9 +8,9 @@ use Rattle.qcow2_types.specs.Header.{Header, cluster_size, words_of_cluster}
 use Rattle.qcow2_types.specs.Entries.{l2_table}
 use Rattle.qcow2_types.specs.Counts.{block_at, counter, counters_of_block}
 use Rattle.qcow2_types.specs.Frames.{Same}
-use Rattle.qcow2_types.proofs.Counters.{counter-same}
-use Rattle.qcow2_types.proofs.Frames.{word-same}
-use Rattle.qcow2_types.proofs.Parts.{words-fit}
+use Rattle.qcow2_types.proofs.Counting.Counters.{counter-same}
+use Rattle.qcow2_types.proofs.Changes.Frames.{word-same}
+use Rattle.qcow2_types.proofs.Counting.Parts.{words-fit}
 use Rattle.qcow2_metadata.specs.Tables.{TableValue, words_in}
 use Rattle.qcow2_metadata.specs.Blocks.{Block, counters_in}
 use Rattle.qcow2_alloc.specs.declared.cache.CacheDependency.{CacheDependency}

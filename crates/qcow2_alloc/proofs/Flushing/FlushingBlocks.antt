@@ -14,7 +14,7 @@ use Rattle.qcow2_types.specs.BlockBytes.{block_bytes}
 use Rattle.qcow2_metadata.specs.Places.{IsInReach}
 use Rattle.qcow2_metadata.specs.Tables.{TableValue}
 use Rattle.qcow2_metadata.specs.Blocks.{Block, BlockPut}
-use Rattle.qcow2_types.proofs.BlockBytes.{bytes-only}
+use Rattle.qcow2_types.proofs.Numbers.BlockBytes.{bytes-only}
 use Rattle.qcow2_alloc.specs.declared.async_lru_cache.Slot.{Slot}
 use Rattle.qcow2_alloc.specs.declared.cache.CacheDependency.{CacheDependency}
 use Rattle.qcow2_alloc.specs.Backends.{BlockFlushed}

@@ -14,7 +14,7 @@ use Rattle.qcow2_types.specs.Bytes.{Bytes, bytes_of, splice}
 use Rattle.qcow2_types.specs.Words.{Layout, max_offset}
 use Rattle.qcow2_types.specs.Header.{Header, cluster_size}
 use Rattle.qcow2_types.specs.TableBytes.{table_bytes}
-use Rattle.qcow2_types.proofs.Splices.{splice-inside, splice-outside}
+use Rattle.qcow2_types.proofs.Numbers.Splices.{splice-inside, splice-outside}
 use Rattle.qcow2_metadata.specs.Places.{IsInReach}
 use Rattle.qcow2_metadata.specs.Tables.{TableValue}
 use Rattle.qcow2_metadata.specs.Blocks.{Block}

@@ -9,7 +9,7 @@ use Rattle.qcow2_types.specs.Bytes.{Bytes, bytes_of}
 use Rattle.qcow2_types.specs.Header.{Header}
 use Rattle.qcow2_types.specs.Entries.{l2_table}
 use Rattle.qcow2_types.specs.Slots.{Live}
-use Rattle.qcow2_types.proofs.Either.{places-refl}
+use Rattle.qcow2_types.proofs.Counting.Either.{places-refl}
 use Rattle.qcow2_types.specs.Consistency.{IsConsistent}
 use Rattle.std.proofs.lemmas.List.{append_assoc}
 use Rattle.imago_storage.specs.declared.fault.Fault.{Fault}

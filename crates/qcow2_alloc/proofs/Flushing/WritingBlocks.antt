@@ -6,7 +6,7 @@ use Rattle.std.proofs.lemmas.Bool.{cases_lt, cases_eq}
 use Rattle.std.proofs.lemmas.Nat.{pow_pos}
 use Rattle.std.proofs.lemmas.Grind.{same_number_lists}
 use Rattle.std.proofs.lemmas.List.FromFn.{length-map-range_with_len, get_or-map-range_with_len}
-use Rattle.qcow2_types.proofs.Parts.{block_at-kept}
+use Rattle.qcow2_types.proofs.Counting.Parts.{block_at-kept}
 use Rattle.qcow2_types.specs.Bytes.{Bytes, bytes_of, splice, word}
 use Rattle.qcow2_types.specs.Header.{Header, Shaped, cluster_size, words_of_cluster, refcount_table_entries}
 use Rattle.qcow2_types.specs.Entries.{l2_table}
@@ -16,12 +16,12 @@ use Rattle.qcow2_types.specs.BlockBytes.{block_bytes}
 use Rattle.qcow2_types.specs.Frames.{Same, Outside, Kept, block}
 use Rattle.qcow2_types.specs.Steps.{BlockWritten}
 use Rattle.qcow2_types.specs.Versions.{NamedApart, SamePlaces, IsBetween, KeepsSlots}
-use Rattle.qcow2_types.proofs.BlockSteps.{block-kept, block-written, counters-written}
-use Rattle.qcow2_types.proofs.Counters.{count-same, counter-same}
-use Rattle.qcow2_types.proofs.Either.{refs-file, refs-kept, between-kept, block-before-tables, block-after-tables, block-without-order}
-use Rattle.qcow2_types.proofs.Frames.{splice-is-outside}
-use Rattle.qcow2_types.proofs.Splices.{splice-inside, splice-outside}
-use Rattle.qcow2_types.proofs.Stops.{apart-falls}
+use Rattle.qcow2_types.proofs.Changes.BlockSteps.{block-kept, block-written, counters-written}
+use Rattle.qcow2_types.proofs.Counting.Counters.{count-same, counter-same}
+use Rattle.qcow2_types.proofs.Counting.Either.{refs-file, refs-kept, between-kept, block-before-tables, block-after-tables, block-without-order}
+use Rattle.qcow2_types.proofs.Changes.Frames.{splice-is-outside}
+use Rattle.qcow2_types.proofs.Numbers.Splices.{splice-inside, splice-outside}
+use Rattle.qcow2_types.proofs.Changes.Stops.{apart-falls}
 use Rattle.qcow2_metadata.specs.Tables.{TableValue, words_in}
 use Rattle.qcow2_metadata.specs.Blocks.{Block, counters_in}
 use Rattle.qcow2_alloc.specs.declared.async_lru_cache.Slot.{Slot}

@@ -17,14 +17,14 @@ use Rattle.qcow2_types.specs.TableBytes.{table_bytes}
 use Rattle.qcow2_types.specs.Consistency.{IsConsistent}
 use Rattle.qcow2_types.specs.Frames.{Same, Kept, table, touches}
 use Rattle.qcow2_types.specs.Versions.{named, NamedApart, SamePlaces, IsBetween}
-use Rattle.qcow2_types.proofs.Over.{table-over}
-use Rattle.qcow2_types.proofs.Frames.{word-same}
-use Rattle.qcow2_types.proofs.Parts.{words-fit}
-use Rattle.qcow2_types.proofs.Sound.{sound-words, stop-consistent}
-use Rattle.qcow2_types.proofs.Splices.{splice-inside, splice-outside}
-use Rattle.qcow2_types.proofs.Stops.{write-between, write-counts, apart-falls}
-use Rattle.qcow2_types.proofs.Either.{table-after-blocks, table-before-blocks, table-without-order, refs-between}
-use Rattle.qcow2_types.proofs.WriteBack.{once, kept, loads-still, shaped}
+use Rattle.qcow2_types.proofs.Changes.Over.{table-over}
+use Rattle.qcow2_types.proofs.Changes.Frames.{word-same}
+use Rattle.qcow2_types.proofs.Counting.Parts.{words-fit}
+use Rattle.qcow2_types.proofs.Counting.Sound.{sound-words, stop-consistent}
+use Rattle.qcow2_types.proofs.Numbers.Splices.{splice-inside, splice-outside}
+use Rattle.qcow2_types.proofs.Changes.Stops.{write-between, write-counts, apart-falls}
+use Rattle.qcow2_types.proofs.Counting.Either.{table-after-blocks, table-before-blocks, table-without-order, refs-between}
+use Rattle.qcow2_types.proofs.Changes.WriteBack.{once, kept, loads-still, shaped}
 use Rattle.qcow2_metadata.specs.Tables.{TableValue, IsTable, l2_words, words_in}
 use Rattle.qcow2_metadata.specs.Blocks.{Block, counters_in}
 use Rattle.qcow2_alloc.specs.declared.async_lru_cache.Slot.{Slot}
@@ -35,7 +35,7 @@ use Rattle.qcow2_alloc.specs.Safety.{IsCachedTable, IsCachedBlock, IsOrdered, Sa
 use Rattle.qcow2_alloc.proofs.Memory.Patches.{all-append, all-front, all-back, all-weaker, all-both, others-before, others-behind, places-differ, table-long, place-there}
 use Rattle.qcow2_alloc.proofs.Freeing.Lists.{map-same}
 use Rattle.qcow2_metadata.proofs.WrittenBack.{read_back}
-use Rattle.qcow2_types.proofs.Counters.{counter-same}
+use Rattle.qcow2_types.proofs.Counting.Counters.{counter-same}
 use Rattle.qcow2_alloc.proofs.Caching.CachedTables.{tables_with, table-shows, table-settled}
 use Rattle.qcow2_alloc.proofs.Memory.MemoryWords.{find-table, places-in-memory, slot-same, counts-same}
 

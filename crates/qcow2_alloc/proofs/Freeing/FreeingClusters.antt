@@ -41,7 +41,7 @@ use Rattle.qcow2_alloc.proofs.Memory.SafeLaws.{safe-reach}
 use Rattle.qcow2_alloc.proofs.Caching.Searching.{all-at}
 use Rattle.qcow2_alloc.proofs.Memory.Patches.{shaped-in}
 use Rattle.qcow2_alloc.specs.Safety.{IsCachedBlock}
-use Rattle.qcow2_types.proofs.Counters.{some-counters}
+use Rattle.qcow2_types.proofs.Counting.Counters.{some-counters}
 use Rattle.qcow2_alloc.proofs.Blocks.CountedBlocks.{counted-block}
 use Rattle.qcow2_alloc.proofs.Caching.Loose.{KeepsPins, named-keeps}
 use Rattle.qcow2_alloc.proofs.Caching.Pins.{full-pinned}

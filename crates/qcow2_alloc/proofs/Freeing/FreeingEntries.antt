@@ -10,9 +10,9 @@ use Rattle.imago_storage.specs.declared.fault.Fault.TheVariants.{Memory, Storage
 use Rattle.qcow2_types.specs.Header.{cluster_size, refcount_table_entries}
 use Rattle.qcow2_types.specs.Counts.{counter_bits, counters_of_block}
 use Rattle.qcow2_types.specs.Pending.{FreeEntry}
-use Rattle.qcow2_types.proofs.HeaderLimits.{header-limited, greatest-cluster, least-width}
-use Rattle.qcow2_types.proofs.Counters.{some-counters}
-use Rattle.qcow2_types.proofs.Leaks.{count-beyond}
+use Rattle.qcow2_types.proofs.Fields.HeaderLimits.{header-limited, greatest-cluster, least-width}
+use Rattle.qcow2_types.proofs.Counting.Counters.{some-counters}
+use Rattle.qcow2_types.proofs.Counting.Leaks.{count-beyond}
 use Rattle.qcow2_metadata.specs.Tables.{TableValue}
 use Rattle.qcow2_alloc.specs.declared.cache.CacheDependency.{CacheDependency}
 use Rattle.qcow2_alloc.specs.declared.cache.MetadataCaches.{MetadataCaches}

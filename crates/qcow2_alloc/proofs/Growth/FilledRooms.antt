@@ -48,7 +48,7 @@ use Rattle.qcow2_alloc.proofs.Memory.MemoryWords.{places-in-memory}
 use Rattle.qcow2_alloc.proofs.Blocks.NamingBlocks.{count-none}
 use Rattle.qcow2_alloc.proofs.Quiet.QuietFlushes.{quietly-weaker}
 use Rattle.qcow2_alloc.proofs.Growth.SwitchedRooms.{part_named, old_run, old-run-is, old-run-unused, part-is, header-is, pointer-quietly, waits-quietly, counts-filled}
-use Rattle.qcow2_types.proofs.Parts.{block-inside}
+use Rattle.qcow2_types.proofs.Counting.Parts.{block-inside}
 use Rattle.qcow2_alloc.proofs.Memory.Patches.{shaped-in}
 use Rattle.qcow2_alloc.proofs.Growth.TakingRoom.{Given, ours, ours-unused, sound-then, why-caused}
 use Rattle.qcow2_alloc.proofs.Growth.UnfilledRooms.{not-filled}

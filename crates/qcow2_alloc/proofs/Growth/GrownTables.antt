@@ -11,7 +11,7 @@ use Rattle.qcow2_types.specs.Header.{Fields, cluster_size, words_of_cluster, ref
 use Rattle.qcow2_types.specs.Counts.{block_at, count, counter, counters_of_block}
 use Rattle.qcow2_types.specs.References.{of_cluster, meets}
 use Rattle.qcow2_types.specs.Switched.{with_reftable}
-use Rattle.qcow2_types.proofs.BlockSteps.{count-there}
+use Rattle.qcow2_types.proofs.Changes.BlockSteps.{count-there}
 use Rattle.qcow2_metadata.specs.Tables.{TableValue}
 use Rattle.qcow2_alloc.specs.FreeList.{covers}
 use Rattle.qcow2_alloc.specs.MakingRoom.{newly, newly_counted, run_of, rank, IsReadyTable, IsGrownTable}

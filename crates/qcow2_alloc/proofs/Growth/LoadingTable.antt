@@ -15,14 +15,14 @@ use Rattle.qcow2_types.specs.Entries.{l1_table_sound}
 use Rattle.qcow2_types.specs.References.{meets}
 use Rattle.qcow2_types.specs.Slots.{SoundWords}
 use Rattle.qcow2_types.specs.Consistency.{IsConsistent, IsVerdict}
-use Rattle.qcow2_types.proofs.Consistent.{header-reading, meets-own, named-counted}
-use Rattle.qcow2_types.proofs.Counters.{some-counters}
-use Rattle.qcow2_types.proofs.Frames.{header-part}
-use Rattle.qcow2_types.proofs.HeaderLimits.{header-limited}
-use Rattle.qcow2_types.proofs.Leaks.{count-beyond}
-use Rattle.qcow2_types.proofs.Named.{structure-le-refs}
-use Rattle.qcow2_types.proofs.Sound.{all-below-holds, sound-words}
-use Rattle.qcow2_types.proofs.WriteBack.{place-near, place-whole}
+use Rattle.qcow2_types.proofs.Counting.Consistent.{header-reading, meets-own, named-counted}
+use Rattle.qcow2_types.proofs.Counting.Counters.{some-counters}
+use Rattle.qcow2_types.proofs.Changes.Frames.{header-part}
+use Rattle.qcow2_types.proofs.Fields.HeaderLimits.{header-limited}
+use Rattle.qcow2_types.proofs.Counting.Leaks.{count-beyond}
+use Rattle.qcow2_types.proofs.Counting.Named.{structure-le-refs}
+use Rattle.qcow2_types.proofs.Counting.Sound.{all-below-holds, sound-words}
+use Rattle.qcow2_types.proofs.Changes.WriteBack.{place-near, place-whole}
 use Rattle.qcow2_metadata.specs.Places.{IsInReach}
 use Rattle.qcow2_metadata.specs.Tables.{TableValue, AreSound, Kind, table_in, words_in, max_entries, word_sound, WhyNotLoaded, block_words, l1_words}
 use Rattle.qcow2_alloc.specs.declared.allocation.Allocator.{Allocator}

@@ -16,8 +16,8 @@ use Rattle.qcow2_types.specs.Frames.{Same}
 use Rattle.qcow2_types.specs.Header.{Fields, cluster_size, words_of_cluster}
 use Rattle.qcow2_types.specs.TableBytes.{table_bytes}
 use Rattle.qcow2_types.specs.Words.{Layout, block_offset}
-use Rattle.qcow2_types.proofs.Counters.{some-counters}
-use Rattle.qcow2_types.proofs.Over.{words-length, table-over}
+use Rattle.qcow2_types.proofs.Counting.Counters.{some-counters}
+use Rattle.qcow2_types.proofs.Changes.Over.{words-length, table-over}
 use Rattle.qcow2_metadata.specs.Blocks.{Block, counters_in}
 use Rattle.qcow2_metadata.specs.Places.{place_of}
 use Rattle.qcow2_metadata.specs.Tables.{TableValue, table_place}

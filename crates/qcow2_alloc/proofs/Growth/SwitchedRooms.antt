@@ -18,12 +18,12 @@ use Rattle.qcow2_types.specs.References.{meets}
 use Rattle.qcow2_types.specs.Switched.{with_refcount_table}
 use Rattle.qcow2_types.specs.TableBytes.{table_bytes}
 use Rattle.qcow2_types.specs.Words.{block_offset}
-use Rattle.qcow2_types.proofs.Counters.{some-counters}
-use Rattle.qcow2_types.proofs.Either.{refs-cached}
-use Rattle.qcow2_types.proofs.Frames.{refcount_table-part}
-use Rattle.qcow2_types.proofs.HeaderLimits.{header-limited}
-use Rattle.qcow2_types.proofs.HeaderSwitch.{switch-header, name-behind}
-use Rattle.qcow2_types.proofs.WriteBack.{place-whole}
+use Rattle.qcow2_types.proofs.Counting.Counters.{some-counters}
+use Rattle.qcow2_types.proofs.Counting.Either.{refs-cached}
+use Rattle.qcow2_types.proofs.Changes.Frames.{refcount_table-part}
+use Rattle.qcow2_types.proofs.Fields.HeaderLimits.{header-limited}
+use Rattle.qcow2_types.proofs.Switching.HeaderSwitch.{switch-header, name-behind}
+use Rattle.qcow2_types.proofs.Changes.WriteBack.{place-whole}
 use Rattle.qcow2_metadata.specs.Tables.{TableValue, table_place}
 use Rattle.qcow2_alloc.specs.declared.allocation.searching.Run.{Run}
 use Rattle.qcow2_alloc.specs.FreeList.{covers}

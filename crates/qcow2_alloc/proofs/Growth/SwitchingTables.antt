@@ -20,17 +20,17 @@ use Rattle.qcow2_types.specs.References.{Weight, of_cluster, structure, of_mappi
 use Rattle.qcow2_types.specs.Slots.{slot, Live}
 use Rattle.qcow2_types.specs.Switched.{with_reftable, with_refcount_table, newly_named, RefcountTableSwitched}
 use Rattle.qcow2_types.specs.Versions.{copied, SamePlaces}
-use Rattle.qcow2_types.proofs.Consistent.{named-counted, meets-own, header-kept}
-use Rattle.qcow2_types.proofs.Counters.{count-same}
-use Rattle.qcow2_types.proofs.Either.{refs-file, refs-cached}
-use Rattle.qcow2_types.proofs.Frames.{splice-is-outside, header-part, entries-fit, word-same, block_at-same}
-use Rattle.qcow2_types.proofs.HeaderFrame.{header-fields}
-use Rattle.qcow2_types.proofs.HeaderSwitch.{loaded-parts, length-first_bytes, switch-header, first-fields-fit, name-behind}
+use Rattle.qcow2_types.proofs.Counting.Consistent.{named-counted, meets-own, header-kept}
+use Rattle.qcow2_types.proofs.Counting.Counters.{count-same}
+use Rattle.qcow2_types.proofs.Counting.Either.{refs-file, refs-cached}
+use Rattle.qcow2_types.proofs.Changes.Frames.{splice-is-outside, header-part, entries-fit, word-same, block_at-same}
+use Rattle.qcow2_types.proofs.Fields.HeaderFrame.{header-fields}
+use Rattle.qcow2_types.proofs.Switching.HeaderSwitch.{loaded-parts, length-first_bytes, switch-header, first-fields-fit, name-behind}
 use Rattle.qcow2_types.specs.HeaderSwitch.{OnlyPlaces}
-use Rattle.qcow2_types.proofs.Parts.{header, block-inside}
-use Rattle.qcow2_types.proofs.RefcountTableSwitch.{refcount-table-switched}
-use Rattle.qcow2_types.proofs.Sums.{sum-same, term-le-sum}
-use Rattle.qcow2_types.proofs.WriteBack.{place-whole}
+use Rattle.qcow2_types.proofs.Counting.Parts.{header, block-inside}
+use Rattle.qcow2_types.proofs.Switching.RefcountTableSwitch.{refcount-table-switched}
+use Rattle.qcow2_types.proofs.Numbers.Sums.{sum-same, term-le-sum}
+use Rattle.qcow2_types.proofs.Changes.WriteBack.{place-whole}
 use Rattle.qcow2_metadata.specs.Tables.{TableValue}
 use Rattle.qcow2_metadata.specs.Blocks.{Block, counters_in}
 use Rattle.qcow2_alloc.specs.Safety.{Safe, IsCachedBlock}

@@ -11,9 +11,9 @@ use Rattle.qcow2_types.specs.Slots.{slot, Live, over_slots}
 use Rattle.qcow2_types.specs.Switched.{with_reftable}
 use Rattle.qcow2_types.specs.Versions.{BlocksFirst, named, of_either}
 use Rattle.qcow2_types.specs.Words.{Mapping}
-use Rattle.qcow2_types.proofs.Either.{structure-same, tables-same}
-use Rattle.qcow2_types.proofs.Frames.{refcount_table-part}
-use Rattle.qcow2_types.proofs.Slots.{slots-mono}
+use Rattle.qcow2_types.proofs.Counting.Either.{structure-same, tables-same}
+use Rattle.qcow2_types.proofs.Changes.Frames.{refcount_table-part}
+use Rattle.qcow2_types.proofs.Counting.Slots.{slots-mono}
 use Rattle.qcow2_alloc.specs.declared.cache.CacheDependency.{CacheDependency}
 use Rattle.qcow2_alloc.specs.declared.cache.CacheDependency.TheVariants.{L2DependsOnRb}
 use Rattle.qcow2_alloc.specs.FreeList.{covers, listed}

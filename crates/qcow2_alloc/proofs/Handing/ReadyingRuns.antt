@@ -13,7 +13,7 @@ use Rattle.qcow2_types.specs.Counts.{counters_of_block}
 use Rattle.qcow2_types.specs.Header.{Header, cluster_size}
 use Rattle.qcow2_types.specs.Pending.{FreeEntry}
 use Rattle.qcow2_types.specs.Words.{block_offset}
-use Rattle.qcow2_types.proofs.HeaderLimits.{header-limited}
+use Rattle.qcow2_types.proofs.Fields.HeaderLimits.{header-limited}
 use Rattle.qcow2_metadata.specs.Places.{IsInReach}
 use Rattle.qcow2_metadata.specs.Tables.{TableValue}
 use Rattle.qcow2_alloc.specs.declared.cache.CacheDependency.TheVariants.{L2DependsOnRb}

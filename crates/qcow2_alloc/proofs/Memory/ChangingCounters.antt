@@ -21,16 +21,16 @@ use Rattle.qcow2_types.specs.Frames.{Same, Outside, Kept, block}
 use Rattle.qcow2_types.specs.Over.{Patch, over}
 use Rattle.qcow2_types.specs.Steps.{BlockWritten, CounterWritten}
 use Rattle.qcow2_types.specs.Versions.{SamePlaces, KeepsSlots, of_either, named, copied, NamedApart, BlocksFirst, TablesFirst}
-use Rattle.qcow2_types.proofs.BlockBytes.{bytes-pack}
-use Rattle.qcow2_types.proofs.BlockSteps.{block-kept, block-written, count-there, counters-written}
-use Rattle.qcow2_types.proofs.Counters.{some-counters, count-same}
-use Rattle.qcow2_types.proofs.Either.{refs-cached}
-use Rattle.qcow2_types.proofs.Frames.{splice-is-outside}
-use Rattle.qcow2_types.proofs.Over.{IsClear, over-first}
-use Rattle.qcow2_types.proofs.Parts.{block_of, table_of, block-inside, block_at-kept}
-use Rattle.qcow2_types.proofs.Patches.{part-same, parts-differ}
-use Rattle.qcow2_types.proofs.Slots.{slots-same}
-use Rattle.qcow2_types.proofs.Splices.{splice-inside, splice-outside}
+use Rattle.qcow2_types.proofs.Numbers.BlockBytes.{bytes-pack}
+use Rattle.qcow2_types.proofs.Changes.BlockSteps.{block-kept, block-written, count-there, counters-written}
+use Rattle.qcow2_types.proofs.Counting.Counters.{some-counters, count-same}
+use Rattle.qcow2_types.proofs.Counting.Either.{refs-cached}
+use Rattle.qcow2_types.proofs.Changes.Frames.{splice-is-outside}
+use Rattle.qcow2_types.proofs.Changes.Over.{IsClear, over-first}
+use Rattle.qcow2_types.proofs.Counting.Parts.{block_of, table_of, block-inside, block_at-kept}
+use Rattle.qcow2_types.proofs.Changes.Patches.{part-same, parts-differ}
+use Rattle.qcow2_types.proofs.Counting.Slots.{slots-same}
+use Rattle.qcow2_types.proofs.Numbers.Splices.{splice-inside, splice-outside}
 use Rattle.qcow2_metadata.specs.Tables.{TableValue}
 use Rattle.qcow2_metadata.specs.Blocks.{Block, with_counter}
 use Rattle.qcow2_metadata.proofs.Powers.{power-counters}

@@ -19,15 +19,15 @@ use Rattle.qcow2_types.specs.Frames.{Same, Outside}
 use Rattle.qcow2_types.specs.Over.{Patch, over}
 use Rattle.qcow2_types.specs.Steps.{SlotWritten, TableWritten, TableRewritten}
 use Rattle.qcow2_types.specs.Versions.{SamePlaces, IsBetween, ChangesSlot, of_either, named, copied, NamedApart, BlocksFirst, TablesFirst}
-use Rattle.qcow2_types.proofs.Consistent.{meets-own, meets-other, some-words}
-use Rattle.qcow2_types.proofs.Either.{structure-same, refs-cached, refs-change, named-change}
-use Rattle.qcow2_types.proofs.Frames.{word-same, splice-is-outside}
-use Rattle.qcow2_types.proofs.Over.{table-over}
-use Rattle.qcow2_types.proofs.Parts.{words-fit}
-use Rattle.qcow2_types.proofs.Slots.{slots-change, slot-le}
-use Rattle.qcow2_types.proofs.Splices.{be-same}
-use Rattle.qcow2_types.proofs.Stops.{copied-between}
-use Rattle.qcow2_types.proofs.TableRewrites.{table-written, table-rewritten}
+use Rattle.qcow2_types.proofs.Counting.Consistent.{meets-own, meets-other, some-words}
+use Rattle.qcow2_types.proofs.Counting.Either.{structure-same, refs-cached, refs-change, named-change}
+use Rattle.qcow2_types.proofs.Changes.Frames.{word-same, splice-is-outside}
+use Rattle.qcow2_types.proofs.Changes.Over.{table-over}
+use Rattle.qcow2_types.proofs.Counting.Parts.{words-fit}
+use Rattle.qcow2_types.proofs.Counting.Slots.{slots-change, slot-le}
+use Rattle.qcow2_types.proofs.Numbers.Splices.{be-same}
+use Rattle.qcow2_types.proofs.Changes.Stops.{copied-between}
+use Rattle.qcow2_types.proofs.Changes.TableRewrites.{table-written, table-rewritten}
 use Rattle.qcow2_metadata.specs.Places.{IsInReach}
 use Rattle.qcow2_metadata.specs.Tables.{TableValue, l2_words, word_sound, with_word, mapping_in}
 use Rattle.qcow2_metadata.specs.Blocks.{Block}

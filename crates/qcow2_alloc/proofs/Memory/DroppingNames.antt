@@ -5,7 +5,7 @@ use Rattle.std.proofs.Math.Nat.{div-mul-le_self}
 use Rattle.qcow2_types.specs.Bytes.{Bytes}
 use Rattle.qcow2_types.specs.Words.{Layout, Mapping, data_at, zeroes, packed, unmapped, damaged, mapping_of, is_damaged, has_bit, is_copied, table_offset, packed_place, packed_end, standard_word_sound, names_cluster}
 use Rattle.qcow2_types.specs.Header.{Fields, Header, Shaped, cluster_size, layout_of}
-use Rattle.qcow2_types.proofs.WordLemmas.{zero-word}
+use Rattle.qcow2_types.proofs.Numbers.WordLemmas.{zero-word}
 use Rattle.qcow2_metadata.specs.Places.{IsInReach}
 use Rattle.qcow2_metadata.specs.Tables.{mapping_in}
 use Rattle.qcow2_metadata.specs.Allocations.{kept_for_zero, kept_where, zeroed_word}

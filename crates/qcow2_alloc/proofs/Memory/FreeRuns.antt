@@ -23,12 +23,12 @@ use Rattle.qcow2_types.specs.References.{of_mapping, meets}
 use Rattle.qcow2_types.specs.Slots.{slot, Live}
 use Rattle.qcow2_types.specs.Steps.{FreeWritten}
 use Rattle.qcow2_types.specs.Versions.{copied, SamePlaces}
-use Rattle.qcow2_types.proofs.Consistent.{named-counted}
-use Rattle.qcow2_types.proofs.DataSteps.{free-run-written}
-use Rattle.qcow2_types.proofs.Either.{structure-same, refs-file, refs-cached}
+use Rattle.qcow2_types.proofs.Counting.Consistent.{named-counted}
+use Rattle.qcow2_types.proofs.Changes.DataSteps.{free-run-written}
+use Rattle.qcow2_types.proofs.Counting.Either.{structure-same, refs-file, refs-cached}
 use Rattle.qcow2_metadata.specs.Blocks.{Block, BlockPut, counters_in}
-use Rattle.qcow2_types.proofs.BlockBytes.{bytes-only}
-use Rattle.qcow2_types.proofs.BlockSteps.{counters-written}
+use Rattle.qcow2_types.proofs.Numbers.BlockBytes.{bytes-only}
+use Rattle.qcow2_types.proofs.Changes.BlockSteps.{counters-written}
 use Rattle.qcow2_alloc.proofs.Quiet.AtOnce.{at-once-file}
 use Rattle.qcow2_alloc.specs.Memory.{patches}
 use Rattle.qcow2_alloc.specs.Safety.{Safe, IsCachedBlock}

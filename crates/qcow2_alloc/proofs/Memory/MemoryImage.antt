@@ -14,11 +14,11 @@ use Rattle.qcow2_types.specs.Consistency.{IsConsistent}
 use Rattle.qcow2_types.specs.Frames.{Same, touches}
 use Rattle.qcow2_types.specs.Over.{Patch, over}
 use Rattle.qcow2_types.specs.Versions.{NamedApart}
-use Rattle.qcow2_types.proofs.Consistent.{header-kept}
-use Rattle.qcow2_types.proofs.Frames.{untouched, splice-is-outside, word-same, entries-fit}
-use Rattle.qcow2_types.proofs.Parts.{Part, header, l1_table, refcount_table, block_of, table_of, IsPart, part_weight, other-part, touches-inside}
-use Rattle.qcow2_types.proofs.Patches.{IsPatch, part_place, part-once}
-use Rattle.qcow2_types.proofs.Sound.{stop-consistent}
+use Rattle.qcow2_types.proofs.Counting.Consistent.{header-kept}
+use Rattle.qcow2_types.proofs.Changes.Frames.{untouched, splice-is-outside, word-same, entries-fit}
+use Rattle.qcow2_types.proofs.Counting.Parts.{Part, header, l1_table, refcount_table, block_of, table_of, IsPart, part_weight, other-part, touches-inside}
+use Rattle.qcow2_types.proofs.Changes.Patches.{IsPatch, part_place, part-once}
+use Rattle.qcow2_types.proofs.Counting.Sound.{stop-consistent}
 use Rattle.qcow2_alloc.specs.declared.cache.CacheDependency.{CacheDependency}
 use Rattle.qcow2_alloc.specs.Memory.{Cached, patches, memory}
 use Rattle.qcow2_alloc.specs.Safety.{IsCachedTable, IsCachedBlock, Safe}

@@ -12,10 +12,10 @@ use Rattle.qcow2_types.specs.Slots.{Live, slot}
 use Rattle.qcow2_types.specs.Consistency.{IsConsistent}
 use Rattle.qcow2_types.specs.Frames.{Same}
 use Rattle.qcow2_types.specs.Versions.{SamePlaces}
-use Rattle.qcow2_types.proofs.Frames.{word-same}
-use Rattle.qcow2_types.proofs.Parts.{block_of, table_of, words-fit, block-inside}
-use Rattle.qcow2_types.proofs.Counters.{count-same}
-use Rattle.qcow2_types.proofs.Patches.{part-same, parts-differ, places-over}
+use Rattle.qcow2_types.proofs.Changes.Frames.{word-same}
+use Rattle.qcow2_types.proofs.Counting.Parts.{block_of, table_of, words-fit, block-inside}
+use Rattle.qcow2_types.proofs.Counting.Counters.{count-same}
+use Rattle.qcow2_types.proofs.Changes.Patches.{part-same, parts-differ, places-over}
 use Rattle.qcow2_metadata.specs.Tables.{TableValue}
 use Rattle.qcow2_alloc.specs.declared.async_lru_cache.Slot.{Slot}
 use Rattle.qcow2_alloc.specs.Memory.{Cached, patches, memory}

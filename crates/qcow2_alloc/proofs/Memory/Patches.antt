@@ -11,15 +11,15 @@ use Rattle.qcow2_types.specs.Bytes.{Bytes}
 use Rattle.qcow2_types.specs.Words.{Layout}
 use Rattle.qcow2_types.specs.Header.{Fields, Header, Shaped, cluster_size, layout_of}
 use Rattle.qcow2_types.specs.Counts.{counters_of_block}
-use Rattle.qcow2_types.proofs.HeaderFrame.{header-fields, header-shaped}
+use Rattle.qcow2_types.proofs.Fields.HeaderFrame.{header-fields, header-shaped}
 use Rattle.qcow2_metadata.proofs.Powers.{power-counters}
 use Rattle.qcow2_types.specs.TableBytes.{table_bytes}
 use Rattle.qcow2_types.specs.BlockBytes.{block_bytes}
 use Rattle.qcow2_types.specs.Consistency.{IsConsistent}
 use Rattle.qcow2_types.specs.Over.{Patch}
-use Rattle.qcow2_types.proofs.Over.{IsClear, words-length}
-use Rattle.qcow2_types.proofs.Parts.{block_of, table_of}
-use Rattle.qcow2_types.proofs.Patches.{IsPatch, clear-of-other}
+use Rattle.qcow2_types.proofs.Changes.Over.{IsClear, words-length}
+use Rattle.qcow2_types.proofs.Counting.Parts.{block_of, table_of}
+use Rattle.qcow2_types.proofs.Changes.Patches.{IsPatch, clear-of-other}
 use Rattle.qcow2_metadata.specs.Tables.{TableValue, IsTable, l2_words}
 use Rattle.qcow2_metadata.specs.Blocks.{Block}
 use Rattle.qcow2_alloc.specs.declared.async_lru_cache.Slot.{Slot}

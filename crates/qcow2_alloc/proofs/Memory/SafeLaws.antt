@@ -8,10 +8,10 @@ use Rattle.qcow2_types.specs.Entries.{l2_table}
 use Rattle.qcow2_types.specs.Counts.{block_at}
 use Rattle.qcow2_types.specs.Over.{Patch, over}
 use Rattle.qcow2_types.specs.Versions.{named}
-use Rattle.qcow2_types.proofs.Either.{named-falls}
-use Rattle.qcow2_types.proofs.Sound.{sound-words}
-use Rattle.qcow2_types.proofs.WriteBack.{table-place, place-near}
-use Rattle.qcow2_types.proofs.BlockSteps.{block-place}
+use Rattle.qcow2_types.proofs.Counting.Either.{named-falls}
+use Rattle.qcow2_types.proofs.Counting.Sound.{sound-words}
+use Rattle.qcow2_types.proofs.Changes.WriteBack.{table-place, place-near}
+use Rattle.qcow2_types.proofs.Changes.BlockSteps.{block-place}
 use Rattle.qcow2_metadata.specs.Places.{IsInReach}
 use Rattle.qcow2_metadata.specs.Tables.{TableValue}
 use Rattle.qcow2_metadata.specs.Blocks.{Block}

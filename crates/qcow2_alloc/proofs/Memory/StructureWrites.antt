@@ -12,9 +12,9 @@ use Rattle.qcow2_types.specs.Consistency.{IsConsistent}
 use Rattle.qcow2_types.specs.Frames.{Same, Outside, touches}
 use Rattle.qcow2_types.specs.Over.{Patch, over}
 use Rattle.qcow2_types.specs.References.{meets}
-use Rattle.qcow2_types.proofs.Over.{IsClear, over-first}
-use Rattle.qcow2_types.proofs.Parts.{Part, header, IsPart, part_weight}
-use Rattle.qcow2_types.proofs.Patches.{IsPatch, part_place}
+use Rattle.qcow2_types.proofs.Changes.Over.{IsClear, over-first}
+use Rattle.qcow2_types.proofs.Counting.Parts.{Part, header, IsPart, part_weight}
+use Rattle.qcow2_types.proofs.Changes.Patches.{IsPatch, part_place}
 use Rattle.qcow2_alloc.specs.Memory.{Cached, patches, memory}
 use Rattle.qcow2_alloc.specs.Safety.{IsCachedTable, IsCachedBlock}
 use Rattle.qcow2_alloc.proofs.Memory.MemoryImage.{untouched-by, range-stays}

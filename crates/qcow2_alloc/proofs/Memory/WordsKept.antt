@@ -12,10 +12,10 @@ use Rattle.qcow2_types.specs.References.{Weight, structure, contents, of_mapping
 use Rattle.qcow2_types.specs.Slots.{slot, Live, over_slots}
 use Rattle.qcow2_types.specs.Switched.{with_reftable}
 use Rattle.qcow2_types.specs.Versions.{of_either, named, copied}
-use Rattle.qcow2_types.proofs.Counters.{counter-same}
-use Rattle.qcow2_types.proofs.Either.{tables-same}
+use Rattle.qcow2_types.proofs.Counting.Counters.{counter-same}
+use Rattle.qcow2_types.proofs.Counting.Either.{tables-same}
 use Rattle.std.proofs.Math.Nat.{le-max_left}
-use Rattle.qcow2_types.proofs.Slots.{contents-slots, slots-same, slot-le}
+use Rattle.qcow2_types.proofs.Counting.Slots.{contents-slots, slots-same, slot-le}
 use Rattle.qcow2_metadata.specs.Tables.{TableValue, words_in}
 use Rattle.qcow2_metadata.specs.Blocks.{Block, counters_in}
 use Rattle.qcow2_alloc.specs.declared.cache.CacheDependency.{CacheDependency}

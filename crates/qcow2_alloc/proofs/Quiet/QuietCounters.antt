@@ -7,7 +7,7 @@ use Rattle.qcow2_types.specs.Bytes.{Bytes}
 use Rattle.qcow2_types.specs.Header.{Fields}
 use Rattle.qcow2_types.specs.Pending.{FreeEntry}
 use Rattle.qcow2_types.specs.Versions.{named, SamePlaces}
-use Rattle.qcow2_types.proofs.Either.{refs-cached}
+use Rattle.qcow2_types.proofs.Counting.Either.{refs-cached}
 use Rattle.qcow2_alloc.specs.declared.cache.CacheDependency.{CacheDependency}
 use Rattle.qcow2_alloc.specs.declared.cache.CacheDependency.TheVariants.{Unset, L2DependsOnRb, RbDependsOnL2}
 use Rattle.qcow2_alloc.specs.Changes.{SetsCounter, CounterChanged, IsStillCovered}

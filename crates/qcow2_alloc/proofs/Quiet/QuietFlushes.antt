@@ -9,7 +9,7 @@ use Rattle.qcow2_types.specs.Counts.{block_at, count}
 use Rattle.qcow2_types.specs.References.{meets, refs}
 use Rattle.qcow2_types.specs.Slots.{slot}
 use Rattle.qcow2_types.specs.Versions.{named}
-use Rattle.qcow2_types.proofs.Either.{structure-same, named-falls}
+use Rattle.qcow2_types.proofs.Counting.Either.{structure-same, named-falls}
 use Rattle.qcow2_metadata.specs.Tables.{TableValue}
 use Rattle.qcow2_alloc.specs.declared.cache.CacheDependency.{CacheDependency}
 use Rattle.qcow2_alloc.specs.Memory.{Cached, memory}

@@ -11,8 +11,8 @@ use Rattle.qcow2_types.specs.References.{meets}
 use Rattle.qcow2_types.specs.Slots.{slot, Live}
 use Rattle.qcow2_types.specs.Versions.{named, of_either, IsBetween}
 use Rattle.qcow2_types.specs.Words.{Mapping, block_offset}
-use Rattle.qcow2_types.proofs.Either.{named-falls}
-use Rattle.qcow2_types.proofs.Slots.{slots-same}
+use Rattle.qcow2_types.proofs.Counting.Either.{named-falls}
+use Rattle.qcow2_types.proofs.Counting.Slots.{slots-same}
 use Rattle.qcow2_metadata.specs.Tables.{TableValue}
 use Rattle.qcow2_alloc.specs.Quiet.{Metadata, in_memory, named_at_all, IsSound, IsQuiet}
 

@@ -16,12 +16,12 @@ use Rattle.qcow2_types.specs.Over.{Patch}
 use Rattle.qcow2_types.specs.References.{Weight, structure, of_mapping, meets}
 use Rattle.qcow2_types.specs.Slots.{slot, Live, over_slots}
 use Rattle.qcow2_types.specs.Versions.{of_either, named, NamedApart}
-use Rattle.qcow2_types.proofs.Frames.{touches-cluster, word-same}
-use Rattle.qcow2_types.proofs.Named.{of_mapping-mono}
-use Rattle.qcow2_types.proofs.Over.{IsClear, over-clear}
-use Rattle.qcow2_types.proofs.Parts.{Part, header, l1_table, refcount_table, block_of, table_of, IsPart, one-part}
-use Rattle.qcow2_types.proofs.Patches.{part_place, IsPatch}
-use Rattle.qcow2_types.proofs.Slots.{slot-le}
+use Rattle.qcow2_types.proofs.Changes.Frames.{touches-cluster, word-same}
+use Rattle.qcow2_types.proofs.Counting.Named.{of_mapping-mono}
+use Rattle.qcow2_types.proofs.Changes.Over.{IsClear, over-clear}
+use Rattle.qcow2_types.proofs.Counting.Parts.{Part, header, l1_table, refcount_table, block_of, table_of, IsPart, one-part}
+use Rattle.qcow2_types.proofs.Changes.Patches.{part_place, IsPatch}
+use Rattle.qcow2_types.proofs.Counting.Slots.{slot-le}
 use Rattle.qcow2_alloc.specs.declared.cache.CacheDependency.{CacheDependency}
 use Rattle.qcow2_alloc.specs.Memory.{Cached, patches, memory}
 use Rattle.qcow2_alloc.specs.Safety.{Safe, IsLeft}

@@ -15,8 +15,8 @@ use Rattle.qcow2_types.specs.References.{Weight, structure, contents, of_mapping
 use Rattle.qcow2_types.specs.Slots.{slot, Live, over_slots}
 use Rattle.qcow2_types.specs.Switched.{with_reftable, with_refcount_table}
 use Rattle.qcow2_types.specs.Versions.{SamePlaces}
-use Rattle.qcow2_types.proofs.Either.{structure-same, tables-same}
-use Rattle.qcow2_types.proofs.Slots.{contents-slots, slots-same, slot-le}
+use Rattle.qcow2_types.proofs.Counting.Either.{structure-same, tables-same}
+use Rattle.qcow2_types.proofs.Counting.Slots.{contents-slots, slots-same, slot-le}
 use Rattle.qcow2_alloc.specs.Memory.{memory}
 use Rattle.qcow2_metadata.specs.Tables.{TableValue}
 use Rattle.qcow2_alloc.specs.Quiet.{Metadata, counted, in_memory, referenced, waiting, IsUsed, IsSound, ShowsEither, IsQuiet, Quietly}

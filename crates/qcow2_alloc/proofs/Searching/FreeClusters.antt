@@ -7,9 +7,9 @@ use Rattle.qcow2_types.specs.Counts.{block_at, counters_of_block, count}
 use Rattle.qcow2_types.specs.Pending.{FreeEntry}
 use Rattle.qcow2_types.specs.References.{meets}
 use Rattle.qcow2_types.specs.Versions.{named}
-use Rattle.qcow2_types.proofs.Frames.{refcount_table-part}
-use Rattle.qcow2_types.proofs.HeaderLimits.{header-limited}
-use Rattle.qcow2_types.proofs.WriteBack.{place-whole}
+use Rattle.qcow2_types.proofs.Changes.Frames.{refcount_table-part}
+use Rattle.qcow2_types.proofs.Fields.HeaderLimits.{header-limited}
+use Rattle.qcow2_types.proofs.Changes.WriteBack.{place-whole}
 use Rattle.qcow2_metadata.specs.Tables.{TableValue}
 use Rattle.qcow2_alloc.specs.declared.cache.CacheDependency.{CacheDependency}
 use Rattle.qcow2_alloc.specs.declared.cache.CacheDependency.TheVariants.{L2DependsOnRb}

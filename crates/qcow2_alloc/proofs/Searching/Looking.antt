@@ -12,7 +12,7 @@ use Rattle.imago_storage.proofs.Composing.{keeps_on, no_stops, later_same}
 use Rattle.qcow2_types.specs.Bytes.{Bytes, bytes_of}
 use Rattle.qcow2_types.specs.Header.{Header}
 use Rattle.qcow2_types.specs.Counts.{block_at, count, counters_of_block}
-use Rattle.qcow2_types.proofs.Leaks.{count-no-block, count-past}
+use Rattle.qcow2_types.proofs.Counting.Leaks.{count-no-block, count-past}
 use Rattle.qcow2_metadata.specs.Places.{IsInReach}
 use Rattle.qcow2_metadata.specs.Tables.{TableValue}
 use Rattle.qcow2_metadata.specs.Blocks.{Block}

@@ -6,8 +6,8 @@ use Rattle.std.proofs.Math.Nat.{mul-le-mul, div-mul-le_self, min-le_left}
 use Rattle.std.proofs.lemmas.Nat.{le-div}
 use Rattle.qcow2_types.specs.Counts.{block_at, counters_of_block}
 use Rattle.qcow2_types.specs.Header.{Shaped, words_of_cluster}
-use Rattle.qcow2_types.proofs.Leaks.{count-no-block}
-use Rattle.qcow2_types.proofs.Parts.{block-inside}
+use Rattle.qcow2_types.proofs.Counting.Leaks.{count-no-block}
+use Rattle.qcow2_types.proofs.Counting.Parts.{block-inside}
 use Rattle.qcow2_metadata.specs.Places.{IsInReach}
 use Rattle.qcow2_metadata.specs.Tables.{TableValue}
 use Rattle.qcow2_alloc.specs.FillingBlocks.{FillsFrom}

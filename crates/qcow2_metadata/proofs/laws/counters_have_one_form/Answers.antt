@@ -1,6 +1,6 @@
 use Rattle.std.proofs.Common.{◌≡◌, ◌+◌, ◌-◌, ◌∙◌, ap, sym, arith, set, get_or}
 use Rattle.std.proofs.lemmas.List.{set-get_or, set-set}
-use Rattle.qcow2_types.proofs.BlockBytes.{bytes-only}
+use Rattle.qcow2_types.proofs.Numbers.BlockBytes.{bytes-only}
 use Rattle.qcow2_metadata.proofs.laws.counters_have_one_form.Goals as goal
 
 pub returns-clause-one : goal.returns-clause-one

@@ -1,4 +1,4 @@
-use Rattle.qcow2_types.proofs.HeaderSwitch.{switch-header, first-fields-fit, name-behind}
+use Rattle.qcow2_types.proofs.Switching.HeaderSwitch.{switch-header, first-fields-fit, name-behind}
 use Rattle.qcow2_metadata.proofs.laws.pointer_write_switches_the_header.Goals as goal
 use Rattle.std.specs.Prelude.{true}
 

@@ -1,4 +1,4 @@
-use Rattle.qcow2_types.proofs.WordLemmas.{zero-word}
+use Rattle.qcow2_types.proofs.Numbers.WordLemmas.{zero-word}
 use Rattle.qcow2_metadata.proofs.Conservation.{kept_means, zero_means}
 use Rattle.qcow2_metadata.proofs.laws.zeroed_and_discarded_clusters_are_decoded.Goals as goal
 

@@ -1,6 +1,6 @@
 use Rattle.std.proofs.Common.{arith, sym}
 use Rattle.qcow2_types.specs.Bytes.{bytes_of}
-use Rattle.qcow2_types.proofs.HeaderFields.{holds-same, v2-magic, v2-version, v2-backing_filename_offset, v2-backing_filename_size, v2-cluster_bits, v2-size, v2-crypt_method, v2-l1_size, v2-l1_table_offset, v2-refcount_table_offset, v2-refcount_table_clusters, v2-nb_snapshots, v2-snapshots_offset}
+use Rattle.qcow2_types.proofs.Fields.HeaderFields.{holds-same, v2-magic, v2-version, v2-backing_filename_offset, v2-backing_filename_size, v2-cluster_bits, v2-size, v2-crypt_method, v2-l1_size, v2-l1_table_offset, v2-refcount_table_offset, v2-refcount_table_clusters, v2-nb_snapshots, v2-snapshots_offset}
 use Rattle.qcow2_metadata.proofs.rules.v2_part.Goals as goal
 
 pub returns : goal.returns

@@ -1,7 +1,7 @@
 use Rattle.std.proofs.Common.{arith, sym, refl}
 use Rattle.qcow2_types.specs.Bytes.{bytes_of}
 use Rattle.qcow2_types.specs.OnDisk.{v3_bytes}
-use Rattle.qcow2_types.proofs.HeaderFields.{holds-same, number-there_4, number-there_8}
+use Rattle.qcow2_types.proofs.Fields.HeaderFields.{holds-same, number-there_4, number-there_8}
 use Rattle.qcow2_metadata.proofs.rules.v3_part.Goals as goal
 
 pub returns : goal.returns

@@ -1,7 +1,7 @@
 use Rattle.std.proofs.Common.{◌≡◌, ◌+◌, ◌*◌, ◌%◌, ◌^◌, sym, arith, ◌<◌}
 use Rattle.std.specs.Prelude.{bit_or}
 use Rattle.qcow2_types.specs.Bytes.{be, bytes_of}
-use Rattle.qcow2_types.proofs.BytesLemmas.{be-none, be-more, one_more, more_fits}
+use Rattle.qcow2_types.proofs.Numbers.BytesLemmas.{be-none, be-more, one_more, more_fits}
 use Rattle.qcow2_metadata.proofs.words.word_at_end.Goals as goal
 
 pub loop-i-init : goal.loop-i-init

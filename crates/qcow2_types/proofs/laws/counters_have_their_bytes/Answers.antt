@@ -1,4 +1,4 @@
-use Rattle.qcow2_types.proofs.BlockBytes.{bytes-pack, counters-packable, bytes-only}
+use Rattle.qcow2_types.proofs.Numbers.BlockBytes.{bytes-pack, counters-packable, bytes-only}
 use Rattle.qcow2_types.proofs.laws.counters_have_their_bytes.Goals as goal
 
 pub returns : goal.returns

@@ -1,4 +1,4 @@
-use Rattle.qcow2_types.proofs.OneVerdict.{verdict-unique}
+use Rattle.qcow2_types.proofs.Counting.OneVerdict.{verdict-unique}
 use Rattle.qcow2_types.proofs.laws.image_has_one_verdict.Goals as goal
 
 pub returns : goal.returns

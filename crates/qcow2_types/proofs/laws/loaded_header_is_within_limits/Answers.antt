@@ -1,4 +1,4 @@
-use Rattle.qcow2_types.proofs.HeaderLimits.{header-magic, least-cluster, greatest-cluster, least-width, greatest-width, header-limited}
+use Rattle.qcow2_types.proofs.Fields.HeaderLimits.{header-magic, least-cluster, greatest-cluster, least-width, greatest-width, header-limited}
 use Rattle.qcow2_types.proofs.laws.loaded_header_is_within_limits.Goals as goal
 
 pub returns : goal.returns

@@ -2,7 +2,7 @@
 use Rattle.std.proofs.Common.{◌≡◌, ℕ, ◌+◌, ◌-◌, ◌<◌, arith, ap, ◌∙◌, List, take, drop, get_or}
 use Rattle.std.specs.Int.{w64, to_be_bytes}
 use Rattle.std.proofs.lemmas.Nat.{be_bytes_8}
-use Rattle.qcow2_types.proofs.NumberBytes.{part-below, taken-more}
+use Rattle.qcow2_types.proofs.Numbers.NumberBytes.{part-below, taken-more}
 use Rattle.qcow2_types.proofs.on_disk.u64_at.Goals as goal
 
 pub returns : goal.returns

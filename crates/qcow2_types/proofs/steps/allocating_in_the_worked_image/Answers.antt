@@ -1,4 +1,4 @@
-use Rattle.qcow2_types.proofs.WorkedSteps.{counted, mapped, shown}
+use Rattle.qcow2_types.proofs.Worked.Steps.{counted, mapped, shown}
 use Rattle.qcow2_types.proofs.steps.allocating_in_the_worked_image.Goals as goal
 
 pub returns : goal.returns

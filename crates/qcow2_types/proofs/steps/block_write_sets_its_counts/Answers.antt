@@ -1,4 +1,4 @@
-use Rattle.qcow2_types.proofs.BlockSteps.{block-counts, counters-written}
+use Rattle.qcow2_types.proofs.Changes.BlockSteps.{block-counts, counters-written}
 use Rattle.qcow2_types.proofs.steps.block_write_sets_its_counts.Goals as goal
 
 pub returns : goal.returns

@@ -1,4 +1,4 @@
-use Rattle.qcow2_types.proofs.BlockSteps.{block-written, counter-set}
+use Rattle.qcow2_types.proofs.Changes.BlockSteps.{block-written, counter-set}
 use Rattle.qcow2_types.proofs.steps.counter_write_keeps_other_counts.Goals as goal
 
 pub returns : goal.returns

@@ -1,4 +1,4 @@
-use Rattle.qcow2_types.proofs.TableReplaces.{table-replaced-spliced, table-swapped-spliced}
+use Rattle.qcow2_types.proofs.Changes.TableReplaces.{table-replaced-spliced, table-swapped-spliced}
 use Rattle.qcow2_types.proofs.steps.naming_another_table.Goals as goal
 
 pub returns : goal.returns

@@ -1,4 +1,4 @@
-use Rattle.qcow2_types.proofs.SlotSteps.{slot-rewritten-spliced, slot-references-spliced}
+use Rattle.qcow2_types.proofs.Changes.SlotSteps.{slot-rewritten-spliced, slot-references-spliced}
 use Rattle.qcow2_types.proofs.steps.rewriting_a_word.Goals as goal
 
 pub returns : goal.returns

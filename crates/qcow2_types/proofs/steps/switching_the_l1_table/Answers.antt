@@ -1,4 +1,4 @@
-use Rattle.qcow2_types.proofs.L1Switch.{l1-table-switched}
+use Rattle.qcow2_types.proofs.Switching.L1Switch.{l1-table-switched}
 use Rattle.qcow2_types.proofs.steps.switching_the_l1_table.Goals as goal
 
 pub returns : goal.returns

@@ -1,4 +1,4 @@
-use Rattle.qcow2_types.proofs.TableRewrites.{table-written, table-rewritten}
+use Rattle.qcow2_types.proofs.Changes.TableRewrites.{table-written, table-rewritten}
 use Rattle.qcow2_types.proofs.steps.writing_into_a_table.Goals as goal
 
 pub returns : goal.returns

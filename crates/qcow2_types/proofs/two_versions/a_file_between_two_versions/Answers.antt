@@ -1,6 +1,6 @@
-use Rattle.qcow2_types.proofs.Either.{refs-between, named-falls, named-clean}
-use Rattle.qcow2_types.proofs.Stops.{copied-between, apart-falls}
-use Rattle.qcow2_types.proofs.Values.{value-either}
+use Rattle.qcow2_types.proofs.Counting.Either.{refs-between, named-falls, named-clean}
+use Rattle.qcow2_types.proofs.Changes.Stops.{copied-between, apart-falls}
+use Rattle.qcow2_types.proofs.Showing.Values.{value-either}
 use Rattle.qcow2_types.proofs.two_versions.a_file_between_two_versions.Goals as goal
 
 pub returns : goal.returns

@@ -1,4 +1,4 @@
-use Rattle.qcow2_types.proofs.Either.{table-after-blocks, table-before-blocks, block-before-tables, block-after-tables, table-without-order, block-without-order}
+use Rattle.qcow2_types.proofs.Counting.Either.{table-after-blocks, table-before-blocks, block-before-tables, block-after-tables, table-without-order, block-without-order}
 use Rattle.qcow2_types.proofs.two_versions.writing_in_order.Goals as goal
 
 pub returns : goal.returns

@@ -1,4 +1,4 @@
-use Rattle.qcow2_types.proofs.WorkedVerdicts.{header_refused, snapshot, external_data, damaged_table, shared_l1}
+use Rattle.qcow2_types.proofs.Worked.Verdicts.{header_refused, snapshot, external_data, damaged_table, shared_l1}
 use Rattle.qcow2_types.proofs.worked_image.changed_structure.Goals as goal
 
 pub returns : goal.returns

@@ -1,4 +1,4 @@
-use Rattle.qcow2_types.proofs.WorkedMore.{one_sector, two_sectors}
+use Rattle.qcow2_types.proofs.Worked.More.{one_sector, two_sectors}
 use Rattle.qcow2_types.proofs.worked_image.compressed_ranges.Goals as goal
 
 pub returns : goal.returns

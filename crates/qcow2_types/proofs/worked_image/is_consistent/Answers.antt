@@ -1,4 +1,4 @@
-use Rattle.qcow2_types.proofs.WorkedConsistent.{consistent, no_leaks, verdict}
+use Rattle.qcow2_types.proofs.Worked.Consistent.{consistent, no_leaks, verdict}
 use Rattle.qcow2_types.proofs.worked_image.is_consistent.Goals as goal
 
 pub returns : goal.returns

@@ -1,5 +1,5 @@
-use Rattle.qcow2_types.proofs.WorkedHeader.{header_pieces}
-use Rattle.qcow2_types.proofs.WorkedHeaders as headers
+use Rattle.qcow2_types.proofs.Worked.Header.{header_pieces}
+use Rattle.qcow2_types.proofs.Worked.Headers as headers
 use Rattle.qcow2_types.proofs.worked_image.loaded_headers.Goals as goal
 
 pub returns : goal.returns

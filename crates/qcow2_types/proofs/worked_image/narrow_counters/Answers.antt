@@ -1,4 +1,4 @@
-use Rattle.qcow2_types.proofs.WorkedMore.{one_bit, two_bits, four_bits}
+use Rattle.qcow2_types.proofs.Worked.More.{one_bit, two_bits, four_bits}
 use Rattle.qcow2_types.proofs.worked_image.narrow_counters.Goals as goal
 
 pub returns : goal.returns

@@ -1,4 +1,4 @@
-use Rattle.qcow2_types.proofs.WorkedHeaders as headers
+use Rattle.qcow2_types.proofs.Worked.Headers as headers
 use Rattle.qcow2_types.proofs.worked_image.refused_headers.Goals as goal
 
 pub returns : goal.returns

@@ -1,4 +1,4 @@
-use Rattle.qcow2_types.proofs.WorkedDisk.{shown_bytes, below, packed_barred, packed_entry}
+use Rattle.qcow2_types.proofs.Worked.Disk.{shown_bytes, below, packed_barred, packed_entry}
 use Rattle.qcow2_types.proofs.worked_image.shown_bytes.Goals as goal
 
 pub returns : goal.returns

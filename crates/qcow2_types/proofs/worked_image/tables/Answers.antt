@@ -1,5 +1,5 @@
-use Rattle.qcow2_types.proofs.WorkedTables.{entries}
-use Rattle.qcow2_types.proofs.WorkedCounts.{counts, references}
+use Rattle.qcow2_types.proofs.Worked.Tables.{entries}
+use Rattle.qcow2_types.proofs.Worked.Counts.{counts, references}
 use Rattle.qcow2_types.proofs.worked_image.tables.Goals as goal
 
 pub returns : goal.returns

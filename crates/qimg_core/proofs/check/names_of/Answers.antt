@@ -4,10 +4,10 @@ use Rattle.std.specs.Prelude.{IsTrue, All}
 use Rattle.std.proofs.lemmas.Result.{err_from_is_err_and}
 use Rattle.qcow2_types.specs.Header.{Limited}
 use Rattle.qcow2_types.specs.Entries.{l2_table_sound}
-use Rattle.qcow2_types.proofs.HeaderLimits.{header-limited, fields-shaped}
+use Rattle.qcow2_types.proofs.Fields.HeaderLimits.{header-limited, fields-shaped}
 use Rattle.qimg_core.specs.Files.{file}
 use Rattle.qimg_core.specs.CheckParts.{AreTables, IsBlocksEnd, counted_clusters}
-use Rattle.qcow2_types.proofs.WriteBack.{place-near}
+use Rattle.qcow2_types.proofs.Changes.WriteBack.{place-near}
 use Rattle.qimg_core.proofs.TablesListed.{tables-placed, places-bounded, table-bytes, sound-by-list, damaged-finding}
 use Rattle.qimg_core.proofs.ImageNamed.{given-tells}
 use Rattle.qimg_core.proofs.NameLemmas.{adds-since}

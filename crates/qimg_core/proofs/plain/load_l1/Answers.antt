@@ -1,5 +1,5 @@
 use Rattle.std.proofs.Common.{◌≤◌, arith, false}
-use Rattle.qcow2_types.proofs.HeaderLimits.{header-limited}
+use Rattle.qcow2_types.proofs.Fields.HeaderLimits.{header-limited}
 use Rattle.qimg_core.specs.Files.{file}
 use Rattle.qimg_core.proofs.PlainTables.{l1-place}
 use Rattle.qimg_core.proofs.FewerWords.{cluster-at, l1-sound, l1-refused}

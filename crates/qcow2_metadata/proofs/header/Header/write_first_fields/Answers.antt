@@ -3,7 +3,7 @@ use Rattle.imago_storage.specs.Through.{PutAtOnce}
 use Rattle.imago_storage.proofs.Once.{put-at-once}
 use Rattle.qcow2_types.specs.Header.{Header as HeaderRecord}
 use Rattle.qcow2_types.specs.HeaderBytes.{first_bytes}
-use Rattle.qcow2_types.proofs.HeaderSwitch.{length-first_bytes}
+use Rattle.qcow2_types.proofs.Switching.HeaderSwitch.{length-first_bytes}
 use Rattle.qcow2_metadata.specs.FieldsView.{seen_fields}
 use Rattle.qcow2_metadata.proofs.Written.{first-64}
 use Rattle.qcow2_metadata.proofs.header.Header.write_first_fields.Goals as goal

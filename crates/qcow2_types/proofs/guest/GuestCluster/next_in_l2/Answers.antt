@@ -2,7 +2,7 @@
 use Rattle.std.proofs.Common.{◌≡◌, ℕ, ◌+◌, ◌-◌, ◌*◌, ◌%◌, ◌^◌, ◌<◌, ◌≤◌, arith, ap, ◌∙◌}
 use Rattle.std.proofs.lemmas.Nat.{one_shl, mod_below, pow_pos, pow_below}
 use Rattle.qcow2_types.specs.Places.{l2_entries}
-use Rattle.qcow2_types.proofs.TableSizes.{entries_power, next_below}
+use Rattle.qcow2_types.proofs.Counting.TableSizes.{entries_power, next_below}
 use Rattle.qcow2_types.proofs.guest.GuestCluster.next_in_l2.Goals as goal
 
 -- the index, by the power of 2

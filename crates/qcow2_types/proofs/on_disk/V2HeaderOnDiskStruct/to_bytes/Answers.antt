@@ -1,7 +1,7 @@
 -- The fields follow one another, and fill all bytes.
 use Rattle.std.proofs.Common.{arith}
 use Rattle.qcow2_types.specs.OnDisk.{v2_bytes}
-use Rattle.qcow2_types.proofs.NumberBytes.{then, whole}
+use Rattle.qcow2_types.proofs.Numbers.NumberBytes.{then, whole}
 use Rattle.qcow2_types.proofs.on_disk.V2HeaderOnDiskStruct.to_bytes.Goals as goal
 
 pub returns : goal.returns

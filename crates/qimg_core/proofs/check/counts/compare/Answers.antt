@@ -4,8 +4,8 @@ use Rattle.std.specs.Prelude.{None}
 use Rattle.std.proofs.lemmas.Result.{err_from_is_err_and}
 use Rattle.qcow2_types.specs.Header.{Limited, refcount_table_entries}
 use Rattle.qcow2_types.specs.Counts.{counters_of_block}
-use Rattle.qcow2_types.proofs.Counters.{some-counters}
-use Rattle.qcow2_types.proofs.HeaderLimits.{fields-shaped, header-limited}
+use Rattle.qcow2_types.proofs.Counting.Counters.{some-counters}
+use Rattle.qcow2_types.proofs.Fields.HeaderLimits.{fields-shaped, header-limited}
 use Rattle.qimg_core.specs.Files.{file}
 use Rattle.qimg_core.specs.CheckParts.{Tells, AreCompared}
 use Rattle.qimg_core.proofs.ScanLemmas.{kept-both, kept-none, kept-file}

@@ -2,7 +2,7 @@ use Rattle.std.proofs.Common.{◌≡◌, ℕ, ◌+◌, ◌*◌, ◌<◌, ◌≤�
 use Rattle.qcow2_types.specs.Words.{block_offset}
 use Rattle.qcow2_types.specs.Header.{refcount_table_entries}
 use Rattle.qcow2_types.specs.Counts.{block_at}
-use Rattle.qcow2_types.proofs.HeaderLimits.{header-limited}
+use Rattle.qcow2_types.proofs.Fields.HeaderLimits.{header-limited}
 use Rattle.qimg_core.specs.Files.{file}
 use Rattle.qimg_core.proofs.BlockPlaces.{blocks-place, block-loaded, blocks-finding, blocks-sound-by-first, blocks-more, blocks-all}
 use Rattle.qimg_core.proofs.FewerWords.{cluster-at, loaded-count, loaded-word}

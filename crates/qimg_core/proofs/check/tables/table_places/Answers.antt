@@ -1,8 +1,8 @@
 use Rattle.std.proofs.Common.{◌≡◌, ◌<◌, ◌≤◌, ◌∙◌, ap, sym, arith, [], ◌∷◌, ◌++◌, true}
 use Rattle.qcow2_types.specs.Words.{table_offset}
 use Rattle.qcow2_types.specs.Entries.{l2_table}
-use Rattle.qcow2_types.proofs.Consistent.{header-reading}
-use Rattle.qcow2_types.proofs.HeaderLimits.{header-limited}
+use Rattle.qcow2_types.proofs.Counting.Consistent.{header-reading}
+use Rattle.qcow2_types.proofs.Fields.HeaderLimits.{header-limited}
 use Rattle.qimg_core.specs.Files.{file}
 use Rattle.qimg_core.proofs.FewerWords.{cluster-at, loaded-count, loaded-word, l1-finding, l1-sound-by-first}
 use Rattle.qimg_core.proofs.PlainTables.{l1-place, some-place, none-place}

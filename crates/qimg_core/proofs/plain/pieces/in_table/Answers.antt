@@ -1,7 +1,7 @@
 use Rattle.std.proofs.Common.{◌≡◌, ℕ, ◌-◌, ◌*◌, ◌%◌, ◌<◌, ◌^◌, ◌≤◌, arith}
 use Rattle.std.proofs.lemmas.Nat.{mod_below, pow_pos}
 use Rattle.qcow2_types.specs.Places.{l2_entries}
-use Rattle.qcow2_types.proofs.TableSizes.{mapped_power}
+use Rattle.qcow2_types.proofs.Counting.TableSizes.{mapped_power}
 use Rattle.qimg_core.proofs.plain.pieces.in_table.Goals as goal
 
 some-mapped : (bits : ℕ) → 9 ≤ bits → 0 < l2_entries bits * 2 ^ bits

@@ -1,0 +1,32 @@
+-- A write into a table or a block leaves the bytes of each cluster that a word names.
+use Rattle.std.proofs.Common.{◌≡◌, ℕ, ◌+◌, ◌*◌, ◌<◌, ◌≤◌, arith}
+use Rattle.std.specs.Prelude.{Bool}
+use Rattle.qcow2_types.specs.Bytes.{Bytes}
+use Rattle.qcow2_types.specs.Words.{data_at}
+use Rattle.qcow2_types.specs.Header.{Fields, cluster_size}
+use Rattle.qcow2_types.specs.Entries.{l2_table}
+use Rattle.qcow2_types.specs.References.{structure, of_mapping, meets}
+use Rattle.qcow2_types.specs.Frames.{Same, Outside}
+use Rattle.qcow2_types.proofs.Counting.Slots.{slot-le}
+use Rattle.qcow2_types.specs.Slots.{Live, slot, over_slots}
+use Rattle.qcow2_types.specs.Versions.{named, of_either, NamedApart}
+use Rattle.qcow2_types.proofs.Changes.DataWrites.{data-apart}
+
+module _ (f g x : Bytes) (h : Fields) (c at n : ℕ) (apart : NamedApart f g h) (metadata : 0 < structure f h (meets h c)) (out : Outside f x at n)
+    (low : c * cluster_size h ≤ at) (high : at + n ≤ (c + 1) * cluster_size h) (i j : ℕ) (live : Live (l2_table f h) h i j) where
+  -- no word names the cluster that was written
+  unnamed : of_either h (meets h c) (slot f h i j) (slot g h i j) ≡ 0
+  unfolding named
+  unnamed =
+      let one : named f g h c ≤ 1 = apart c (omega arith) in
+      let le : of_either h (meets h c) (slot f h i j) (slot g h i j) ≤ over_slots (l2_table f h) h (λ k m. of_either h (meets h c) (slot f h k m) (slot g h k m)) =
+      slot-le (l2_table f h) h (λ k m. of_either h (meets h c) (slot f h k m) (slot g h k m)) i j live in
+      omega arith
+
+  -- a cluster that the file's word names keeps its bytes
+  pub file-data-kept : (d : ℕ) (copied : Bool) → slot f h i j ≡ data_at d copied → Same f x (d * cluster_size h) (cluster_size h)
+  file-data-kept d copied e = let none : of_mapping h (meets h c) (slot f h i j) ≡ 0 = omega (arith, unnamed) in data-apart f x h c at n out low high (slot f h i j) none d copied e
+
+  -- and one that the word to be written names
+  pub cached-data-kept : (d : ℕ) (copied : Bool) → slot g h i j ≡ data_at d copied → Same f x (d * cluster_size h) (cluster_size h)
+  cached-data-kept d copied e = let none : of_mapping h (meets h c) (slot g h i j) ≡ 0 = omega (arith, unnamed) in data-apart f x h c at n out low high (slot g h i j) none d copied e

@@ -1,0 +1,162 @@
+-- No range that an image names goes past place 2 ^ 57, so the clusters that can be named are limited.
+use Rattle.std.proofs.Common.{◌≡◌, ℕ, zero, suc, ◌+◌, ◌-◌, ◌*◌, ◌/◌, ◌%◌, ◌^◌, ◌<◌, ◌≤◌, refl, arith, Some, None, Ok}
+use Rattle.std.specs.Prelude.{Bool, true, false, cond, ◌||◌, not, nat_lt, nat_le, ◌==◌, ⊤}
+use Rattle.std.proofs.Math.Nat.{div-mul-le_self, pow-le-pow_right}
+use Rattle.std.proofs.lemmas.Nat.{mod_below, pow_pos}
+use Rattle.std.proofs.lemmas.Bool.{le-ltb, lt-ltb}
+use Rattle.std.proofs.lemmas.Bool.Decides.{nat_tests}
+use Rattle.qcow2_types.specs.Bytes.{Bytes, word, sum_below}
+use Rattle.qcow2_types.specs.Words.{Layout, Mapping, data_at, zeroes, packed, unmapped, damaged, mapping_of, has_bit, table_offset, block_word_sound, max_offset, packed_place, packed_sectors, packed_end, names_cluster, standard_word_sound, is_place}
+use Rattle.qcow2_types.specs.Header.{Header, Shaped, Limited, header_of, Fields, cluster_size, refcount_table_entries, layout_of}
+use Rattle.qcow2_types.specs.Entries.{l2_table, l2_mapping}
+use Rattle.qcow2_types.specs.Counts.{block_at, refcount_table_sound}
+use Rattle.qcow2_types.specs.References.{of_cluster, structure, of_table, contents, of_mapping, meets, refs}
+use Rattle.qcow2_types.proofs.Counting.Bounded.{all-below}
+use Rattle.qcow2_types.proofs.Counting.Counters.{whole}
+use Rattle.qcow2_types.proofs.Fields.HeaderLimits.{fields-shaped, header-limited}
+use Rattle.qcow2_types.proofs.Numbers.Reach.{sectors_fit}
+
+-- what holds of both branches
+choose : (P : Mapping → Type 0) (b : Bool) (x y : Mapping) → (b ≡ true → P x) → (b ≡ false → P y) → P (cond b x y)
+choose P true x y p q = p refl
+choose P false x y p q = q refl
+
+-- a sum of zeroes
+pub sum-zero : (n : ℕ) (f : ℕ → ℕ) → ((i : ℕ) → i < n → f i ≡ 0) → sum_below n f ≡ 0
+unfolding sum_below
+sum-zero zero f none = refl
+sum-zero (suc n) f none =
+    let here : f n ≡ 0 = none n (omega arith) in
+    let below : sum_below n f ≡ 0 = sum-zero n f (λ i lt. none i (omega arith)) in
+    omega arith
+
+-- the host range of a mapping ends by 2 ^ 57
+abbrev pub Within : ℕ → Mapping → Type 0
+Within cluster_bits (data_at cluster copied) = cluster * 2 ^ cluster_bits + 2 ^ cluster_bits ≤ 2 ^ 57
+Within cluster_bits (zeroes (Some cluster) copied) = cluster * 2 ^ cluster_bits + 2 ^ cluster_bits ≤ 2 ^ 57
+Within cluster_bits (zeroes None copied) = ⊤
+Within cluster_bits (packed offset length) = offset + length ≤ 2 ^ 57
+Within cluster_bits unmapped = ⊤
+Within cluster_bits damaged = ⊤
+
+-- where a word points is below 2 ^ 56
+table-below : (w : ℕ) → table_offset w < 2 ^ 56
+table-below w = let few : w / 2 ^ 9 % 2 ^ 47 < 2 ^ 47 = mod_below (w / 2 ^ 9) (2 ^ 47) (pow_pos 47) in omega arith
+
+-- a cluster is no larger than the largest
+size-below : (k : ℕ) → k ≤ 21 → 2 ^ k ≤ 2 ^ 21
+size-below k few = pow-le-pow_right (omega arith) few
+
+-- the cluster of a standard word
+standard-within : (w k : ℕ) → k ≤ 21 → table_offset w / 2 ^ k * 2 ^ k + 2 ^ k ≤ 2 ^ 57
+standard-within w k few =
+    let low : table_offset w / 2 ^ k * 2 ^ k ≤ table_offset w = div-mul-le_self (table_offset w) (2 ^ k) in
+    let high : table_offset w < 2 ^ 56 = table-below w in
+    let size : 2 ^ k ≤ 2 ^ 21 = size-below k few in
+    omega arith
+
+-- the cluster that is kept for zeroes
+zeroes-within : (w k : ℕ) (b copied : Bool) → k ≤ 21 → Within k (zeroes (cond b (Some (table_offset w / 2 ^ k)) None) copied)
+zeroes-within w k true copied few = standard-within w k few
+zeroes-within w k false copied few = tt
+
+-- the range of a compressed word
+packed-within : (w k : ℕ) → k ≤ 21 → packed_place k w < 2 ^ 56 → packed_place k w + (packed_end k w - packed_place k w) ≤ 2 ^ 57
+packed-within w k few low =
+    let sectors : packed_sectors k w < 2 ^ 13 = sectors_fit w (70 - k) k few in
+    omega arith
+
+-- what a word names ends by 2 ^ 57
+pub mapping-within : (layout : Layout) (w : ℕ) → layout.cluster_bits ≤ 21 → Within layout.cluster_bits (mapping_of layout w)
+unfolding mapping_of
+mapping-within layout w few =
+    let P : Mapping → Type 0 = Within layout.cluster_bits in
+    choose P (has_bit w 62) _ _
+    (λ _. choose P (has_bit w 63 || nat_le (2 ^ 56) (packed_place layout.cluster_bits w)) _ _ (λ _. tt)
+    (λ sound. packed-within w layout.cluster_bits few (grind (arith, nat_tests))))
+    (λ _. choose P (not (standard_word_sound layout w)) _ _ (λ _. tt)
+    (λ _. choose P (has_bit w 0) _ _ (λ _. zeroes-within w layout.cluster_bits (names_cluster layout w) _ few)
+    (λ _. choose P (names_cluster layout w) _ _ (λ _. standard-within w layout.cluster_bits few) (λ _. tt))))
+
+module _ (f : Bytes) (h : Fields) (c : ℕ) (few : h.cluster_bits ≤ 21) (far : 2 ^ 57 ≤ c * cluster_size h) where
+  -- a range that ends by 2 ^ 57 doesn't meet c
+  apart : (first length : ℕ) → first + length ≤ 2 ^ 57 → meets h c first length ≡ 0
+  apart first length near = let past : nat_lt (c * cluster_size h) (first + length) ≡ false = le-ltb _ _ (omega arith) in grind (arith, nat_tests)
+
+  -- so what a mapping names doesn't meet c
+  mapping-apart : (m : Mapping) → Within h.cluster_bits m → of_mapping h (meets h c) m ≡ 0
+  mapping-apart (data_at cluster copied) near = apart (cluster * cluster_size h) (cluster_size h) near
+  mapping-apart (zeroes (Some cluster) copied) near = apart (cluster * cluster_size h) (cluster_size h) near
+  mapping-apart (zeroes None copied) near = refl
+  mapping-apart (packed offset length) near = apart offset length near
+  mapping-apart unmapped near = refl
+  mapping-apart damaged near = refl
+
+  -- none or a zero is 0
+  or-zero : (b : Bool) (x : ℕ) → x ≡ 0 → cond b 0 x ≡ 0
+  or-zero true x e = refl
+  or-zero false x e = e
+
+  -- no mapping names c
+  pub contents-apart : contents f h (of_mapping h (meets h c)) ≡ 0
+  unfolding contents of_table
+  contents-apart = sum-zero _ _ (λ i lt. or-zero (l2_table f h i == 0) _ (sum-zero _ _ (λ j less. mapping-apart (l2_mapping f h (l2_table f h i) j) (mapping-within (layout_of h) (word f (l2_table f h i) j) few))))
+
+  -- no cluster at a place that a word can name meets c
+  cluster-apart : (offset : ℕ) → offset ≤ max_offset → of_cluster h (meets h c) offset ≡ 0
+  cluster-apart offset near = let size : 2 ^ h.cluster_bits ≤ 2 ^ 21 = size-below h.cluster_bits few in or-zero (offset == 0) _ (apart offset (cluster_size h) (omega arith))
+
+  -- L2 tables are at places that a word can name
+  l2-near : (i : ℕ) → l2_table f h i ≤ max_offset
+  l2-near i =
+      let few' : word f h.l1_offset i / 2 ^ 9 % 2 ^ 47 < 2 ^ 47 = mod_below _ (2 ^ 47) (pow_pos 47) in
+      pick (nat_lt i h.l1_entries) (table_offset (word f h.l1_offset i)) (omega arith)
+    where
+      pick : (b : Bool) (x : ℕ) → x ≤ max_offset → cond b x 0 ≤ max_offset
+      pick true x le = le
+      pick false x le = omega arith
+
+  -- no part of the structure meets c
+  pub structure-apart : h.l1_entries ≤ 2 ^ 22 → h.l1_offset ≤ max_offset → h.refcount_table_offset ≤ max_offset → h.refcount_table_clusters * cluster_size h ≤ 2 ^ 23
+      → ((i : ℕ) → i < refcount_table_entries h → block_at f h i ≤ max_offset) → structure f h (meets h c) ≡ 0
+  unfolding structure
+  structure-apart entries l1 table clusters blocks =
+      let size : 2 ^ h.cluster_bits ≤ 2 ^ 21 = size-below h.cluster_bits few in
+      let a : meets h c 0 (cluster_size h) ≡ 0 = apart 0 (cluster_size h) (omega arith) in
+      let b : meets h c h.l1_offset (h.l1_entries * 8) ≡ 0 = apart h.l1_offset (h.l1_entries * 8) (omega arith) in
+      let d : meets h c h.refcount_table_offset (h.refcount_table_clusters * cluster_size h) ≡ 0 = apart h.refcount_table_offset (h.refcount_table_clusters * cluster_size h) (omega arith) in
+      let e : sum_below (refcount_table_entries h) (λ i. of_cluster h (meets h c) (block_at f h i)) ≡ 0 = sum-zero _ _ (λ i lt. cluster-apart (block_at f h i) (blocks i lt)) in
+      let g : sum_below h.l1_entries (λ i. of_cluster h (meets h c) (l2_table f h i)) ≡ 0 = sum-zero _ _ (λ i lt. cluster-apart (l2_table f h i) (l2-near i)) in
+      omega arith
+
+-- where the refcount table is sound, its blocks are at places that a word can name
+pub blocks-near : (f : Bytes) (h : Fields) → refcount_table_sound f h ≡ true → (i : ℕ) → i < refcount_table_entries h → block_at f h i ≤ max_offset
+unfolding refcount_table_sound
+blocks-near f h sound i lt =
+    let here : block_word_sound h.cluster_bits (word f h.refcount_table_offset i) ≡ true = all-below (refcount_table_entries h) (λ j. block_word_sound h.cluster_bits (word f h.refcount_table_offset j)) sound i lt in
+    let within : nat_lt i (refcount_table_entries h) ≡ true = lt-ltb _ _ lt in
+    rw within (grind (arith, nat_tests))
+
+-- No cluster from place 2 ^ 57 on is named.
+pub refs-limit : (f : Bytes) (h : Fields) (c : ℕ) → h.cluster_bits ≤ 21 → 2 ^ 57 ≤ c * cluster_size h → h.l1_entries ≤ 2 ^ 22 → h.l1_offset ≤ max_offset → h.refcount_table_offset ≤ max_offset
+    → h.refcount_table_clusters * cluster_size h ≤ 2 ^ 23 → refcount_table_sound f h ≡ true → refs f h c ≡ 0
+unfolding refs
+refs-limit f h c few far entries l1 table clusters sound =
+    let s : structure f h (meets h c) ≡ 0 = structure-apart f h c few far entries l1 table clusters (blocks-near f h sound) in
+    let t : contents f h (of_mapping h (meets h c)) ≡ 0 = contents-apart f h c few far in
+    omega arith
+
+-- By a header that loads.
+pub refs-within : (writing : Bool) (f : Bytes) (H : Header) → header_of writing f ≡ Ok H → refcount_table_sound f H.fields ≡ true → (c : ℕ) → 2 ^ 57 ≤ c * cluster_size H.fields → refs f H.fields c ≡ 0
+refs-within writing f H loads sound c far =
+    let shaped : Shaped H.fields = fields-shaped writing f H loads in
+    let limited : Limited H.fields = header-limited writing f H loads in
+    let size : 2 ^ 9 ≤ 2 ^ H.fields.cluster_bits = pow-le-pow_right (omega arith) shaped.low in
+    let words : 2 ^ H.fields.cluster_bits / 8 * 8 ≡ 2 ^ H.fields.cluster_bits = whole H.fields.cluster_bits (omega arith) in
+    let entries : H.fields.refcount_table_clusters * (2 ^ H.fields.cluster_bits / 8) ≤ 2 ^ 20 = limited.refcount_entries in
+    let bytes : H.fields.refcount_table_clusters * (2 ^ H.fields.cluster_bits / 8 * 8) ≤ 2 ^ 23 = omega arith in
+    refs-limit f H.fields c shaped.high far limited.l1_entries (place-near H.fields.cluster_bits H.fields.l1_offset limited.l1_place)
+    (place-near H.fields.cluster_bits H.fields.refcount_table_offset limited.refcount_place) (rw words at bytes) sound
+  where
+    place-near : (bits offset : ℕ) → is_place bits offset ≡ true → offset ≤ max_offset
+    place-near bits offset place = grind (arith, nat_tests)

@@ -1,0 +1,5 @@
+-- What the places of a disk show.
+pub mod ShownLemmas
+pub mod Shows
+pub mod StepValues
+pub mod Values
