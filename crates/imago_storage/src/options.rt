@@ -110,7 +110,12 @@ impl Model for StorageCreateOptions {
 impl StorageCreateOptions {
     /// No name, no bytes, nothing prepared, and in the place of none.
     pub fn new() -> Self
-        ensures { result ≡ record { opening = record { filename = None; writable = false; direct = false }; size = 0; preallocate = mode.None; overwrite = false } }
+        ensures { result ≡ record {
+          opening = record { filename = None; writable = false; direct = false };
+          size = 0;
+          preallocate = mode.None;
+          overwrite = false;
+        } }
     {
         StorageCreateOptions {
             opening: StorageOpenOptions::new(),

@@ -94,7 +94,8 @@ pub fn pad_edges<S: Storage>(
     requires tail { behind % unit + length tail.now ≤ unit }
     requires before { offset + length head.now ≤ behind }
     requires fits { round_up unit (behind + length tail.now) < 2 ^ 64 }
-    ensures first { OnOk result (0 < length head.now → Pads (S.state storage.old).bytes offset head.now (offset - offset % unit) first.new) }
+    ensures first { OnOk result (0 < length head.now
+        → Pads (S.state storage.old).bytes offset head.now (offset - offset % unit) first.new) }
     ensures last { OnOk result (0 < length tail.now → Pads (S.state storage.old).bytes behind tail.now (behind - behind % unit) last.new) }
     ensures kept { Kept (S.state storage.old) (S.state storage.new) }
     ensures faults { CountsFaults (S.state storage.old).faults (S.state storage.new).faults result }
@@ -107,8 +108,10 @@ pub fn pad_edges<S: Storage>(
 pub fn write_whole<S: Storage>(storage: &mut S, data: &[u8], offset: u64) -> Result<(), Fault>
     requires positive { 0 < unit_of (S.state storage.old).shape }
     requires whole { 0 < length «data».now → IsWhole (unit_of (S.state storage.old).shape) offset (length «data».now) }
-    ensures ok { OnOk result (OneRequest (unit_of (S.state storage.old).shape) (S.state storage.old) (S.state storage.new) offset «data».now) }
-    ensures err { IfErr result (NoRequest (unit_of (S.state storage.old).shape) (S.state storage.old) (S.state storage.new) offset «data».now) }
+    ensures ok { OnOk result (OneRequest (unit_of (S.state storage.old).shape) (S.state storage.old)
+        (S.state storage.new) offset «data».now) }
+    ensures err { IfErr result (NoRequest (unit_of (S.state storage.old).shape) (S.state storage.old)
+        (S.state storage.new) offset «data».now) }
 {
     if data.is_empty() {
         return Ok(());
@@ -160,7 +163,8 @@ fn write_in_parts<S: Storage>(
     requires fits { round_up unit (offset + length «data».now) < 2 ^ 64 }
     ensures ok { OnOk result (Through unit (S.state storage.old) (S.state storage.new) offset «data».now) }
     ensures err { IfErr result (NotThrough unit (S.state storage.old) (S.state storage.new) offset «data».now) }
-    ensures once { IsAtOnce unit offset (length «data».now) → RequestsOnce (S.state storage.old) (S.state storage.new) (length «data».now) result }
+    ensures once { IsAtOnce unit offset (length «data».now)
+        → RequestsOnce (S.state storage.old) (S.state storage.new) (length «data».now) result }
 {
     let (head, rest) = data.split_at(parts.0);
     let (mid, tail) = rest.split_at(parts.1);
@@ -190,7 +194,8 @@ pub fn write_around<S: Storage>(
     requires fits { round_up unit (offset + length «data».now) < 2 ^ 64 }
     ensures ok { OnOk result (Through unit (S.state storage.old) (S.state storage.new) offset «data».now) }
     ensures err { IfErr result (NotThrough unit (S.state storage.old) (S.state storage.new) offset «data».now) }
-    ensures once { IsAtOnce unit offset (length «data».now) → RequestsOnce (S.state storage.old) (S.state storage.new) (length «data».now) result }
+    ensures once { IsAtOnce unit offset (length «data».now)
+        → RequestsOnce (S.state storage.old) (S.state storage.new) (length «data».now) result }
 {
     let parts = parts_of_range(offset, data.len(), unit);
     let tail = data.len() - parts.0 - parts.1;

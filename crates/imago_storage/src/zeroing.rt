@@ -106,7 +106,8 @@ fn zero_whole<S: Storage>(
     requires aligned { IsWhole (S.state storage.old).shape.zero_align offset n }
     requires some { 0 < n }
     ensures ok { OnOk result (Through unit (S.state storage.old) (S.state storage.new) offset (replicate n 0)) }
-    ensures err { IfErr result (UnlessLeft zeroing (S.state storage.old) (S.state storage.new) (Halted unit (S.state storage.old) (S.state storage.new) offset (replicate n 0))) }
+    ensures err { IfErr result (UnlessLeft zeroing (S.state storage.old) (S.state storage.new)
+        (Halted unit (S.state storage.old) (S.state storage.new) offset (replicate n 0))) }
     ensures once { zeroing ≡ Zeroing.Allocated → RequestsOne (S.state storage.old) (S.state storage.new) result }
 {
     match zeroing {
@@ -146,10 +147,13 @@ fn zero_around<S: Storage>(
     requires last { IsWhole unit middle.1 (length last.now) }
     requires whole { IsWhole unit whole.0 (whole.1 - whole.0) }
     requires aligned { IsWhole (S.state storage.old).shape.zero_align whole.0 (whole.1 - whole.0) }
-    ensures ok { OnOk result (Through unit (S.state storage.old) (S.state storage.new) (middle.0 - length first.now) ((first.now ++ replicate (middle.1 - middle.0) 0) ++ last.now)) }
+    ensures ok { OnOk result (Through unit (S.state storage.old) (S.state storage.new) (middle.0 - length first.now)
+        ((first.now ++ replicate (middle.1 - middle.0) 0) ++ last.now)) }
     ensures err { IfErr result (UnlessLeft zeroing (S.state storage.old) (S.state storage.new)
-        (Halted unit (S.state storage.old) (S.state storage.new) (middle.0 - length first.now) ((first.now ++ replicate (middle.1 - middle.0) 0) ++ last.now))) }
-    ensures once { zeroing ≡ Zeroing.Allocated → length first.now ≡ 0 → length last.now ≡ 0 → middle ≡ whole → RequestsOne (S.state storage.old) (S.state storage.new) result }
+        (Halted unit (S.state storage.old) (S.state storage.new) (middle.0 - length first.now)
+        ((first.now ++ replicate (middle.1 - middle.0) 0) ++ last.now))) }
+    ensures once { zeroing ≡ Zeroing.Allocated → length first.now ≡ 0 → length last.now ≡ 0 → middle ≡ whole
+        → RequestsOne (S.state storage.old) (S.state storage.new) result }
 {
     let (start, end) = whole;
     zero_whole(storage, unit, zeroes, zeroing, start, end - start)?;
@@ -209,7 +213,8 @@ fn lay_zeroes<S: Storage>(
     requires alignment { IsAlignment unit }
     requires some { 0 < n }
     requires fits { round_up unit (offset + n) < 2 ^ 64 }
-    ensures ok { IfOk result (λ laid. ZeroesLaid unit (S.state storage.old).bytes offset n laid.first.items laid.last.items laid.zeroes.items laid.mid) }
+    ensures ok { IfOk result (λ laid. ZeroesLaid unit
+        (S.state storage.old).bytes offset n laid.first.items laid.last.items laid.zeroes.items laid.mid) }
     ensures kept { Kept (S.state storage.old) (S.state storage.new) }
     ensures faults { CountsFaults (S.state storage.old).faults (S.state storage.new).faults result }
 {
@@ -281,8 +286,10 @@ fn zero_wholes<S: Storage>(
     requires whole { IsWhole unit whole.0 (whole.1 - whole.0) }
     requires aligned { IsWhole (S.state storage.old).shape.zero_align whole.0 (whole.1 - whole.0) }
     ensures ok { OnOk result (Through unit (S.state storage.old) (S.state storage.new) offset (replicate n 0)) }
-    ensures err { IfErr result (UnlessLeft zeroing (S.state storage.old) (S.state storage.new) (NotThrough unit (S.state storage.old) (S.state storage.new) offset (replicate n 0))) }
-    ensures once { zeroing ≡ Zeroing.Allocated → (offset, offset + n) ≡ whole → RequestsOne (S.state storage.old) (S.state storage.new) result }
+    ensures err { IfErr result (UnlessLeft zeroing (S.state storage.old) (S.state storage.new)
+        (NotThrough unit (S.state storage.old) (S.state storage.new) offset (replicate n 0))) }
+    ensures once { zeroing ≡ Zeroing.Allocated → (offset, offset + n) ≡ whole
+        → RequestsOne (S.state storage.old) (S.state storage.new) result }
 {
     let laid = lay_zeroes(storage, alloc, unit, offset, n)?;
     let low = offset - offset % unit as u64 + laid.first.len() as u64;
@@ -307,7 +314,8 @@ pub fn zero_padded<S: Storage>(
     offset: u64,
     n: u64,
 ) -> Result<(), Fault>
-    ensures ok { OnOk result (Through (unit_of (S.state storage.old).shape) (S.state storage.old) (S.state storage.new) offset (replicate n 0)) }
+    ensures ok { OnOk result (Through (unit_of (S.state storage.old).shape) (S.state storage.old) (S.state storage.new) offset
+        (replicate n 0)) }
     ensures err { IfErr result (NotZeroedBy zeroing (S.state storage.old) (S.state storage.new) offset n) }
     ensures once { zeroing ≡ Zeroing.Allocated → ZeroesAtOnce (S.state storage.old) (S.state storage.new) offset n result }
     ensures overflow { Overflows (unit_of (S.state storage.old).shape) offset n → IsErrOf result Fault.RangeOverflow }

@@ -170,7 +170,8 @@ impl Allocator {
         ensures order { order_of caches.new ≡ order_of caches.old }
         ensures table { table_of self.new ≡ table_of self.old }
         ensures ok { OnOk result (list.new.entries ≡ remove list.old.entries index) }
-        ensures err { OnErr result ((n : ℕ) × (n < (entry_at list.old.entries index).count) × (list.new.entries ≡ shortened list.old.entries index n)) }
+        ensures err { OnErr result ((n : ℕ) × (n < (entry_at list.old.entries index).count)
+            × (list.new.entries ≡ shortened list.old.entries index n)) }
         ensures held { list.new.held ≡ list.old.held }
     {
         let ClusterCount(count) = list.entry(index).count();
@@ -197,7 +198,8 @@ impl Allocator {
         ensures table { table_of self.new ≡ table_of self.old }
         ensures ok { OnOk result (list.new.entries ≡ data_in list.old.entries) }
         ensures left { IsRestInTurn list.old.entries list.new.entries }
-        ensures idle { metadata_in list.old.entries ≡ [] → (result ≡ Ok tt) × (caches.new ≡ caches.old) × (file.new ≡ file.old) × (self.new ≡ self.old) }
+        ensures idle { metadata_in list.old.entries ≡ [] → (result ≡ Ok tt) × (caches.new ≡ caches.old) × (file.new ≡ file.old)
+            × (self.new ≡ self.old) }
         ensures held { list.new.held ≡ list.old.held }
     {
         while let Some(index) = list.position_of_metadata() {
@@ -255,8 +257,10 @@ impl Allocator {
         ensures table { table_of self.new ≡ table_of self.old }
         ensures ok { OnOk result (list.new.entries ≡ []) }
         ensures left { IsRestInTurn list.old.entries list.new.entries }
-        ensures external { has_external_data file.old.header.fields ≡ true → metadata_in list.old.entries ≡ [] → (result ≡ Ok tt) × (caches.new ≡ caches.old) × (file.new ≡ file.old) × (self.new ≡ self.old) }
-        ensures order { OrdersFreeing (has_external_data file.old.header.fields) list.old.entries list.new.entries (order_of caches.old) result (order_of caches.new) }
+        ensures external { has_external_data file.old.header.fields ≡ true → metadata_in list.old.entries ≡ [] → (result ≡ Ok tt)
+            × (caches.new ≡ caches.old) × (file.new ≡ file.old) × (self.new ≡ self.old) }
+        ensures order { OrdersFreeing (has_external_data file.old.header.fields) list.old.entries list.new.entries
+            (order_of caches.old) result (order_of caches.new) }
         ensures held { list.new.held ≡ list.old.held }
     {
         if let Err(fault) = self.free_metadata(file, caches, list) {
@@ -285,7 +289,8 @@ impl Allocator {
         ensures dropped { Dropped (cached_in caches.old).blocks result (cached_in caches.new).blocks }
         ensures others { (caches.new.l2 ≡ caches.old.l2) × (caches.new.order ≡ caches.old.order) }
         ensures room { HasRoomOf caches.old caches.new }
-        ensures safe { AreBlocksClean (cached_in caches.old) → StaysSafe (cached_in caches.old) (cached_in caches.new) (order_of caches.old) }
+        ensures safe { AreBlocksClean (cached_in caches.old)
+            → StaysSafe (cached_in caches.old) (cached_in caches.new) (order_of caches.old) }
     {
         caches.invalidate_rb()
     }
@@ -294,7 +299,8 @@ impl Allocator {
 // The last cluster of an entry, or none where its number has more than 64 bits.
 fn last_cluster(entry: &ClustersToFreeEntry) -> Option<HostCluster>
     requires { 0 < entry.now.count }
-    ensures { MatchOption result (2 ^ 64 ≤ entry.now.first + (entry.now.count - 1)) (λ last. last ≡ entry.now.first + (entry.now.count - 1)) }
+    ensures { MatchOption result (2 ^ 64 ≤ entry.now.first + (entry.now.count - 1)) (λ last.
+        last ≡ entry.now.first + (entry.now.count - 1)) }
 {
     let HostCluster(first) = entry.first_cluster();
     let ClusterCount(count) = entry.count();

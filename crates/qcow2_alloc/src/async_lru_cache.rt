@@ -147,8 +147,10 @@ impl<K: Copy + Eq + Hash, V: Drop, B: AsyncLruCacheBackend<Key = K, Value = V>> 
     // Makes room for one entry more, where there is none.
     fn make_room(&mut self, device: &mut B::Device, may_flush: bool) -> Result<bool, Fault>
         ensures fits { result ≡ Ok true → length self.new.slots.entries < self.new.slots.cap }
-        ensures absent { result ≡ Ok true → (k : K) → lookup (K.eq k) self.old.slots.entries ≡ None → lookup (K.eq k) self.new.slots.entries ≡ None }
-        ensures room { MadeRoom K.eq B.flushes self.old.slots.cap may_flush device.old self.old.slots.entries result device.new self.new.slots.entries }
+        ensures absent { result ≡ Ok true → (k : K) → lookup (K.eq k) self.old.slots.entries ≡ None
+            → lookup (K.eq k) self.new.slots.entries ≡ None }
+        ensures room { MadeRoom K.eq B.flushes self.old.slots.cap may_flush device.old self.old.slots.entries result device.new
+            self.new.slots.entries }
         ensures others { self.new ≡ with_entries self.old self.new.slots.entries }
     {
         if self.slots.len() < self.slots.cap().get() {
@@ -167,7 +169,8 @@ impl<K: Copy + Eq + Hash, V: Drop, B: AsyncLruCacheBackend<Key = K, Value = V>> 
     fn evict_at(&mut self, device: &mut B::Device, key: K) -> Result<bool, Fault>
         requires { IsSome (lookup (K.eq key) self.old.slots.entries) }
         ensures shorter { OnOk result (length self.new.slots.entries < length self.old.slots.entries) }
-        ensures absent { OnOk result ((k : K) → lookup (K.eq k) self.old.slots.entries ≡ None → lookup (K.eq k) self.new.slots.entries ≡ None) }
+        ensures absent { OnOk result ((k : K) → lookup (K.eq k) self.old.slots.entries ≡ None
+            → lookup (K.eq k) self.new.slots.entries ≡ None) }
         ensures evicted { Evicted K.eq B.flushes key device.old self.old.slots.entries result device.new self.new.slots.entries }
         ensures others { self.new ≡ with_entries self.old self.new.slots.entries }
     {
@@ -216,7 +219,8 @@ impl<K: Copy + Eq + Hash, V: Drop, B: AsyncLruCacheBackend<Key = K, Value = V>> 
         key: K,
         may_flush: bool,
     ) -> Result<bool, Fault>
-        ensures readied { Readied K.eq B.loads B.flushes self.old.slots.cap may_flush key device.old self.old.slots.entries result device.new self.new.slots.entries }
+        ensures readied { Readied K.eq B.loads B.flushes self.old.slots.cap may_flush key device.old self.old.slots.entries result
+            device.new self.new.slots.entries }
         ensures others { self.new ≡ with_entries self.old self.new.slots.entries }
     {
         if self.slots.contains(&key) {
@@ -268,7 +272,8 @@ impl<K: Copy + Eq + Hash, V: Drop, B: AsyncLruCacheBackend<Key = K, Value = V>> 
         may_flush: bool,
     ) -> Result<Option<V>, (Fault, V)>
         requires { lookup (K.eq key) self.old.slots.entries ≡ None }
-        ensures added { Added K.eq B.flushes self.old.slots.cap may_flush key value device.old self.old.slots.entries result device.new self.new.slots.entries }
+        ensures added { Added K.eq B.flushes self.old.slots.cap may_flush key value device.old self.old.slots.entries result device.new
+            self.new.slots.entries }
         ensures others { self.new ≡ with_entries self.old self.new.slots.entries }
     {
         match self.make_room(device, may_flush) {
@@ -293,8 +298,11 @@ impl<K: Copy + Eq + Hash, V: Drop, B: AsyncLruCacheBackend<Key = K, Value = V>> 
         key: K,
         may_flush: bool,
     ) -> Result<&mut V, NotLent>
-        ensures* writes_back { sem 𝓛 (lends_found K.row V.row B.row B.Device.row K.Hash B.loads B.flushes self.entry device.old device.new key may_flush result) }
-        ensures value { IfOk result (λ v. (mid : List (K × Slot V)) × Readied K.eq B.loads B.flushes self.old.slots.cap may_flush key device.old self.old.slots.entries (Ok true) device.new mid × (option_map (λ s. s.value) (lookup (K.eq key) mid) ≡ Some v.now)) }
+        ensures* writes_back { sem 𝓛 (lends_found K.row V.row B.row B.Device.row K.Hash B.loads B.flushes self.entry device.old device.new
+            key may_flush result) }
+        ensures value { IfOk result (λ v. (mid : List (K × Slot V))
+            × Readied K.eq B.loads B.flushes self.old.slots.cap may_flush key device.old self.old.slots.entries (Ok true) device.new mid
+            × (option_map (λ s. s.value) (lookup (K.eq key) mid) ≡ Some v.now)) }
     {
         match self.ready(device, key, may_flush) {
             Ok(true) => match self.get_mut(key) {
@@ -318,7 +326,8 @@ impl<K: Copy + Eq + Hash, V: Drop, B: AsyncLruCacheBackend<Key = K, Value = V>> 
         value: V,
         may_flush: bool,
     ) -> Result<Option<V>, (Fault, V)>
-        ensures inserted { Inserted K.eq B.flushes self.old.slots.cap may_flush key value device.old self.old.slots.entries result device.new self.new.slots.entries }
+        ensures inserted { Inserted K.eq B.flushes self.old.slots.cap may_flush key value device.old self.old.slots.entries result
+            device.new self.new.slots.entries }
         ensures others { self.new ≡ with_entries self.old self.new.slots.entries }
     {
         if !self.slots.contains(&key) {
@@ -417,7 +426,8 @@ impl<K: Copy + Eq + Hash, V: Drop, B: AsyncLruCacheBackend<Key = K, Value = V>> 
     pub fn forget(&mut self, key: K) -> Result<(), Fault>
         ensures pinned { IsSomeAnd (lookup (K.eq key) self.old.slots.entries) (λ s. 0 < s.pins) → IsErr result }
         ensures ok { OnOk result (self.new ≡ with_entries self.old (remove_entry (K.eq key) self.old.slots.entries)) }
-        ensures err { IfErr result (λ e. (e ≡ Fault.CacheFull) × IsSomeAnd (lookup (K.eq key) self.old.slots.entries) (λ s. 0 < s.pins) × (self.new ≡ self.old)) }
+        ensures err { IfErr result (λ e. (e ≡ Fault.CacheFull) × IsSomeAnd (lookup (K.eq key) self.old.slots.entries) (λ s. 0 < s.pins)
+            × (self.new ≡ self.old)) }
     {
         if self.is_pinned(key) {
             return Err(Fault::CacheFull);
@@ -448,7 +458,8 @@ impl<K: Copy + Eq + Hash, V: Drop, B: AsyncLruCacheBackend<Key = K, Value = V>> 
     /// Holds on to the value at a key; the order of use stays.
     pub fn pin(&mut self, key: K)
         requires { IsSomeAnd (lookup (K.eq key) self.old.slots.entries) (λ s. s.pins + 1 < 2 ^ 64) }
-        ensures { IfSome (lookup (K.eq key) self.old.slots.entries) (λ s. self.new ≡ with_entries self.old (set_value (K.eq key) self.old.slots.entries (record s { pins = s.pins + 1 }))) }
+        ensures { IfSome (lookup (K.eq key) self.old.slots.entries) (λ s.
+            self.new ≡ with_entries self.old (set_value (K.eq key) self.old.slots.entries (record s { pins = s.pins + 1 }))) }
     {
         if let Some(slot) = self.slots.peek_mut(&key) {
             slot.pins += 1;
@@ -458,7 +469,8 @@ impl<K: Copy + Eq + Hash, V: Drop, B: AsyncLruCacheBackend<Key = K, Value = V>> 
     /// Lets go of the value at a key; the order of use stays.
     pub fn unpin(&mut self, key: K)
         requires { IsSomeAnd (lookup (K.eq key) self.old.slots.entries) (λ s. 0 < s.pins) }
-        ensures { IfSome (lookup (K.eq key) self.old.slots.entries) (λ s. self.new ≡ with_entries self.old (set_value (K.eq key) self.old.slots.entries (record s { pins = s.pins - 1 }))) }
+        ensures { IfSome (lookup (K.eq key) self.old.slots.entries) (λ s.
+            self.new ≡ with_entries self.old (set_value (K.eq key) self.old.slots.entries (record s { pins = s.pins - 1 }))) }
     {
         if let Some(slot) = self.slots.peek_mut(&key) {
             slot.pins -= 1;

@@ -191,12 +191,14 @@ impl<S: Storage> MetadataCaches<S> {
 
     // Writes the modified L2 tables.
     fn flush_l2(&mut self, file: &mut ImageFile<S>) -> Result<(), Fault>
-        ensures going { Going file.old.header (order_of self.old) (ReadyTables (order_of self.old)) (result ≡ Ok tt) (S.state file.old.image) (cached_in self.old) (S.state file.new.image) (cached_in self.new) }
+        ensures going { Going file.old.header (order_of self.old) (ReadyTables (order_of self.old)) (result ≡ Ok tt)
+            (S.state file.old.image) (cached_in self.old) (S.state file.new.image) (cached_in self.new) }
         ensures kept { written (cached_in self.new) ≡ written (cached_in self.old) }
         ensures clean { OnOk result (AreTablesClean (cached_in self.new)) }
         ensures others { (self.new.rb ≡ self.old.rb) × (self.new.order ≡ self.old.order) × (file.new.header ≡ file.old.header) }
         ensures room { HasRoomOf self.old self.new }
-        ensures cause { CountsWrites (AreTablesInReach (cached_in self.old)) (S.state file.old.image).faults (S.state file.new.image).faults result }
+        ensures cause { CountsWrites (AreTablesInReach (cached_in self.old)) (S.state file.old.image).faults
+            (S.state file.new.image).faults result }
         ensures faults { WasNotCutOff result → IsFaultless (S.state file.old.image) (S.state file.new.image) }
         ensures written { WritesTables (S.state file.old.image) (cached_in self.old) result (S.state file.new.image) (cached_in self.new) }
     {
@@ -205,12 +207,14 @@ impl<S: Storage> MetadataCaches<S> {
 
     // Writes the modified refcount blocks.
     fn flush_blocks(&mut self, file: &mut ImageFile<S>) -> Result<(), Fault>
-        ensures going { Going file.old.header (order_of self.old) (ReadyBlocks (order_of self.old)) (result ≡ Ok tt) (S.state file.old.image) (cached_in self.old) (S.state file.new.image) (cached_in self.new) }
+        ensures going { Going file.old.header (order_of self.old) (ReadyBlocks (order_of self.old)) (result ≡ Ok tt)
+            (S.state file.old.image) (cached_in self.old) (S.state file.new.image) (cached_in self.new) }
         ensures kept { written (cached_in self.new) ≡ written (cached_in self.old) }
         ensures clean { OnOk result (AreBlocksClean (cached_in self.new)) }
         ensures others { (self.new.l2 ≡ self.old.l2) × (self.new.order ≡ self.old.order) × (file.new.header ≡ file.old.header) }
         ensures room { HasRoomOf self.old self.new }
-        ensures cause { CountsWrites (AreBlocksInReach (cached_in self.old)) (S.state file.old.image).faults (S.state file.new.image).faults result }
+        ensures cause { CountsWrites (AreBlocksInReach (cached_in self.old)) (S.state file.old.image).faults
+            (S.state file.new.image).faults result }
         ensures faults { WasNotCutOff result → IsFaultless (S.state file.old.image) (S.state file.new.image) }
         ensures written { WritesBlocks (S.state file.old.image) (cached_in self.old) result (S.state file.new.image) (cached_in self.new) }
     {
@@ -219,15 +223,18 @@ impl<S: Storage> MetadataCaches<S> {
 
     // Writes the modified blocks, where an L2 table must not be written before them.
     fn before_tables(&mut self, file: &mut ImageFile<S>) -> Result<(), Fault>
-        ensures going { Going file.old.header (order_of self.old) Always (result ≡ Ok tt) (S.state file.old.image) (cached_in self.old) (S.state file.new.image) (cached_in self.new) }
+        ensures going { Going file.old.header (order_of self.old) Always (result ≡ Ok tt) (S.state file.old.image) (cached_in self.old)
+            (S.state file.new.image) (cached_in self.new) }
         ensures kept { written (cached_in self.new) ≡ written (cached_in self.old) }
         ensures ready { OnOk result (ReadyTables (order_of self.new) (cached_in self.new)) }
         ensures idle { (order_of self.old ≡ L2DependsOnRb → ⊥) → (result ≡ Ok tt) × (self.new ≡ self.old) × (file.new ≡ file.old) }
         ensures others { (self.new.l2 ≡ self.old.l2) × (self.new.order ≡ self.old.order) × (file.new.header ≡ file.old.header) }
         ensures room { HasRoomOf self.old self.new }
-        ensures cause { CountsWrites (AreBlocksInReach (cached_in self.old)) (S.state file.old.image).faults (S.state file.new.image).faults result }
+        ensures cause { CountsWrites (AreBlocksInReach (cached_in self.old)) (S.state file.old.image).faults
+            (S.state file.new.image).faults result }
         ensures faults { WasNotCutOff result → IsFaultless (S.state file.old.image) (S.state file.new.image) }
-        ensures written { order_of self.old ≡ L2DependsOnRb → WritesBlocks (S.state file.old.image) (cached_in self.old) result (S.state file.new.image) (cached_in self.new) }
+        ensures written { order_of self.old ≡ L2DependsOnRb
+            → WritesBlocks (S.state file.old.image) (cached_in self.old) result (S.state file.new.image) (cached_in self.new) }
     {
         if self.order == CacheDependency::L2DependsOnRb {
             return self.flush_blocks(file);
@@ -237,15 +244,18 @@ impl<S: Storage> MetadataCaches<S> {
 
     // Writes the modified L2 tables, where a block must not be written before them.
     fn before_blocks(&mut self, file: &mut ImageFile<S>) -> Result<(), Fault>
-        ensures going { Going file.old.header (order_of self.old) Always (result ≡ Ok tt) (S.state file.old.image) (cached_in self.old) (S.state file.new.image) (cached_in self.new) }
+        ensures going { Going file.old.header (order_of self.old) Always (result ≡ Ok tt) (S.state file.old.image) (cached_in self.old)
+            (S.state file.new.image) (cached_in self.new) }
         ensures kept { written (cached_in self.new) ≡ written (cached_in self.old) }
         ensures ready { OnOk result (ReadyBlocks (order_of self.new) (cached_in self.new)) }
         ensures idle { (order_of self.old ≡ RbDependsOnL2 → ⊥) → (result ≡ Ok tt) × (self.new ≡ self.old) × (file.new ≡ file.old) }
         ensures others { (self.new.rb ≡ self.old.rb) × (self.new.order ≡ self.old.order) × (file.new.header ≡ file.old.header) }
         ensures room { HasRoomOf self.old self.new }
-        ensures cause { CountsWrites (AreTablesInReach (cached_in self.old)) (S.state file.old.image).faults (S.state file.new.image).faults result }
+        ensures cause { CountsWrites (AreTablesInReach (cached_in self.old)) (S.state file.old.image).faults
+            (S.state file.new.image).faults result }
         ensures faults { WasNotCutOff result → IsFaultless (S.state file.old.image) (S.state file.new.image) }
-        ensures written { order_of self.old ≡ RbDependsOnL2 → WritesTables (S.state file.old.image) (cached_in self.old) result (S.state file.new.image) (cached_in self.new) }
+        ensures written { order_of self.old ≡ RbDependsOnL2
+            → WritesTables (S.state file.old.image) (cached_in self.old) result (S.state file.new.image) (cached_in self.new) }
     {
         if self.order == CacheDependency::RbDependsOnL2 {
             return self.flush_l2(file);
@@ -258,16 +268,21 @@ impl<S: Storage> MetadataCaches<S> {
     /// It refuses with `Fault::Memory`, `Fault::Storage`, and `Fault::DamagedTable` where words can't name the cluster of one of them, which no
     /// safe cache has; what is cached then stays, and what wasn't written stays modified. The file of a safe cache is consistent at each stop.
     pub fn flush_rb(&mut self, file: &mut ImageFile<S>) -> Result<(), Fault>
-        ensures going { Going file.old.header (order_of self.old) Always (result ≡ Ok tt) (S.state file.old.image) (cached_in self.old) (S.state file.new.image) (cached_in self.new) }
+        ensures going { Going file.old.header (order_of self.old) Always (result ≡ Ok tt) (S.state file.old.image) (cached_in self.old)
+            (S.state file.new.image) (cached_in self.new) }
         ensures kept { written (cached_in self.new) ≡ written (cached_in self.old) }
         ensures clean { OnOk result (AreBlocksClean (cached_in self.new)) }
         ensures others { (self.new.order ≡ self.old.order) × (file.new.header ≡ file.old.header) }
         ensures tables { (order_of self.old ≡ RbDependsOnL2 → ⊥) → self.new.l2 ≡ self.old.l2 }
         ensures room { HasRoomOf self.old self.new }
-        ensures cause { CountsWrites (AreTablesInReach (cached_in self.old) × AreBlocksInReach (cached_in self.old)) (S.state file.old.image).faults (S.state file.new.image).faults result }
+        ensures cause { CountsWrites (AreTablesInReach (cached_in self.old) × AreBlocksInReach (cached_in self.old))
+            (S.state file.old.image).faults (S.state file.new.image).faults result }
         ensures faults { WasNotCutOff result → IsFaultless (S.state file.old.image) (S.state file.new.image) }
-        ensures alone { (order_of self.old ≡ RbDependsOnL2 → ⊥) → WritesBlocks (S.state file.old.image) (cached_in self.old) result (S.state file.new.image) (cached_in self.new) }
-        ensures in_turn { order_of self.old ≡ RbDependsOnL2 → InTurn WritesTables WritesBlocks (S.state file.old.image) (cached_in self.old) result (S.state file.new.image) (cached_in self.new) }
+        ensures alone { (order_of self.old ≡ RbDependsOnL2 → ⊥)
+            → WritesBlocks (S.state file.old.image) (cached_in self.old) result (S.state file.new.image) (cached_in self.new) }
+        ensures in_turn { order_of self.old ≡ RbDependsOnL2
+            → InTurn WritesTables WritesBlocks (S.state file.old.image) (cached_in self.old) result (S.state file.new.image)
+            (cached_in self.new) }
     {
         match self.before_blocks(file) {
             Ok(()) => self.flush_blocks(file),
@@ -277,16 +292,21 @@ impl<S: Storage> MetadataCaches<S> {
 
     // Writes all modified L2 tables, and before them the modified refcount blocks where these come first.
     fn flush_tables(&mut self, file: &mut ImageFile<S>) -> Result<(), Fault>
-        ensures going { Going file.old.header (order_of self.old) Always (result ≡ Ok tt) (S.state file.old.image) (cached_in self.old) (S.state file.new.image) (cached_in self.new) }
+        ensures going { Going file.old.header (order_of self.old) Always (result ≡ Ok tt) (S.state file.old.image) (cached_in self.old)
+            (S.state file.new.image) (cached_in self.new) }
         ensures kept { written (cached_in self.new) ≡ written (cached_in self.old) }
         ensures clean { OnOk result (AreTablesClean (cached_in self.new)) }
         ensures others { (self.new.order ≡ self.old.order) × (file.new.header ≡ file.old.header) }
         ensures blocks { (order_of self.old ≡ L2DependsOnRb → ⊥) → self.new.rb ≡ self.old.rb }
         ensures room { HasRoomOf self.old self.new }
-        ensures cause { CountsWrites (AreTablesInReach (cached_in self.old) × AreBlocksInReach (cached_in self.old)) (S.state file.old.image).faults (S.state file.new.image).faults result }
+        ensures cause { CountsWrites (AreTablesInReach (cached_in self.old) × AreBlocksInReach (cached_in self.old))
+            (S.state file.old.image).faults (S.state file.new.image).faults result }
         ensures faults { WasNotCutOff result → IsFaultless (S.state file.old.image) (S.state file.new.image) }
-        ensures alone { (order_of self.old ≡ L2DependsOnRb → ⊥) → WritesTables (S.state file.old.image) (cached_in self.old) result (S.state file.new.image) (cached_in self.new) }
-        ensures in_turn { order_of self.old ≡ L2DependsOnRb → InTurn WritesBlocks WritesTables (S.state file.old.image) (cached_in self.old) result (S.state file.new.image) (cached_in self.new) }
+        ensures alone { (order_of self.old ≡ L2DependsOnRb → ⊥)
+            → WritesTables (S.state file.old.image) (cached_in self.old) result (S.state file.new.image) (cached_in self.new) }
+        ensures in_turn { order_of self.old ≡ L2DependsOnRb
+            → InTurn WritesBlocks WritesTables (S.state file.old.image) (cached_in self.old) result (S.state file.new.image)
+            (cached_in self.new) }
     {
         match self.before_tables(file) {
             Ok(()) => self.flush_l2(file),
@@ -299,16 +319,22 @@ impl<S: Storage> MetadataCaches<S> {
     /// It refuses with `Fault::Memory`, `Fault::Storage`, and `Fault::DamagedTable` where words can't name the cluster of one of them, which no
     /// safe cache has; what is cached then stays, and what wasn't written stays modified. The file of a safe cache is consistent at each stop.
     pub fn flush_all(&mut self, file: &mut ImageFile<S>) -> Result<(), Fault>
-        ensures going { Going file.old.header (order_of self.old) Always (result ≡ Ok tt) (S.state file.old.image) (cached_in self.old) (S.state file.new.image) (cached_in self.new) }
+        ensures going { Going file.old.header (order_of self.old) Always (result ≡ Ok tt) (S.state file.old.image) (cached_in self.old)
+            (S.state file.new.image) (cached_in self.new) }
         ensures kept { written (cached_in self.new) ≡ written (cached_in self.old) }
         ensures tables { OnOk result (AreTablesClean (cached_in self.new)) }
         ensures blocks { OnOk result (AreBlocksClean (cached_in self.new)) }
         ensures others { (self.new.order ≡ self.old.order) × (file.new.header ≡ file.old.header) }
         ensures room { HasRoomOf self.old self.new }
-        ensures cause { CountsWrites (AreTablesInReach (cached_in self.old) × AreBlocksInReach (cached_in self.old)) (S.state file.old.image).faults (S.state file.new.image).faults result }
+        ensures cause { CountsWrites (AreTablesInReach (cached_in self.old) × AreBlocksInReach (cached_in self.old))
+            (S.state file.old.image).faults (S.state file.new.image).faults result }
         ensures faults { WasNotCutOff result → IsFaultless (S.state file.old.image) (S.state file.new.image) }
-        ensures blocks_first { order_of self.old ≡ L2DependsOnRb → InTurn WritesBlocks WritesTables (S.state file.old.image) (cached_in self.old) result (S.state file.new.image) (cached_in self.new) }
-        ensures tables_first { (order_of self.old ≡ L2DependsOnRb → ⊥) → InTurn WritesTables WritesBlocks (S.state file.old.image) (cached_in self.old) result (S.state file.new.image) (cached_in self.new) }
+        ensures blocks_first { order_of self.old ≡ L2DependsOnRb
+            → InTurn WritesBlocks WritesTables (S.state file.old.image) (cached_in self.old) result (S.state file.new.image)
+            (cached_in self.new) }
+        ensures tables_first { (order_of self.old ≡ L2DependsOnRb → ⊥)
+            → InTurn WritesTables WritesBlocks (S.state file.old.image) (cached_in self.old) result (S.state file.new.image)
+            (cached_in self.new) }
     {
         if self.order == CacheDependency::L2DependsOnRb {
             return match self.flush_rb(file) {
@@ -327,19 +353,24 @@ impl<S: Storage> MetadataCaches<S> {
     /// Where tables came first, those that are modified are written, and else nothing. It refuses as their flush does, and then the
     /// order stays. The file of a safe cache is consistent at each stop.
     pub fn l2_depends_on_rb(&mut self, file: &mut ImageFile<S>) -> Result<(), Fault>
-        ensures going { Going file.old.header (order_of self.old) Always (result ≡ Ok tt) (S.state file.old.image) (cached_in self.old) (S.state file.new.image) (cached_in self.new) }
+        ensures going { Going file.old.header (order_of self.old) Always (result ≡ Ok tt) (S.state file.old.image) (cached_in self.old)
+            (S.state file.new.image) (cached_in self.new) }
         ensures kept { written (cached_in self.new) ≡ written (cached_in self.old) }
         ensures announced { OnOk result (order_of self.new ≡ L2DependsOnRb) }
         ensures clean { OnOk result (order_of self.old ≡ RbDependsOnL2 → AreTablesClean (cached_in self.new)) }
-        ensures idle { (order_of self.old ≡ RbDependsOnL2 → ⊥) → (result ≡ Ok tt) × (cached_in self.new ≡ cached_in self.old) × (file.new ≡ file.old) }
+        ensures idle { (order_of self.old ≡ RbDependsOnL2 → ⊥) → (result ≡ Ok tt) × (cached_in self.new ≡ cached_in self.old)
+            × (file.new ≡ file.old) }
         ensures blocks { self.new.rb ≡ self.old.rb }
-        ensures safe { OnOk result ((f : Bytes) (H : Header) → Safe f H (cached_in self.new) (order_of self.old) → Safe f H (cached_in self.new) L2DependsOnRb) }
+        ensures safe { OnOk result ((f : Bytes) (H : Header) → Safe f H (cached_in self.new) (order_of self.old)
+            → Safe f H (cached_in self.new) L2DependsOnRb) }
         ensures stays { OnErr result (order_of self.new ≡ order_of self.old) }
         ensures header { file.new.header ≡ file.old.header }
         ensures room { HasRoomOf self.old self.new }
-        ensures cause { CountsWrites (AreTablesInReach (cached_in self.old)) (S.state file.old.image).faults (S.state file.new.image).faults result }
+        ensures cause { CountsWrites (AreTablesInReach (cached_in self.old)) (S.state file.old.image).faults
+            (S.state file.new.image).faults result }
         ensures faults { WasNotCutOff result → IsFaultless (S.state file.old.image) (S.state file.new.image) }
-        ensures written { order_of self.old ≡ RbDependsOnL2 → WritesTables (S.state file.old.image) (cached_in self.old) result (S.state file.new.image) (cached_in self.new) }
+        ensures written { order_of self.old ≡ RbDependsOnL2
+            → WritesTables (S.state file.old.image) (cached_in self.old) result (S.state file.new.image) (cached_in self.new) }
     {
         if let Err(fault) = self.before_blocks(file) {
             return Err(fault);
@@ -353,19 +384,24 @@ impl<S: Storage> MetadataCaches<S> {
     /// Where blocks came first, those that are modified are written, and else nothing. It refuses as their flush does, and then the
     /// order stays. The file of a safe cache is consistent at each stop.
     pub fn rb_depends_on_l2(&mut self, file: &mut ImageFile<S>) -> Result<(), Fault>
-        ensures going { Going file.old.header (order_of self.old) Always (result ≡ Ok tt) (S.state file.old.image) (cached_in self.old) (S.state file.new.image) (cached_in self.new) }
+        ensures going { Going file.old.header (order_of self.old) Always (result ≡ Ok tt) (S.state file.old.image) (cached_in self.old)
+            (S.state file.new.image) (cached_in self.new) }
         ensures kept { written (cached_in self.new) ≡ written (cached_in self.old) }
         ensures announced { OnOk result (order_of self.new ≡ RbDependsOnL2) }
         ensures clean { OnOk result (order_of self.old ≡ L2DependsOnRb → AreBlocksClean (cached_in self.new)) }
-        ensures idle { (order_of self.old ≡ L2DependsOnRb → ⊥) → (result ≡ Ok tt) × (cached_in self.new ≡ cached_in self.old) × (file.new ≡ file.old) }
+        ensures idle { (order_of self.old ≡ L2DependsOnRb → ⊥) → (result ≡ Ok tt) × (cached_in self.new ≡ cached_in self.old)
+            × (file.new ≡ file.old) }
         ensures tables { self.new.l2 ≡ self.old.l2 }
-        ensures safe { OnOk result ((f : Bytes) (H : Header) → Safe f H (cached_in self.new) (order_of self.old) → Safe f H (cached_in self.new) RbDependsOnL2) }
+        ensures safe { OnOk result ((f : Bytes) (H : Header) → Safe f H (cached_in self.new) (order_of self.old)
+            → Safe f H (cached_in self.new) RbDependsOnL2) }
         ensures stays { OnErr result (order_of self.new ≡ order_of self.old) }
         ensures header { file.new.header ≡ file.old.header }
         ensures room { HasRoomOf self.old self.new }
-        ensures cause { CountsWrites (AreBlocksInReach (cached_in self.old)) (S.state file.old.image).faults (S.state file.new.image).faults result }
+        ensures cause { CountsWrites (AreBlocksInReach (cached_in self.old)) (S.state file.old.image).faults
+            (S.state file.new.image).faults result }
         ensures faults { WasNotCutOff result → IsFaultless (S.state file.old.image) (S.state file.new.image) }
-        ensures written { order_of self.old ≡ L2DependsOnRb → WritesBlocks (S.state file.old.image) (cached_in self.old) result (S.state file.new.image) (cached_in self.new) }
+        ensures written { order_of self.old ≡ L2DependsOnRb
+            → WritesBlocks (S.state file.old.image) (cached_in self.old) result (S.state file.new.image) (cached_in self.new) }
     {
         if let Err(fault) = self.before_tables(file) {
             return Err(fault);
@@ -376,7 +412,9 @@ impl<S: Storage> MetadataCaches<S> {
 
     // Finds the L2 table in a cluster, or loads it where there is room.
     fn l2_find(&mut self, file: &mut ImageFile<S>, cluster: HostCluster) -> Result<bool, Fault>
-        ensures readied { Readied nat_eq (table_loads S.state) (table_flushes S.state) self.old.l2.slots.cap false cluster file.old self.old.l2.slots.entries result file.new self.new.l2.slots.entries }
+        ensures readied { Readied nat_eq (table_loads S.state)
+            (table_flushes S.state) self.old.l2.slots.cap false cluster file.old self.old.l2.slots.entries result file.new
+            self.new.l2.slots.entries }
         ensures others { self.new ≡ with_tables self.old self.new.l2.slots.entries }
     {
         self.l2.ready(file, cluster, false)
@@ -423,7 +461,8 @@ impl<S: Storage> MetadataCaches<S> {
         cluster: HostCluster,
     ) -> Result<&mut L2Table, Fault>
         ensures* writes_back { sem 𝓛 (lends_table S.row S.state self.entry file.old file.new cluster result) }
-        ensures value { IfOk result (λ table. (mid : MetadataCaches S) × TableFound S.state cluster self.old file.old (Ok tt) mid file.new × (option_map (λ s. s.value) (lookup (nat_eq cluster) (cached_in mid).tables) ≡ Some table.now)) }
+        ensures value { IfOk result (λ table. (mid : MetadataCaches S) × TableFound S.state cluster self.old file.old (Ok tt) mid file.new
+            × (option_map (λ s. s.value) (lookup (nat_eq cluster) (cached_in mid).tables) ≡ Some table.now)) }
     {
         match self.l2_ready(file, cluster) {
             Ok(()) => match self.l2.get_mut(cluster) {
@@ -436,7 +475,9 @@ impl<S: Storage> MetadataCaches<S> {
 
     // Finds the refcount block in a cluster, or loads it where there is room.
     fn rb_find(&mut self, file: &mut ImageFile<S>, cluster: HostCluster) -> Result<bool, Fault>
-        ensures readied { Readied nat_eq (block_loads S.state) (block_flushes S.state) self.old.rb.slots.cap false cluster file.old self.old.rb.slots.entries result file.new self.new.rb.slots.entries }
+        ensures readied { Readied nat_eq (block_loads S.state)
+            (block_flushes S.state) self.old.rb.slots.cap false cluster file.old self.old.rb.slots.entries result file.new
+            self.new.rb.slots.entries }
         ensures others { self.new ≡ with_blocks self.old self.new.rb.slots.entries }
     {
         self.rb.ready(file, cluster, false)
@@ -483,7 +524,8 @@ impl<S: Storage> MetadataCaches<S> {
         cluster: HostCluster,
     ) -> Result<&mut RefBlock, Fault>
         ensures* writes_back { sem 𝓛 (lends_block S.row S.state self.entry file.old file.new cluster result) }
-        ensures value { IfOk result (λ block. (mid : MetadataCaches S) × BlockFound S.state cluster self.old file.old (Ok tt) mid file.new × (option_map (λ s. s.value) (lookup (nat_eq cluster) (cached_in mid).blocks) ≡ Some block.now)) }
+        ensures value { IfOk result (λ block. (mid : MetadataCaches S) × BlockFound S.state cluster self.old file.old (Ok tt) mid file.new
+            × (option_map (λ s. s.value) (lookup (nat_eq cluster) (cached_in mid).blocks) ≡ Some block.now)) }
     {
         match self.rb_ready(file, cluster) {
             Ok(()) => match self.rb.get_mut(cluster) {
@@ -501,7 +543,8 @@ impl<S: Storage> MetadataCaches<S> {
         cluster: HostCluster,
         table: L2Table,
     ) -> Result<Option<L2Table>, (Fault, L2Table)>
-        ensures inserted { Inserted nat_eq (table_flushes S.state) self.old.l2.slots.cap false cluster table file.old self.old.l2.slots.entries result file.new self.new.l2.slots.entries }
+        ensures inserted { Inserted nat_eq (table_flushes S.state) self.old.l2.slots.cap false cluster table file.old
+            self.old.l2.slots.entries result file.new self.new.l2.slots.entries }
         ensures others { self.new ≡ with_tables self.old self.new.l2.slots.entries }
     {
         self.l2.insert(file, cluster, table, false)
@@ -583,7 +626,8 @@ impl<S: Storage> MetadataCaches<S> {
         cluster: HostCluster,
         block: RefBlock,
     ) -> Result<Option<RefBlock>, (Fault, RefBlock)>
-        ensures inserted { Inserted nat_eq (block_flushes S.state) self.old.rb.slots.cap false cluster block file.old self.old.rb.slots.entries result file.new self.new.rb.slots.entries }
+        ensures inserted { Inserted nat_eq (block_flushes S.state) self.old.rb.slots.cap false cluster block file.old
+            self.old.rb.slots.entries result file.new self.new.rb.slots.entries }
         ensures others { self.new ≡ with_blocks self.old self.new.rb.slots.entries }
     {
         self.rb.insert(file, cluster, block, false)
@@ -651,7 +695,8 @@ impl<S: Storage> MetadataCaches<S> {
     pub(crate) fn rb_forget(&mut self, cluster: HostCluster) -> Result<(), Fault>
         ensures pinned { IsSomeAnd (lookup (nat_eq cluster) (cached_in self.old).blocks) (λ s. 0 < s.pins) → IsErr result }
         ensures ok { OnOk result (self.new ≡ with_blocks self.old (remove_entry (nat_eq cluster) (cached_in self.old).blocks)) }
-        ensures err { IfErr result (λ fault. (fault ≡ Fault.CacheFull) × IsSomeAnd (lookup (nat_eq cluster) (cached_in self.old).blocks) (λ s. 0 < s.pins) × (self.new ≡ self.old)) }
+        ensures err { IfErr result (λ fault. (fault ≡ Fault.CacheFull)
+            × IsSomeAnd (lookup (nat_eq cluster) (cached_in self.old).blocks) (λ s. 0 < s.pins) × (self.new ≡ self.old)) }
     {
         self.rb.forget(cluster)
     }

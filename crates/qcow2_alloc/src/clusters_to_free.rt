@@ -122,7 +122,8 @@ impl ClustersToFreeList {
         &mut self,
         entry: ClustersToFreeEntry,
     ) -> Result<PendingClusters, (Fault, ClustersToFreeEntry)>
-        ensures ok { IfOk result (λ pending. (pending ≡ entry) × (self.new ≡ record { entries = self.old.entries; held = self.old.held + 1 })) }
+        ensures ok { IfOk result (λ pending. (pending ≡ entry)
+            × (self.new ≡ record { entries = self.old.entries; held = self.old.held + 1 })) }
         ensures err { IfErr result (λ e. (e ≡ (Memory, entry)) × (self.new ≡ self.old)) }
     {
         match self.hold() {

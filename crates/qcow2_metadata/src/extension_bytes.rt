@@ -74,7 +74,8 @@ pub(crate) fn push_names(
     alloc: Global,
     names: &[FeatureName],
 ) -> Result<(), AllocError>
-    ensures { OnOk result (bytes.new.items ≡ bytes.old.items ++ flat_map extension_bytes (extension_of FEATURE_NAMES (names_data (map seen_name names.now)))) }
+    ensures { OnOk result (bytes.new.items ≡ bytes.old.items
+        ++ flat_map extension_bytes (extension_of FEATURE_NAMES (names_data (map seen_name names.now)))) }
 {
     if names.is_empty() {
         return Ok(());

@@ -90,7 +90,8 @@ pub(crate) fn known_extensions(
     requires inside { area_end ≤ length bytes.now }
     requires near { start < 2 ^ 32 }
     requires small { length bytes.now < 2 ^ 32 }
-    ensures ok { IfOk result (λ known. known_of (extensions_at (length bytes.now / 8) (bytes_of bytes.now) area_end start) ≡ Ok (seen_known known)) }
+    ensures ok { IfOk result (λ known. known_of (extensions_at (length bytes.now / 8) (bytes_of bytes.now) area_end start)
+        ≡ Ok (seen_known known)) }
     ensures err { IfErr result (λ e. extensions_at (length bytes.now / 8) (bytes_of bytes.now) area_end start ≡ Err e) }
 {
     let mut backing_format = None;

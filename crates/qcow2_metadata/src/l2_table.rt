@@ -129,7 +129,12 @@ impl L2Table {
     ///
     /// Refused with `Fault::Memory` alone.
     pub fn new_cleared(alloc: Global, header: &Header) -> Result<L2Table, Fault>
-        ensures ok { IfOk result (λ table. table ≡ record { layout = layout_of header.now.fields; words = replicate (words_of_cluster header.now.fields) 0; cluster = None; modified = true }) }
+        ensures ok { IfOk result (λ table. table ≡ record {
+          layout = layout_of header.now.fields;
+          words = replicate (words_of_cluster header.now.fields) 0;
+          cluster = None;
+          modified = true;
+        }) }
         ensures err { IsOkUnless result Fault.Memory }
     {
         let mut content = Vec::new(alloc);
@@ -188,7 +193,8 @@ impl L2Table {
     ) -> Result<(), Fault>
         requires placed { self.old.cluster ≡ Some cluster }
         requires reach { IsInReach self.old.layout.cluster_bits cluster }
-        ensures request { IsTrue self.old.modified → PutAtOnce (S.state image.old) (S.state image.new) (cluster * 2 ^ self.old.layout.cluster_bits) (table_bytes self.old.words) result }
+        ensures request { IsTrue self.old.modified → PutAtOnce (S.state image.old) (S.state image.new)
+            (cluster * 2 ^ self.old.layout.cluster_bits) (table_bytes self.old.words) result }
         ensures nothing { self.old.modified ≡ false → IsOk result × (S.state image.new ≡ S.state image.old) }
         ensures ok { OnOk result (self.new ≡ record self.old { modified = false }) }
         ensures err { OnErr result (self.new ≡ record self.old { modified = true }) }
@@ -207,7 +213,8 @@ impl L2Table {
     ///
     /// Refused with `Fault::Memory` alone.
     pub fn clone(&self, alloc: Global) -> Result<L2Table, Fault>
-        ensures ok { IfOk result (λ table. table ≡ record self.now { words = map (shared_word self.now.layout) self.now.words; cluster = None; modified = true }) }
+        ensures ok { IfOk result (λ table. table ≡ record self.now
+            { words = map (shared_word self.now.layout) self.now.words; cluster = None; modified = true }) }
         ensures err { IsOkUnless result Fault.Memory }
     {
         let mut content = Vec::new(alloc);
@@ -231,7 +238,9 @@ impl L2Table {
         &self,
         cluster: GuestCluster,
     ) -> Option<CompressedClusterReadGuard<'_>>
-        ensures { MatchOption result (packed_part (mapping_in self.now (cluster % l2_entries self.now.layout.cluster_bits)) ≡ None) (λ guard. packed_part (mapping_in self.now (cluster % l2_entries self.now.layout.cluster_bits)) ≡ Some (guard.host_offset, guard.length)) }
+        ensures { MatchOption result (packed_part (mapping_in self.now (cluster % l2_entries self.now.layout.cluster_bits)) ≡ None)
+            (λ guard. packed_part (mapping_in self.now (cluster % l2_entries self.now.layout.cluster_bits))
+            ≡ Some (guard.host_offset, guard.length)) }
     {
         let index = cluster.l2_index(self.layout.cluster_bits());
         match self.mapping_at(index, 0) {
@@ -277,7 +286,9 @@ impl L2Table {
         requires some { (0 < cluster) ⊎ (self.old.layout.external_data ≡ true) }
         ensures table { self.new ≡ with_word self.old index (2 ^ 63 + cluster * 2 ^ self.old.layout.cluster_bits) }
         ensures back { result ≡ freed (replaced cluster (allocation_of self.old.layout.cluster_bits (mapping_in self.old index))) }
-        ensures conserved { Conserves self.old.layout.cluster_bits (mapping_in self.old index) (mapping_of self.old.layout (2 ^ 63 + cluster * 2 ^ self.old.layout.cluster_bits)) result (newly cluster (allocation_of self.old.layout.cluster_bits (mapping_in self.old index))) }
+        ensures conserved { Conserves self.old.layout.cluster_bits (mapping_in self.old index)
+            (mapping_of self.old.layout (2 ^ 63 + cluster * 2 ^ self.old.layout.cluster_bits)) result
+            (newly cluster (allocation_of self.old.layout.cluster_bits (mapping_in self.old index))) }
     {
         let old = self.allocation_at(index);
         let place = cluster.offset(self.layout.cluster_bits());
@@ -292,7 +303,8 @@ impl L2Table {
         requires { index < length self.old.words }
         ensures table { self.new ≡ with_word self.old index 0 }
         ensures back { result ≡ freed (allocation_of self.old.layout.cluster_bits (mapping_in self.old index)) }
-        ensures conserved { Conserves self.old.layout.cluster_bits (mapping_in self.old index) (mapping_of self.old.layout 0) result (λ c. 0) }
+        ensures conserved { Conserves self.old.layout.cluster_bits (mapping_in self.old index)
+            (mapping_of self.old.layout 0) result (λ c. 0) }
     {
         let old = self.allocation_at(index);
         self.content[index] = L2Entry::empty();
@@ -312,9 +324,14 @@ impl L2Table {
         ensures possible { IsOk result ↔ (self.old.layout.version ≡ 3) }
         ensures refused { IsOkUnless result Fault.VersionLimit }
         ensures stays { OnErr result (self.new ≡ self.old) }
-        ensures table { OnOk result (self.new ≡ with_word self.old index (zeroed_word self.old.layout.cluster_bits (kept_where keep_allocation (mapping_in self.old index)))) }
-        ensures back { IfOk result (λ entry. entry ≡ freed (unkept (is_some (kept_where keep_allocation (mapping_in self.old index))) (allocation_of self.old.layout.cluster_bits (mapping_in self.old index)))) }
-        ensures conserved { IfOk result (λ entry. Conserves self.old.layout.cluster_bits (mapping_in self.old index) (mapping_of self.old.layout (zeroed_word self.old.layout.cluster_bits (kept_where keep_allocation (mapping_in self.old index)))) entry (λ c. 0)) }
+        ensures table { OnOk result (self.new ≡ with_word self.old index
+            (zeroed_word self.old.layout.cluster_bits (kept_where keep_allocation (mapping_in self.old index)))) }
+        ensures back { IfOk result (λ entry. entry ≡ freed
+            (unkept (is_some (kept_where keep_allocation (mapping_in self.old index)))
+            (allocation_of self.old.layout.cluster_bits (mapping_in self.old index)))) }
+        ensures conserved { IfOk result (λ entry. Conserves self.old.layout.cluster_bits (mapping_in self.old index)
+            (mapping_of self.old.layout (zeroed_word self.old.layout.cluster_bits (kept_where keep_allocation (mapping_in self.old index))))
+            entry (λ c. 0)) }
     {
         if self.layout.version() != 3 {
             return Err(Fault::VersionLimit);
@@ -368,7 +385,8 @@ impl L2TableWriteGuard<'_> {
     /// Where the bytes of a guest cluster are. Where they are in the layer below, they are there at the cluster's own place.
     pub fn get_mapping(&self, lookup_cluster: GuestCluster) -> L2Mapping
         requires { lookup_cluster * 2 ^ self.now.table.now.layout.cluster_bits < 2 ^ 64 }
-        ensures means { mapping_seen result ≡ mapping_in self.now.table.now (lookup_cluster % l2_entries self.now.table.now.layout.cluster_bits) }
+        ensures means { mapping_seen result ≡ mapping_in self.now.table.now
+            (lookup_cluster % l2_entries self.now.table.now.layout.cluster_bits) }
         ensures named { IsNamed self.now.table.now.layout.cluster_bits result }
         ensures backs { BacksAt (lookup_cluster * 2 ^ self.now.table.now.layout.cluster_bits) result }
     {
@@ -380,7 +398,10 @@ impl L2TableWriteGuard<'_> {
         &self,
         cluster: GuestCluster,
     ) -> Option<CompressedClusterReadGuard<'_>>
-        ensures { MatchOption result (packed_part (mapping_in self.now.table.now (cluster % l2_entries self.now.table.now.layout.cluster_bits)) ≡ None) (λ guard. packed_part (mapping_in self.now.table.now (cluster % l2_entries self.now.table.now.layout.cluster_bits)) ≡ Some (guard.host_offset, guard.length)) }
+        ensures { MatchOption result (packed_part (mapping_in self.now.table.now
+            (cluster % l2_entries self.now.table.now.layout.cluster_bits)) ≡ None) (λ guard.
+            packed_part (mapping_in self.now.table.now (cluster % l2_entries self.now.table.now.layout.cluster_bits))
+            ≡ Some (guard.host_offset, guard.length)) }
     {
         self.table.lock_compressed_read(cluster)
     }
@@ -398,11 +419,15 @@ impl L2TableWriteGuard<'_> {
         requires bounds { index < length self.old.table.now.words }
         requires reach { IsInReach self.old.table.now.layout.cluster_bits cluster }
         requires some { (0 < cluster) ⊎ (self.old.table.now.layout.external_data ≡ true) }
-        ensures table { self.new.table.now ≡ with_word self.old.table.now index (2 ^ 63 + cluster * 2 ^ self.old.table.now.layout.cluster_bits) }
-        ensures back { result ≡ freed (replaced cluster (allocation_of self.old.table.now.layout.cluster_bits (mapping_in self.old.table.now index))) }
+        ensures table { self.new.table.now ≡ with_word self.old.table.now index
+            (2 ^ 63 + cluster * 2 ^ self.old.table.now.layout.cluster_bits) }
+        ensures back { result ≡ freed (replaced cluster
+            (allocation_of self.old.table.now.layout.cluster_bits (mapping_in self.old.table.now index))) }
         // It is the same table, so that what calls do to it adds up.
         ensures same { self.new.table.ghost_name ≡ self.old.table.ghost_name }
-        ensures conserved { Conserves self.old.table.now.layout.cluster_bits (mapping_in self.old.table.now index) (mapping_of self.old.table.now.layout (2 ^ 63 + cluster * 2 ^ self.old.table.now.layout.cluster_bits)) result (newly cluster (allocation_of self.old.table.now.layout.cluster_bits (mapping_in self.old.table.now index))) }
+        ensures conserved { Conserves self.old.table.now.layout.cluster_bits (mapping_in self.old.table.now index)
+            (mapping_of self.old.table.now.layout (2 ^ 63 + cluster * 2 ^ self.old.table.now.layout.cluster_bits)) result
+            (newly cluster (allocation_of self.old.table.now.layout.cluster_bits (mapping_in self.old.table.now index))) }
     {
         self.table.map_at(index, cluster, pending)
     }
@@ -423,9 +448,15 @@ impl L2TableWriteGuard<'_> {
         ensures refused { IsOkUnless result Fault.VersionLimit }
         ensures stays { OnErr result (self.new.table.now ≡ self.old.table.now) }
         ensures same { self.new.table.ghost_name ≡ self.old.table.ghost_name }
-        ensures table { OnOk result (self.new.table.now ≡ with_word self.old.table.now index (zeroed_word self.old.table.now.layout.cluster_bits (kept_where keep_allocation (mapping_in self.old.table.now index)))) }
-        ensures back { IfOk result (λ entry. entry ≡ freed (unkept (is_some (kept_where keep_allocation (mapping_in self.old.table.now index))) (allocation_of self.old.table.now.layout.cluster_bits (mapping_in self.old.table.now index)))) }
-        ensures conserved { IfOk result (λ entry. Conserves self.old.table.now.layout.cluster_bits (mapping_in self.old.table.now index) (mapping_of self.old.table.now.layout (zeroed_word self.old.table.now.layout.cluster_bits (kept_where keep_allocation (mapping_in self.old.table.now index)))) entry (λ c. 0)) }
+        ensures table { OnOk result (self.new.table.now
+            ≡ with_word self.old.table.now index (zeroed_word self.old.table.now.layout.cluster_bits
+            (kept_where keep_allocation (mapping_in self.old.table.now index)))) }
+        ensures back { IfOk result (λ entry. entry ≡ freed
+            (unkept (is_some (kept_where keep_allocation (mapping_in self.old.table.now index)))
+            (allocation_of self.old.table.now.layout.cluster_bits (mapping_in self.old.table.now index)))) }
+        ensures conserved { IfOk result (λ entry. Conserves self.old.table.now.layout.cluster_bits (mapping_in self.old.table.now index)
+            (mapping_of self.old.table.now.layout (zeroed_word self.old.table.now.layout.cluster_bits
+            (kept_where keep_allocation (mapping_in self.old.table.now index)))) entry (λ c. 0)) }
     {
         self.table.zero_at(index, keep_allocation)
     }
@@ -438,7 +469,8 @@ impl L2TableWriteGuard<'_> {
         ensures table { self.new.table.now ≡ with_word self.old.table.now index 0 }
         ensures same { self.new.table.ghost_name ≡ self.old.table.ghost_name }
         ensures back { result ≡ freed (allocation_of self.old.table.now.layout.cluster_bits (mapping_in self.old.table.now index)) }
-        ensures conserved { Conserves self.old.table.now.layout.cluster_bits (mapping_in self.old.table.now index) (mapping_of self.old.table.now.layout 0) result (λ c. 0) }
+        ensures conserved { Conserves self.old.table.now.layout.cluster_bits (mapping_in self.old.table.now index)
+            (mapping_of self.old.table.now.layout 0) result (λ c. 0) }
     {
         self.table.discard_at(index)
     }

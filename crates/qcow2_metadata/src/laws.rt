@@ -22,7 +22,8 @@ use qcow2_types::HostCluster;
 /// and a decrement of one of them, writes the same bytes.
 pub fn counters_have_one_form()
     ensures one { (order : ℕ) (counters xs ys : List ℕ) → Packs order counters xs → Packs order counters ys → xs ≡ ys }
-    ensures undone { (counters : List ℕ) (i : ℕ) → i < length counters → slice_set (slice_set counters i (slice_index counters i + 1)) i (slice_index counters i + 1 - 1) ≡ counters }
+    ensures undone { (counters : List ℕ) (i : ℕ) → i < length counters
+        → slice_set (slice_set counters i (slice_index counters i + 1)) i (slice_index counters i + 1 - 1) ≡ counters }
 {}
 
 /// A table that is loaded and not edited writes the bytes that were read: those of n words of a file, from a place on, are the
@@ -33,7 +34,8 @@ pub fn loaded_table_is_written_back()
 
 /// A table that is written is loaded with the same words: those in the file at its place are its own, since each has 64 bits.
 pub fn written_table_is_read_back()
-    ensures { (f : Bytes) (place : ℕ) (words : List ℕ) → AreFit words → words_in (splice f place (table_bytes words)) place (length words) ≡ words }
+    ensures { (f : Bytes) (place : ℕ) (words : List ℕ) → AreFit words
+        → words_in (splice f place (table_bytes words)) place (length words) ≡ words }
 {}
 
 /// The word that `L2TableWriteGuard::map_cluster` writes for a host cluster other than 0, or for any in an external data file, means
@@ -51,22 +53,26 @@ pub fn mapped_cluster_is_decoded(header: &Header, cluster: HostCluster)
 /// one that `discard_cluster` writes means that nothing is mapped.
 pub fn zeroed_and_discarded_clusters_are_decoded()
     ensures zeroed { (layout : Layout) → layout.version ≡ 3 → mapping_of layout (zeroed_word layout.cluster_bits None) ≡ zeroes None false }
-    ensures kept { (layout : Layout) (w : ℕ) (kept : ℕ × Bool) → 9 ≤ layout.cluster_bits → layout.version ≡ 3 → IsInReach layout.cluster_bits kept.0
-        → kept_for_zero (mapping_of layout w) ≡ Some kept → mapping_of layout (zeroed_word layout.cluster_bits (Some kept)) ≡ zeroes (Some kept.0) kept.1 }
+    ensures kept { (layout : Layout) (w : ℕ) (kept : ℕ × Bool) → 9 ≤ layout.cluster_bits → layout.version ≡ 3
+        → IsInReach layout.cluster_bits kept.0
+        → kept_for_zero (mapping_of layout w) ≡ Some kept
+        → mapping_of layout (zeroed_word layout.cluster_bits (Some kept)) ≡ zeroes (Some kept.0) kept.1 }
     ensures discarded { (layout : Layout) → mapping_of layout 0 ≡ unmapped }
 {}
 
 /// A word of a copy that `L2Table::clone` makes means what the word did, without the copied mark; with an external data file it is
 /// the word.
 pub fn copied_words_are_decoded()
-    ensures inside { (layout : Layout) (w : ℕ) → 9 ≤ layout.cluster_bits → layout.cluster_bits ≤ 21 → layout.external_data ≡ false → is_damaged (mapping_of layout w) ≡ false
+    ensures inside { (layout : Layout) (w : ℕ) → 9 ≤ layout.cluster_bits → layout.cluster_bits ≤ 21 → layout.external_data ≡ false
+        → is_damaged (mapping_of layout w) ≡ false
         → mapping_of layout (shared_word layout w) ≡ unmarked_mapping (mapping_of layout w) }
     ensures external { (layout : Layout) (w : ℕ) → layout.external_data ≡ true → shared_word layout w ≡ w }
 {}
 
 /// The words that `L1Table::enter_l2_table` and `RefTable::enter_refblock` write name the places that they were given.
 pub fn entered_places_are_named()
-    ensures table { (bits cluster : ℕ) → 9 ≤ bits → IsInReach bits cluster → table_offset (2 ^ 63 + cluster * 2 ^ bits) ≡ cluster * 2 ^ bits }
+    ensures table { (bits cluster : ℕ) → 9 ≤ bits → IsInReach bits cluster
+        → table_offset (2 ^ 63 + cluster * 2 ^ bits) ≡ cluster * 2 ^ bits }
     ensures block { (bits cluster : ℕ) → 9 ≤ bits → IsInReach bits cluster → block_offset (cluster * 2 ^ bits) ≡ cluster * 2 ^ bits }
 {}
 
@@ -77,8 +83,10 @@ pub fn entered_places_are_named()
 pub fn pointer_write_switches_the_header()
     ensures writing { (f : Bytes) (old new : HeaderRecord) → ((p : ℕ) → f p < 256) → header_of true f ≡ Ok old → OnlyPlaces old new
         → first_fault (rules_of_size new.fields) ≡ None → header_of true (splice f 0 (first_bytes new.fields)) ≡ Ok new }
-    ensures any { (writing : Bool) (f : Bytes) (old new : HeaderRecord) → ((p : ℕ) → f p < 256) → header_of writing f ≡ Ok old → OnlyPlaces old new
-        → first_fault (rules_of_size new.fields) ≡ None → IsNameBehind old.fields → header_of writing (splice f 0 (first_bytes new.fields)) ≡ Ok new }
+    ensures any { (writing : Bool) (f : Bytes) (old new : HeaderRecord) → ((p : ℕ) → f p < 256) → header_of writing f ≡ Ok old
+        → OnlyPlaces old new
+        → first_fault (rules_of_size new.fields) ≡ None → IsNameBehind old.fields
+        → header_of writing (splice f 0 (first_bytes new.fields)) ≡ Ok new }
 {}
 
 /// A header that was written is written again by the same bytes.
@@ -92,7 +100,9 @@ pub fn writing_twice_writes_the_same()
 /// file's name isn't empty.
 pub fn written_header_loads_again()
     ensures new { (bits order : ℕ) (name format data_file : Option (List ℕ)) → 9 ≤ bits → bits ≤ 21 → order ≤ 6
-        → IsTrue (fits_first_cluster (new_header bits order name format data_file)) → name ≢ Some [] → IsTrue (is_text name) → IsTrue (is_text format) → IsTrue (is_text data_file)
+        → IsTrue (fits_first_cluster (new_header bits order name format data_file)) → name ≢ Some [] → IsTrue (is_text name)
+        → IsTrue (is_text format) → IsTrue (is_text data_file)
         → (writing : Bool) → IsReloadable writing (new_header bits order name format data_file) }
-    ensures loads { (writing : Bool) (f : Bytes) (h : HeaderRecord) → IsReloadable writing h → header_of writing (splice f 0 (header_bytes h)) ≡ Ok (written h) }
+    ensures loads { (writing : Bool) (f : Bytes) (h : HeaderRecord) → IsReloadable writing h
+        → header_of writing (splice f 0 (header_bytes h)) ≡ Ok (written h) }
 {}

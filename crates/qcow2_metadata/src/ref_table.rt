@@ -119,7 +119,8 @@ impl Table for RefTable {
 fn grown_length(cluster_words: usize, counters: usize, at: usize) -> Option<usize>
     requires words { (64 ≤ cluster_words) × (cluster_words ≤ 2 ^ 18) }
     requires counters { (64 ≤ counters) × (counters ≤ 2 ^ 24) }
-    ensures { MatchOption result ((n : ℕ) → IsEnough cluster_words counters at n → 2 ^ 20 < n) (λ length. IsGrownLength cluster_words counters at length × (length ≤ 2 ^ 20)) }
+    ensures { MatchOption result ((n : ℕ) → IsEnough cluster_words counters at n → 2 ^ 20 < n) (λ length.
+        IsGrownLength cluster_words counters at length × (length ≤ 2 ^ 20)) }
 {
     for clusters in at / cluster_words + 1..RefTable::MAX_ENTRIES / cluster_words + 1 {
         let length = clusters * cluster_words;
@@ -163,10 +164,18 @@ impl RefTable {
     ) -> Result<RefTable, Fault>
         requires bits { self.now.layout.cluster_bits ≡ header.now.fields.cluster_bits }
         requires past { length self.now.words ≤ at }
-        ensures ok { IfOk result (λ table. table ≡ record { layout = layout_of header.now.fields; words = padded self.now.words (length table.words); cluster = None; modified = true }) }
-        ensures length { IfOk result (λ table. IsGrownLength (words_of_cluster header.now.fields) (counters_of_block header.now.fields) at (length table.words)) }
-        ensures limit { ((n : ℕ) → IsEnough (words_of_cluster header.now.fields) (counters_of_block header.now.fields) at n → 2 ^ 20 < n) → IsErrOf result (Fault.Limit (2 ^ 20 + words_of_cluster header.now.fields)) }
-        ensures few { (n : ℕ) → IsEnough (words_of_cluster header.now.fields) (counters_of_block header.now.fields) at n → n ≤ 2 ^ 20 → IsOkUnless result Fault.Memory }
+        ensures ok { IfOk result (λ table. table ≡ record {
+          layout = layout_of header.now.fields;
+          words = padded self.now.words (length table.words);
+          cluster = None;
+          modified = true;
+        }) }
+        ensures length { IfOk result (λ table. IsGrownLength (words_of_cluster header.now.fields) (counters_of_block header.now.fields) at
+            (length table.words)) }
+        ensures limit { ((n : ℕ) → IsEnough (words_of_cluster header.now.fields) (counters_of_block header.now.fields) at n → 2 ^ 20 < n)
+            → IsErrOf result (Fault.Limit (2 ^ 20 + words_of_cluster header.now.fields)) }
+        ensures few { (n : ℕ) → IsEnough (words_of_cluster header.now.fields) (counters_of_block header.now.fields) at n → n ≤ 2 ^ 20
+            → IsOkUnless result Fault.Memory }
     {
         let (cluster_words, counters) = sizes(header);
         let Some(count) = grown_length(cluster_words, counters, at) else {

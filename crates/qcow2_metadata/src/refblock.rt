@@ -53,7 +53,8 @@ impl RefBlock {
         modified: bool,
     ) -> RefBlock
         requires { length bytes.items ≡ cluster_size header.now.fields }
-        ensures value { result ≡ block_of header.now.fields.cluster_bits header.now.fields.refcount_order (counters_of header.now.fields.refcount_order bytes.items) cluster modified }
+        ensures value { result ≡ block_of header.now.fields.cluster_bits header.now.fields.refcount_order
+            (counters_of header.now.fields.refcount_order bytes.items) cluster modified }
         ensures fit { (k : ℕ) → slice_index bytes.items k < 256 }
         ensures shaped { Shaped header.now.fields }
     {
@@ -70,7 +71,13 @@ impl RefBlock {
     ///
     /// Refused with `Fault::Memory` alone.
     pub fn new_cleared(alloc: Global, header: &Header) -> Result<RefBlock, Fault>
-        ensures ok { IfOk result (λ block. block ≡ record { cluster_bits = header.now.fields.cluster_bits; order = header.now.fields.refcount_order; counters = replicate (counters_of_block header.now.fields) 0; cluster = None; modified = true }) }
+        ensures ok { IfOk result (λ block. block ≡ record {
+          cluster_bits = header.now.fields.cluster_bits;
+          order = header.now.fields.refcount_order;
+          counters = replicate (counters_of_block header.now.fields) 0;
+          cluster = None;
+          modified = true;
+        }) }
         ensures err { IsOkUnless result Fault.Memory }
     {
         match zeroes(alloc, header.cluster_size()) {
@@ -106,7 +113,8 @@ impl RefBlock {
     /// old or new.
     pub fn write<S: Storage>(&mut self, alloc: Global, image: &mut S) -> Result<(), Fault>
         requires { IsPlaced self.old.cluster_bits self.old.cluster }
-        ensures request { BlockPut self.old (place_of self.old.cluster_bits self.old.cluster) (S.state image.old) (S.state image.new) result }
+        ensures request { BlockPut self.old (place_of self.old.cluster_bits self.old.cluster) (S.state image.old)
+            (S.state image.new) result }
         ensures ok { OnOk result (self.new ≡ record self.old { modified = false }) }
         ensures err { OnErr result (self.new ≡ record self.old { modified = true }) }
     {
@@ -127,7 +135,8 @@ impl RefBlock {
     ) -> Result<(), Fault>
         requires placed { self.old.cluster ≡ Some cluster }
         requires reach { IsInReach self.old.cluster_bits cluster }
-        ensures request { IsTrue self.old.modified → BlockPut self.old (cluster * 2 ^ self.old.cluster_bits) (S.state image.old) (S.state image.new) result }
+        ensures request { IsTrue self.old.modified → BlockPut self.old (cluster * 2 ^ self.old.cluster_bits) (S.state image.old)
+            (S.state image.new) result }
         ensures nothing { self.old.modified ≡ false → IsOk result × (S.state image.new ≡ S.state image.old) }
         ensures ok { OnOk result (self.new ≡ record self.old { modified = false }) }
         ensures err { OnErr result (self.new ≡ record self.old { modified = true }) }
@@ -235,7 +244,8 @@ impl RefBlock {
     fn raise(&mut self, index: usize) -> Result<u64, Fault>
         requires { index < length self.old.counters }
         ensures possible { IsOk result ↔ (slice_index self.old.counters index + 1 < 2 ^ (2 ^ self.old.order)) }
-        ensures raised { IfOk result (λ count. (count ≡ slice_index self.old.counters index + 1) × (self.new ≡ with_counter self.old index (slice_index self.old.counters index + 1))) }
+        ensures raised { IfOk result (λ count. (count ≡ slice_index self.old.counters index + 1)
+            × (self.new ≡ with_counter self.old index (slice_index self.old.counters index + 1))) }
         ensures refused { IfErr result (λ fault. fault ≡ Fault.Counter) }
         ensures stays { OnErr result (self.new ≡ self.old) }
     {
@@ -252,7 +262,8 @@ impl RefBlock {
     fn lower(&mut self, index: usize) -> Result<u64, Fault>
         requires { index < length self.old.counters }
         ensures possible { IsOk result ↔ (0 < slice_index self.old.counters index) }
-        ensures lowered { IfOk result (λ count. (count ≡ slice_index self.old.counters index - 1) × (self.new ≡ with_counter self.old index (slice_index self.old.counters index - 1))) }
+        ensures lowered { IfOk result (λ count. (count ≡ slice_index self.old.counters index - 1)
+            × (self.new ≡ with_counter self.old index (slice_index self.old.counters index - 1))) }
         ensures refused { IfErr result (λ fault. fault ≡ Fault.Counter) }
         ensures stays { OnErr result (self.new ≡ self.old) }
     {
@@ -281,7 +292,8 @@ impl RefBlockWriteGuard<'_> {
     pub fn increment(&mut self, index: usize) -> Result<u64, Fault>
         requires { index < length self.old.block.now.counters }
         ensures possible { IsOk result ↔ (slice_index self.old.block.now.counters index + 1 < 2 ^ (2 ^ self.old.block.now.order)) }
-        ensures raised { IfOk result (λ count. (count ≡ slice_index self.old.block.now.counters index + 1) × (self.new.block.now ≡ with_counter self.old.block.now index (slice_index self.old.block.now.counters index + 1))) }
+        ensures raised { IfOk result (λ count. (count ≡ slice_index self.old.block.now.counters index + 1)
+            × (self.new.block.now ≡ with_counter self.old.block.now index (slice_index self.old.block.now.counters index + 1))) }
         ensures refused { IfErr result (λ fault. fault ≡ Fault.Counter) }
         ensures stays { OnErr result (self.new.block.now ≡ self.old.block.now) }
         ensures same { self.new.block.ghost_name ≡ self.old.block.ghost_name }
@@ -295,7 +307,8 @@ impl RefBlockWriteGuard<'_> {
     pub fn decrement(&mut self, index: usize) -> Result<u64, Fault>
         requires { index < length self.old.block.now.counters }
         ensures possible { IsOk result ↔ (0 < slice_index self.old.block.now.counters index) }
-        ensures lowered { IfOk result (λ count. (count ≡ slice_index self.old.block.now.counters index - 1) × (self.new.block.now ≡ with_counter self.old.block.now index (slice_index self.old.block.now.counters index - 1))) }
+        ensures lowered { IfOk result (λ count. (count ≡ slice_index self.old.block.now.counters index - 1)
+            × (self.new.block.now ≡ with_counter self.old.block.now index (slice_index self.old.block.now.counters index - 1))) }
         ensures refused { IfErr result (λ fault. fault ≡ Fault.Counter) }
         ensures stays { OnErr result (self.new.block.now ≡ self.old.block.now) }
         ensures same { self.new.block.ghost_name ≡ self.old.block.ghost_name }

@@ -46,7 +46,12 @@ pub trait Table: Sized {
         requires long { IsLength Self.InternalEntry.kind (layout_of header.now.fields) (length (Self.InternalEntry.words content.items)) }
         requires sound { AreSound Self.InternalEntry.kind (layout_of header.now.fields) (Self.InternalEntry.words content.items) }
         requires fit { AreFit (Self.InternalEntry.words content.items) }
-        ensures { value result ≡ record { layout = layout_of header.now.fields; words = Self.InternalEntry.words content.items; cluster = None; modified = true } };
+        ensures { value result ≡ record {
+          layout = layout_of header.now.fields;
+          words = Self.InternalEntry.words content.items;
+          cluster = None;
+          modified = true;
+        } };
 
     /// The number of its words.
     fn entries(&self) -> usize
@@ -55,7 +60,8 @@ pub trait Table: Sized {
 
     /// The word at an index, or none past the end.
     fn get_ref(&self, index: usize) -> Option<&Self::InternalEntry>
-        ensures { MatchOption result (length (value self.now).words ≤ index) (λ entry. (index < length (value self.now).words) × (Self.InternalEntry.word entry.now ≡ slice_index (value self.now).words index)) };
+        ensures { MatchOption result (length (value self.now).words ≤ index) (λ entry.
+            (index < length (value self.now).words) × (Self.InternalEntry.word entry.now ≡ slice_index (value self.now).words index)) };
 
     /// The word at an index, or the empty one past the end.
     fn get(&self, index: usize) -> Self::Entry
@@ -95,7 +101,8 @@ pub trait Table: Sized {
     final fn get_offset(&self) -> Option<HostOffset>
         requires { table_place (value self.now) < 2 ^ 64 }
         ensures none { (value self.now).cluster ≡ None → result ≡ None }
-        ensures some { (cluster : ℕ) → (value self.now).cluster ≡ Some cluster → result ≡ Some (cluster * 2 ^ (value self.now).layout.cluster_bits) }
+        ensures some { (cluster : ℕ) → (value self.now).cluster ≡ Some cluster
+            → result ≡ Some (cluster * 2 ^ (value self.now).layout.cluster_bits) }
     {
         match self.get_cluster() {
             Some(cluster) => Some(cluster.offset(self.cluster_bits())),
@@ -112,7 +119,8 @@ pub trait Table: Sized {
 
     /// The clusters that its words take, of which the last may be filled in part.
     final fn cluster_count(&self) -> ClusterCount
-        ensures { result ≡ (8 * length (value self.now).words + (2 ^ (value self.now).layout.cluster_bits - 1)) / 2 ^ (value self.now).layout.cluster_bits }
+        ensures { result ≡ (8 * length (value self.now).words + (2 ^ (value self.now).layout.cluster_bits - 1)) / 2 ^ (value
+            self.now).layout.cluster_bits }
     {
         ClusterCount::from_byte_size(self.byte_size() as u64, self.cluster_bits())
     }
@@ -133,8 +141,11 @@ pub trait Table: Sized {
         requires reach { IsInReach header.now.fields.cluster_bits cluster }
         requires asked { IsAsked Self.InternalEntry.kind header.now.fields entries }
         ensures ok { IfOk result (λ table. value table ≡ table_in (bytes_of (S.state image.old).bytes) header.now.fields cluster entries) }
-        ensures sound { OnOk result (AreSound Self.InternalEntry.kind (layout_of header.now.fields) (words_in (bytes_of (S.state image.old).bytes) (cluster * cluster_size header.now.fields) entries)) }
-        ensures err { IfErr result (WhyNotLoaded Self.InternalEntry.kind (layout_of header.now.fields) (words_in (bytes_of (S.state image.old).bytes) (cluster * cluster_size header.now.fields) entries) (S.state image.old).faults (S.state image.new).faults) }
+        ensures sound { OnOk result (AreSound Self.InternalEntry.kind (layout_of header.now.fields)
+            (words_in (bytes_of (S.state image.old).bytes) (cluster * cluster_size header.now.fields) entries)) }
+        ensures err { IfErr result (WhyNotLoaded Self.InternalEntry.kind (layout_of header.now.fields)
+            (words_in (bytes_of (S.state image.old).bytes) (cluster * cluster_size header.now.fields) entries) (S.state image.old).faults
+            (S.state image.new).faults) }
         ensures limit { MAX_ENTRIES < entries → IsErrOf result (Fault.Limit entries) × (S.state image.new ≡ S.state image.old) }
         ensures kept { Kept (S.state image.old) (S.state image.new) }
         ensures faults { OnOk result ((S.state image.new).faults ≡ (S.state image.old).faults) }
@@ -160,10 +171,13 @@ pub trait Table: Sized {
     /// file old or new.
     final fn write<S: Storage>(&mut self, alloc: Global, image: &mut S) -> Result<(), Fault>
         requires { IsPlacedTable (value self.old) }
-        ensures request { Put (S.state image.old) (S.state image.new) (table_place (value self.old)) (table_bytes (value self.old).words) result }
+        ensures request { Put (S.state image.old) (S.state image.new) (table_place (value self.old))
+            (table_bytes (value self.old).words) result }
         // Where the storage's unit allows it, it is one request; and so is a table that fills one cluster, at every alignment.
-        ensures at_once { IsAtOnce (unit_of (S.state image.old).shape) (table_place (value self.old)) (8 * length (value self.old).words) → PutAtOnce (S.state image.old) (S.state image.new) (table_place (value self.old)) (table_bytes (value self.old).words) result }
-        ensures once { 8 * length (value self.old).words ≡ 2 ^ (value self.old).layout.cluster_bits → PutAtOnce (S.state image.old) (S.state image.new) (table_place (value self.old)) (table_bytes (value self.old).words) result }
+        ensures at_once { IsAtOnce (unit_of (S.state image.old).shape) (table_place (value self.old)) (8 * length (value self.old).words)
+            → PutAtOnce (S.state image.old) (S.state image.new) (table_place (value self.old)) (table_bytes (value self.old).words) result }
+        ensures once { 8 * length (value self.old).words ≡ 2 ^ (value self.old).layout.cluster_bits
+            → PutAtOnce (S.state image.old) (S.state image.new) (table_place (value self.old)) (table_bytes (value self.old).words) result }
         ensures ok { OnOk result (value self.new ≡ record (value self.old) { modified = false }) }
         ensures err { OnErr result (value self.new ≡ record (value self.old) { modified = true }) }
     {
@@ -188,7 +202,8 @@ pub trait Table: Sized {
     ) -> Result<(), Fault>
         requires bounds { index < length (value self.old).words }
         requires placed { IsPlacedTable (value self.old) }
-        ensures request { PutAtOnce (S.state image.old) (S.state image.new) (table_place (value self.old) + 8 * index) (to_be_bytes w64 (slice_index (value self.old).words index)) result }
+        ensures request { PutAtOnce (S.state image.old) (S.state image.new) (table_place (value self.old) + 8 * index)
+            (to_be_bytes w64 (slice_index (value self.old).words index)) result }
         ensures ok { OnOk result (value self.new ≡ value self.old) }
         ensures err { OnErr result (value self.new ≡ record (value self.old) { modified = true }) }
     {
@@ -207,7 +222,8 @@ fn entries_in<E: TableEntry>(alloc: Global, bytes: &[u8], header: &Header) -> Re
     ensures words { IfOk result (λ entries. E.words entries.items ≡ words_in (bytes_of bytes.now) 0 (length bytes.now / 8)) }
     ensures sound { OnOk result (AreSound E.kind (layout_of header.now.fields) (words_in (bytes_of bytes.now) 0 (length bytes.now / 8))) }
     ensures fit { OnOk result (AreFit (words_in (bytes_of bytes.now) 0 (length bytes.now / 8))) }
-    ensures refused { IfErr result (WhyNotDecoded E.kind (layout_of header.now.fields) (words_in (bytes_of bytes.now) 0 (length bytes.now / 8))) }
+    ensures refused { IfErr result (WhyNotDecoded E.kind (layout_of header.now.fields)
+        (words_in (bytes_of bytes.now) 0 (length bytes.now / 8))) }
 {
     let mut entries = Vec::new(alloc);
     for index in 0..bytes.len() / 8 {
@@ -230,10 +246,14 @@ fn load_entries<E: TableEntry, S: Storage>(
 ) -> Result<Vec<E>, Fault>
     requires reach { IsInReach header.now.fields.cluster_bits cluster }
     requires few { entries ≤ max_entries E.kind }
-    ensures words { IfOk result (λ content. E.words content.items ≡ words_in (bytes_of (S.state image.old).bytes) (cluster * cluster_size header.now.fields) entries) }
-    ensures sound { OnOk result (AreSound E.kind (layout_of header.now.fields) (words_in (bytes_of (S.state image.old).bytes) (cluster * cluster_size header.now.fields) entries)) }
+    ensures words { IfOk result (λ content. E.words content.items
+        ≡ words_in (bytes_of (S.state image.old).bytes) (cluster * cluster_size header.now.fields) entries) }
+    ensures sound { OnOk result (AreSound E.kind (layout_of header.now.fields)
+        (words_in (bytes_of (S.state image.old).bytes) (cluster * cluster_size header.now.fields) entries)) }
     ensures fit { OnOk result (AreFit (words_in (bytes_of (S.state image.old).bytes) (cluster * cluster_size header.now.fields) entries)) }
-    ensures refused { IfErr result (WhyNotLoaded E.kind (layout_of header.now.fields) (words_in (bytes_of (S.state image.old).bytes) (cluster * cluster_size header.now.fields) entries) (S.state image.old).faults (S.state image.new).faults) }
+    ensures refused { IfErr result (WhyNotLoaded E.kind (layout_of header.now.fields)
+        (words_in (bytes_of (S.state image.old).bytes) (cluster * cluster_size header.now.fields) entries) (S.state image.old).faults
+        (S.state image.new).faults) }
     ensures kept { Kept (S.state image.old) (S.state image.new) }
     ensures faults { OnOk result ((S.state image.new).faults ≡ (S.state image.old).faults) }
     ensures shaped { Shaped header.now.fields }
@@ -310,9 +330,14 @@ fn bytes_in<T: Table>(alloc: Global, table: &T) -> Result<Vec<u8>, Fault>
 /// Writes a table's bytes to its place.
 fn put_table<T: Table, S: Storage>(alloc: Global, table: &T, image: &mut S) -> Result<(), Fault>
     requires { IsPlacedTable (T.value table.now) }
-    ensures request { Put (S.state image.old) (S.state image.new) (table_place (T.value table.now)) (table_bytes (T.value table.now).words) result }
-    ensures at_once { IsAtOnce (unit_of (S.state image.old).shape) (table_place (T.value table.now)) (8 * length (T.value table.now).words) → PutAtOnce (S.state image.old) (S.state image.new) (table_place (T.value table.now)) (table_bytes (T.value table.now).words) result }
-    ensures once { 8 * length (T.value table.now).words ≡ 2 ^ (T.value table.now).layout.cluster_bits → PutAtOnce (S.state image.old) (S.state image.new) (table_place (T.value table.now)) (table_bytes (T.value table.now).words) result }
+    ensures request { Put (S.state image.old) (S.state image.new) (table_place (T.value table.now))
+        (table_bytes (T.value table.now).words) result }
+    ensures at_once { IsAtOnce (unit_of (S.state image.old).shape) (table_place (T.value table.now)) (8 * length (T.value table.now).words)
+        → PutAtOnce (S.state image.old) (S.state image.new) (table_place (T.value table.now))
+        (table_bytes (T.value table.now).words) result }
+    ensures once { 8 * length (T.value table.now).words ≡ 2 ^ (T.value table.now).layout.cluster_bits
+        → PutAtOnce (S.state image.old) (S.state image.new) (table_place (T.value table.now))
+        (table_bytes (T.value table.now).words) result }
 {
     let bytes = match bytes_in(alloc, table) {
         Ok(bytes) => bytes,
@@ -331,7 +356,8 @@ fn put_word<T: Table, S: Storage>(
 ) -> Result<(), Fault>
     requires bounds { index < length (T.value table.now).words }
     requires placed { IsPlacedTable (T.value table.now) }
-    ensures { PutAtOnce (S.state image.old) (S.state image.new) (table_place (T.value table.now) + 8 * index) (to_be_bytes w64 (slice_index (T.value table.now).words index)) result }
+    ensures { PutAtOnce (S.state image.old) (S.state image.new) (table_place (T.value table.now) + 8 * index)
+        (to_be_bytes w64 (slice_index (T.value table.now).words index)) result }
 {
     let word = table.get(index).to_plain();
     let place = first_byte(table) + 8 * index as u64;

@@ -16,10 +16,14 @@ use crate::{
 /// the disk and its tables keep the limits on sizes and places.
 pub fn loaded_header_is_within_limits()
     ensures magic { (writing : Bool) (f : Bytes) (h : Header) → header_of writing f ≡ Ok h → be f 0 4 ≡ MAGIC }
-    ensures least_cluster { (writing : Bool) (f : Bytes) (h : Header) → header_of writing f ≡ Ok h → MIN_CLUSTER_SIZE ≤ cluster_size h.fields }
-    ensures greatest_cluster { (writing : Bool) (f : Bytes) (h : Header) → header_of writing f ≡ Ok h → cluster_size h.fields ≤ MAX_CLUSTER_SIZE }
-    ensures least_width { (writing : Bool) (f : Bytes) (h : Header) → header_of writing f ≡ Ok h → MIN_REFCOUNT_WIDTH ≤ counter_bits h.fields }
-    ensures greatest_width { (writing : Bool) (f : Bytes) (h : Header) → header_of writing f ≡ Ok h → counter_bits h.fields ≤ MAX_REFCOUNT_WIDTH }
+    ensures least_cluster { (writing : Bool) (f : Bytes) (h : Header) → header_of writing f ≡ Ok h
+        → MIN_CLUSTER_SIZE ≤ cluster_size h.fields }
+    ensures greatest_cluster { (writing : Bool) (f : Bytes) (h : Header) → header_of writing f ≡ Ok h
+        → cluster_size h.fields ≤ MAX_CLUSTER_SIZE }
+    ensures least_width { (writing : Bool) (f : Bytes) (h : Header) → header_of writing f ≡ Ok h
+        → MIN_REFCOUNT_WIDTH ≤ counter_bits h.fields }
+    ensures greatest_width { (writing : Bool) (f : Bytes) (h : Header) → header_of writing f ≡ Ok h
+        → counter_bits h.fields ≤ MAX_REFCOUNT_WIDTH }
     // The sizes of the disk and of the tables, and the tables' places.
     ensures limited { (writing : Bool) (f : Bytes) (h : Header) → header_of writing f ≡ Ok h → Limited h.fields }
 {}

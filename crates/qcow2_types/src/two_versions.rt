@@ -22,16 +22,19 @@ pub fn a_file_between_two_versions()
     ensures marks { (f x g : Bytes) (h : Fields) → IsBetween f x g h → (c : ℕ) → contents x h (of_copied h (meets h c)) ≤ copied f g h c }
     ensures falls { (f x g : Bytes) (h : Fields) (c : ℕ) → IsBetween f x g h → named x g h c ≤ named f g h c }
     ensures apart { (f x g : Bytes) (h : Fields) → IsBetween f x g h → NamedApart f g h → NamedApart x g h }
-    ensures shows { (f x g external : Bytes) (h : Fields) → ((guest : ℕ) → ShowsAs x f h guest ⊎ ShowsAs x g h guest) → (p : ℕ) (below : Value)
+    ensures shows { (f x g external : Bytes) (h : Fields) → ((guest : ℕ) → ShowsAs x f h guest ⊎ ShowsAs x g h guest)
+        → (p : ℕ) (below : Value)
         → (shown x external h p below ≡ shown f external h p below) ⊎ (shown x external h p below ≡ shown g external h p below) }
-    ensures clean { (f g : Bytes) (h : Fields) (c : ℕ) → ((i j : ℕ) → Live (l2_table f h) h i j → slot g h i j ≡ slot f h i j) → named f g h c ≡ refs f h c }
+    ensures clean { (f g : Bytes) (h : Fields) (c : ℕ) → ((i j : ℕ) → Live (l2_table f h) h i j → slot g h i j ≡ slot f h i j)
+        → named f g h c ≡ refs f h c }
 {}
 
 /// Where one word in memory changes, what the two versions name changes by what the word names in either, and what the words in
 /// memory name by what it named and names.
 pub fn changing_a_word_in_memory()
     ensures either { (f g new : Bytes) (h : Fields) (i j c : ℕ) → ChangesSlot f g new h i j
-        → named f new h c + of_either h (meets h c) (slot f h i j) (slot g h i j) ≡ named f g h c + of_either h (meets h c) (slot f h i j) (slot new h i j) }
+        → named f new h c + of_either h (meets h c) (slot f h i j) (slot g h i j)
+        ≡ named f g h c + of_either h (meets h c) (slot f h i j) (slot new h i j) }
     ensures memory { (f g new : Bytes) (h : Fields) (i j c : ℕ) → SamePlaces f g h → SamePlaces f new h → ChangesSlot f g new h i j
         → refs new h c + of_mapping h (meets h c) (slot g h i j) ≡ refs g h c + of_mapping h (meets h c) (slot new h i j) }
 {}
@@ -40,12 +43,15 @@ pub fn changing_a_word_in_memory()
 /// time. While tables go first, a table is written at any time, and blocks once no word differs. While no order is set both hold, and
 /// tables and blocks are written at any time. x is the file after the write.
 pub fn writing_in_order()
-    ensures table_after_blocks { (f x g : Bytes) (h : Fields) → BlocksFirst f g h → ((c : ℕ) → count g h c ≡ count f h c) → IsBetween f x g h
+    ensures table_after_blocks { (f x g : Bytes) (h : Fields) → BlocksFirst f g h → ((c : ℕ) → count g h c ≡ count f h c)
+        → IsBetween f x g h
         → ((c : ℕ) → count x h c ≡ count f h c) → BlocksFirst x g h }
     ensures block_before_tables { (f x g : Bytes) (h : Fields) → BlocksFirst f g h → KeepsSlots f x h
         → ((c : ℕ) → (count x h c ≡ count f h c) ⊎ (count x h c ≡ count g h c)) → BlocksFirst x g h }
-    ensures table_before_blocks { (f x g : Bytes) (h : Fields) → TablesFirst f g h → IsBetween f x g h → ((c : ℕ) → count x h c ≡ count f h c) → TablesFirst x g h }
-    ensures block_after_tables { (f x g : Bytes) (h : Fields) → TablesFirst f g h → KeepsSlots f g h → ((c : ℕ) → refs g h c ≤ count g h c) → KeepsSlots f x h
+    ensures table_before_blocks { (f x g : Bytes) (h : Fields) → TablesFirst f g h → IsBetween f x g h
+        → ((c : ℕ) → count x h c ≡ count f h c) → TablesFirst x g h }
+    ensures block_after_tables { (f x g : Bytes) (h : Fields) → TablesFirst f g h → KeepsSlots f g h → ((c : ℕ) → refs g h c ≤ count g h c)
+        → KeepsSlots f x h
         → ((c : ℕ) → (count x h c ≡ count f h c) ⊎ (count x h c ≡ count g h c)) → TablesFirst x g h }
     ensures table_without_order { (f x g : Bytes) (h : Fields) → BlocksFirst f g h → TablesFirst f g h → IsBetween f x g h
         → ((c : ℕ) → count x h c ≡ count f h c) → BlocksFirst x g h }
@@ -57,5 +63,6 @@ pub fn writing_in_order()
 /// memory cover what the words there name.
 pub fn changing_the_order()
     ensures tables_first { (f g : Bytes) (h : Fields) → BlocksFirst f g h → ((c : ℕ) → count g h c ≡ count f h c) → TablesFirst f g h }
-    ensures blocks_first { (f g : Bytes) (h : Fields) → TablesFirst f g h → KeepsSlots f g h → ((c : ℕ) → refs g h c ≤ count g h c) → BlocksFirst f g h }
+    ensures blocks_first { (f g : Bytes) (h : Fields) → TablesFirst f g h → KeepsSlots f g h → ((c : ℕ) → refs g h c ≤ count g h c)
+        → BlocksFirst f g h }
 {}

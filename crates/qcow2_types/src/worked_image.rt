@@ -23,9 +23,11 @@ pub fn is_consistent()
 
 /// Its tables: where guest clusters 0, 1, 2 and 64 are, and how often host clusters 0 to 7 are counted and named.
 pub fn tables()
-    ensures entries { map (entry (of_pieces image) image_fields) (0 ∷ 1 ∷ 2 ∷ 64 ∷ []) ≡ data_at 5 true ∷ data_at 6 true ∷ unmapped ∷ unmapped ∷ [] }
+    ensures entries { map (entry (of_pieces image) image_fields) (0 ∷ 1 ∷ 2 ∷ 64 ∷ [])
+        ≡ data_at 5 true ∷ data_at 6 true ∷ unmapped ∷ unmapped ∷ [] }
     ensures counts { map (count (of_pieces image) image_fields) (0 ∷ 1 ∷ 2 ∷ 3 ∷ 4 ∷ 5 ∷ 6 ∷ 7 ∷ []) ≡ 1 ∷ 1 ∷ 1 ∷ 1 ∷ 1 ∷ 1 ∷ 1 ∷ 0 ∷ [] }
-    ensures references { map (refs (of_pieces image) image_fields) (0 ∷ 1 ∷ 2 ∷ 3 ∷ 4 ∷ 5 ∷ 6 ∷ 7 ∷ []) ≡ 1 ∷ 1 ∷ 1 ∷ 1 ∷ 1 ∷ 1 ∷ 1 ∷ 0 ∷ [] }
+    ensures references { map (refs (of_pieces image) image_fields) (0 ∷ 1 ∷ 2 ∷ 3 ∷ 4 ∷ 5 ∷ 6 ∷ 7 ∷ [])
+        ≡ 1 ∷ 1 ∷ 1 ∷ 1 ∷ 1 ∷ 1 ∷ 1 ∷ 0 ∷ [] }
 {}
 
 /// What the guest sees at 508 to 515, over a raw file of one byte, and where a word is compressed.
@@ -46,7 +48,10 @@ pub fn under_counted_cluster()
 pub fn changed_counts_and_words()
     ensures false_copied { IsVerdict (with_bytes 2056 (128 ∷ 0 ∷ 0 ∷ 0 ∷ 0 ∷ 0 ∷ 10 ∷ 0 ∷ [])) (Err (false_copied 5)) }
     ensures counted_only { IsVerdict (with_bytes 1042 (0 ∷ 1 ∷ [])) (Ok ((9, 1) ∷ [])) }
-    ensures shared { IsVerdict (of_pieces ((2048, 0 ∷ 0 ∷ 0 ∷ 0 ∷ 0 ∷ 0 ∷ 10 ∷ 0 ∷ 0 ∷ 0 ∷ 0 ∷ 0 ∷ 0 ∷ 0 ∷ 10 ∷ 0 ∷ []) ∷ (1034, 0 ∷ 2 ∷ []) ∷ image)) (Ok ((6, 1) ∷ [])) }
+    ensures shared { IsVerdict (of_pieces ((2048, 0 ∷ 0 ∷ 0 ∷ 0 ∷ 0 ∷ 0 ∷ 10 ∷ 0 ∷ 0 ∷ 0 ∷ 0 ∷ 0 ∷ 0 ∷ 0 ∷ 10 ∷ 0 ∷ []) ∷ (
+      1034,
+      0 ∷ 2 ∷ [],
+    ) ∷ image)) (Ok ((6, 1) ∷ [])) }
     ensures compressed { IsVerdict (with_bytes 2048 (64 ∷ 0 ∷ 0 ∷ 0 ∷ 0 ∷ 0 ∷ 10 ∷ 0 ∷ [])) (Ok []) }
 {}
 
@@ -64,8 +69,10 @@ pub fn changed_structure()
 pub fn loaded_headers()
     ensures newer { header_of true (of_pieces image) ≡ Ok image_header }
     ensures older { header_of true (with_bytes 4 (0 ∷ 0 ∷ 0 ∷ 2 ∷ [])) ≡ Ok older_header }
-    ensures older_entries { map (entry (with_bytes 4 (0 ∷ 0 ∷ 0 ∷ 2 ∷ [])) older_fields) (0 ∷ 1 ∷ 2 ∷ 64 ∷ []) ≡ data_at 5 true ∷ data_at 6 true ∷ unmapped ∷ unmapped ∷ [] }
-    ensures older_bytes { map (at (qcow2 (with_bytes 4 (0 ∷ 0 ∷ 0 ∷ 2 ∷ [])) (λ _. 0) ∷ [])) (508 ∷ 509 ∷ 510 ∷ 511 ∷ 512 ∷ 513 ∷ 514 ∷ 515 ∷ []) ≡ written_bytes }
+    ensures older_entries { map (entry (with_bytes 4 (0 ∷ 0 ∷ 0 ∷ 2 ∷ [])) older_fields) (0 ∷ 1 ∷ 2 ∷ 64 ∷ [])
+        ≡ data_at 5 true ∷ data_at 6 true ∷ unmapped ∷ unmapped ∷ [] }
+    ensures older_bytes { map (at (qcow2 (with_bytes 4 (0 ∷ 0 ∷ 0 ∷ 2 ∷ [])) (λ _. 0) ∷ []))
+        (508 ∷ 509 ∷ 510 ∷ 511 ∷ 512 ∷ 513 ∷ 514 ∷ 515 ∷ []) ≡ written_bytes }
     ensures dirty_read { header_of false (with_bytes 79 (1 ∷ [])) ≡ Ok (header_with_features 1) }
     ensures dirty_written { header_of true (with_bytes 79 (1 ∷ [])) ≡ Err Unsupported }
 {}
@@ -89,26 +96,35 @@ pub fn other_words()
     ensures unmapped_alone { at (qcow2 (with_bytes 2048 (0 ∷ 0 ∷ 0 ∷ 0 ∷ 0 ∷ 0 ∷ 0 ∷ 0 ∷ [])) (λ _. 0) ∷ []) 0 ≡ byte 0 }
     ensures zero { at (qcow2 (with_bytes 2048 (0 ∷ 0 ∷ 0 ∷ 0 ∷ 0 ∷ 0 ∷ 0 ∷ 1 ∷ [])) (λ _. 0) ∷ raw (9 ∷ []) ∷ []) 0 ≡ byte 0 }
     ensures zero_entry { entry (with_bytes 2048 (0 ∷ 0 ∷ 0 ∷ 0 ∷ 0 ∷ 0 ∷ 0 ∷ 1 ∷ [])) image_fields 0 ≡ zeroes None false }
-    ensures older_zero { entry (of_pieces ((4, 0 ∷ 0 ∷ 0 ∷ 2 ∷ []) ∷ (2048, 0 ∷ 0 ∷ 0 ∷ 0 ∷ 0 ∷ 0 ∷ 0 ∷ 1 ∷ []) ∷ image)) older_fields 0 ≡ damaged }
+    ensures older_zero { entry (of_pieces ((4, 0 ∷ 0 ∷ 0 ∷ 2 ∷ []) ∷ (2048, 0 ∷ 0 ∷ 0 ∷ 0 ∷ 0 ∷ 0 ∷ 0 ∷ 1 ∷ []) ∷ image)) older_fields
+        0 ≡ damaged }
     ensures compressed { entry (with_bytes 2048 (96 ∷ 0 ∷ 0 ∷ 0 ∷ 0 ∷ 0 ∷ 10 ∷ 1 ∷ [])) image_fields 0 ≡ packed 2561 1023 }
 {}
 
 /// Counters of whole bytes: of 8, 32 and 64 bits.
 pub fn wide_counters()
-    ensures eight_bits { map (count (with_bytes 1024 (1 ∷ 2 ∷ 3 ∷ 4 ∷ 5 ∷ 6 ∷ 255 ∷ 0 ∷ 0 ∷ 0 ∷ 0 ∷ 0 ∷ 0 ∷ 0 ∷ [])) (fields_with_order 3)) (0 ∷ 1 ∷ 6 ∷ 7 ∷ 8 ∷ []) ≡ 1 ∷ 2 ∷ 255 ∷ 0 ∷ 0 ∷ [] }
-    ensures bits_32 { map (count (with_bytes 1024 (0 ∷ 0 ∷ 0 ∷ 1 ∷ 1 ∷ 0 ∷ 0 ∷ 2 ∷ 0 ∷ 0 ∷ 0 ∷ 0 ∷ 0 ∷ 0 ∷ 0 ∷ 0 ∷ [])) (fields_with_order 5)) (0 ∷ 1 ∷ 2 ∷ []) ≡ 1 ∷ 16777218 ∷ 0 ∷ [] }
-    ensures bits_64 { map (count (with_bytes 1024 (0 ∷ 0 ∷ 0 ∷ 0 ∷ 0 ∷ 0 ∷ 0 ∷ 1 ∷ 0 ∷ 0 ∷ 0 ∷ 1 ∷ 0 ∷ 0 ∷ 0 ∷ 2 ∷ [])) (fields_with_order 6)) (0 ∷ 1 ∷ 2 ∷ []) ≡ 1 ∷ 4294967298 ∷ 0 ∷ [] }
+    ensures eight_bits { map (count (with_bytes 1024 (1 ∷ 2 ∷ 3 ∷ 4 ∷ 5 ∷ 6 ∷ 255 ∷ 0 ∷ 0 ∷ 0 ∷ 0 ∷ 0 ∷ 0 ∷ 0 ∷ [])) (fields_with_order 3))
+        (0 ∷ 1 ∷ 6 ∷ 7 ∷ 8 ∷ []) ≡ 1 ∷ 2 ∷ 255 ∷ 0 ∷ 0 ∷ [] }
+    ensures bits_32 { map (count (with_bytes 1024 (0 ∷ 0 ∷ 0 ∷ 1 ∷ 1 ∷ 0 ∷ 0 ∷ 2 ∷ 0 ∷ 0 ∷ 0 ∷ 0 ∷ 0 ∷ 0 ∷ 0 ∷ 0 ∷ []))
+        (fields_with_order 5)) (0 ∷ 1 ∷ 2 ∷ []) ≡ 1 ∷ 16777218 ∷ 0 ∷ [] }
+    ensures bits_64 { map (count (with_bytes 1024 (0 ∷ 0 ∷ 0 ∷ 0 ∷ 0 ∷ 0 ∷ 0 ∷ 1 ∷ 0 ∷ 0 ∷ 0 ∷ 1 ∷ 0 ∷ 0 ∷ 0 ∷ 2 ∷ []))
+        (fields_with_order 6)) (0 ∷ 1 ∷ 2 ∷ []) ≡ 1 ∷ 4294967298 ∷ 0 ∷ [] }
 {}
 
 /// Counters of one, two and four bits, which share bytes.
 pub fn narrow_counters()
-    ensures one_bit { map (count (with_bytes 1024 (127 ∷ 0 ∷ 0 ∷ 0 ∷ 0 ∷ 0 ∷ 0 ∷ 0 ∷ 0 ∷ 0 ∷ 0 ∷ 0 ∷ 0 ∷ 0 ∷ [])) (fields_with_order 0)) (0 ∷ 1 ∷ 6 ∷ 7 ∷ 8 ∷ []) ≡ 1 ∷ 1 ∷ 1 ∷ 0 ∷ 0 ∷ [] }
-    ensures two_bits { map (count (with_bytes 1024 (85 ∷ 21 ∷ 0 ∷ 0 ∷ 0 ∷ 0 ∷ 0 ∷ 0 ∷ 0 ∷ 0 ∷ 0 ∷ 0 ∷ 0 ∷ 0 ∷ [])) (fields_with_order 1)) (0 ∷ 1 ∷ 6 ∷ 7 ∷ 8 ∷ []) ≡ 1 ∷ 1 ∷ 1 ∷ 0 ∷ 0 ∷ [] }
-    ensures four_bits { map (count (with_bytes 1024 (17 ∷ 17 ∷ 17 ∷ 1 ∷ 0 ∷ 0 ∷ 0 ∷ 0 ∷ 0 ∷ 0 ∷ 0 ∷ 0 ∷ 0 ∷ 0 ∷ [])) (fields_with_order 2)) (0 ∷ 1 ∷ 6 ∷ 7 ∷ 8 ∷ []) ≡ 1 ∷ 1 ∷ 1 ∷ 0 ∷ 0 ∷ [] }
+    ensures one_bit { map (count (with_bytes 1024 (127 ∷ 0 ∷ 0 ∷ 0 ∷ 0 ∷ 0 ∷ 0 ∷ 0 ∷ 0 ∷ 0 ∷ 0 ∷ 0 ∷ 0 ∷ 0 ∷ [])) (fields_with_order 0))
+        (0 ∷ 1 ∷ 6 ∷ 7 ∷ 8 ∷ []) ≡ 1 ∷ 1 ∷ 1 ∷ 0 ∷ 0 ∷ [] }
+    ensures two_bits { map (count (with_bytes 1024 (85 ∷ 21 ∷ 0 ∷ 0 ∷ 0 ∷ 0 ∷ 0 ∷ 0 ∷ 0 ∷ 0 ∷ 0 ∷ 0 ∷ 0 ∷ 0 ∷ [])) (fields_with_order 1))
+        (0 ∷ 1 ∷ 6 ∷ 7 ∷ 8 ∷ []) ≡ 1 ∷ 1 ∷ 1 ∷ 0 ∷ 0 ∷ [] }
+    ensures four_bits { map (count (with_bytes 1024 (17 ∷ 17 ∷ 17 ∷ 1 ∷ 0 ∷ 0 ∷ 0 ∷ 0 ∷ 0 ∷ 0 ∷ 0 ∷ 0 ∷ 0 ∷ 0 ∷ [])) (fields_with_order 2))
+        (0 ∷ 1 ∷ 6 ∷ 7 ∷ 8 ∷ []) ≡ 1 ∷ 1 ∷ 1 ∷ 0 ∷ 0 ∷ [] }
 {}
 
 /// How often clusters 5, 6 and 7 are named where a compressed range begins with the last byte of cluster 5.
 pub fn compressed_ranges()
-    ensures one_sector { map (refs (with_bytes 2048 (64 ∷ 0 ∷ 0 ∷ 0 ∷ 0 ∷ 0 ∷ 11 ∷ 255 ∷ [])) image_fields) (5 ∷ 6 ∷ 7 ∷ []) ≡ 1 ∷ 1 ∷ 0 ∷ [] }
-    ensures two_sectors { map (refs (with_bytes 2048 (96 ∷ 0 ∷ 0 ∷ 0 ∷ 0 ∷ 0 ∷ 11 ∷ 255 ∷ [])) image_fields) (5 ∷ 6 ∷ 7 ∷ []) ≡ 1 ∷ 2 ∷ 0 ∷ [] }
+    ensures one_sector { map (refs (with_bytes 2048 (64 ∷ 0 ∷ 0 ∷ 0 ∷ 0 ∷ 0 ∷ 11 ∷ 255 ∷ [])) image_fields) (5 ∷ 6 ∷ 7 ∷ [])
+        ≡ 1 ∷ 1 ∷ 0 ∷ [] }
+    ensures two_sectors { map (refs (with_bytes 2048 (96 ∷ 0 ∷ 0 ∷ 0 ∷ 0 ∷ 0 ∷ 11 ∷ 255 ∷ [])) image_fields) (5 ∷ 6 ∷ 7 ∷ [])
+        ≡ 1 ∷ 2 ∷ 0 ∷ [] }
 {}

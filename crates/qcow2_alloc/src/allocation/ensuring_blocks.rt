@@ -28,8 +28,10 @@ impl Allocator {
         ensures makes { (pending : List FreeEntry)
             → MakesBlocks S.state first end (lent (table_of self.old) caches.old file.old pending) result
             (lent (table_of self.new) caches.new file.new pending) }
-        ensures fills { (pending : List FreeEntry) → order_of caches.old ≡ L2DependsOnRb → IsTrue (S.state file.old.image).shape.keeps → IsSound (metadata_of S.state file.old caches.old (table_of self.old) pending)
-            → OnOk result (FillsFrom (mark_of self.old) first end (metadata_of S.state file.old caches.old (table_of self.old) pending) (metadata_of S.state file.new caches.new (table_of self.new) pending)) }
+        ensures fills { (pending : List FreeEntry) → order_of caches.old ≡ L2DependsOnRb → IsTrue (S.state file.old.image).shape.keeps
+            → IsSound (metadata_of S.state file.old caches.old (table_of self.old) pending)
+            → OnOk result (FillsFrom (mark_of self.old) first end (metadata_of S.state file.old caches.old (table_of self.old) pending)
+            (metadata_of S.state file.new caches.new (table_of self.new) pending)) }
         ensures mark { mark_of self.new ≡ mark_of self.old }
     {
         let mut made = false;

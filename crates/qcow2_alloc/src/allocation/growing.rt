@@ -43,8 +43,10 @@ impl Allocator {
         requires near { from ≤ length (table_of self.now).words * counters_of_block file.old.header.fields }
         requires few { clusters ≤ 2 ^ 24 }
         ensures looks { LooksForRoom S.state (table_of self.now) from clusters caches.old file.old result caches.new file.new }
-        ensures within { IfOk result (λ room. (room.first ≤ length (table_of self.now).words * counters_of_block file.old.header.fields) × (room.len ≤ 2 * clusters + 4)) }
-        ensures enough { IfOk result (λ room. room.len ≡ clusters + lacking (table_of self.now) (counters_of_block file.old.header.fields) room.first room.len) }
+        ensures within { IfOk result (λ room. (room.first ≤ length (table_of self.now).words * counters_of_block file.old.header.fields)
+            × (room.len ≤ 2 * clusters + 4)) }
+        ensures enough { IfOk result (λ room. room.len
+            ≡ clusters + lacking (table_of self.now) (counters_of_block file.old.header.fields) room.first room.len) }
     {
         let _words = self.reftable.entries();
         let rb_bits = file.header.rb_bits();

@@ -52,7 +52,8 @@ impl Allocator {
         list: &mut ClustersToFreeList,
         mut copy: RefTable,
     ) -> Result<(), Fault>
-        requires grown { (at : ℕ) × (length (table_of self.old).words ≤ at) × IsGrownFor file.old.header.fields (table_of self.old) at copy }
+        requires grown { (at : ℕ) × (length (table_of self.old).words ≤ at)
+            × IsGrownFor file.old.header.fields (table_of self.old) at copy }
         requires held { 0 < list.old.held }
         ensures grows { (at : ℕ) → IsGrownFor file.old.header.fields (table_of self.old) at copy
             → GrowsTable S.state (mark_of self.old) at (seen self.old caches.old file.old list.old) result
@@ -143,7 +144,8 @@ impl Allocator {
     fn place_copy(&self, copy: &mut RefTable, header: &Header, room: Run) -> Result<(), Fault>
         requires copy { IsCopyFor header.now.fields (table_of self.now) room copy.old }
         requires fits { room.first + room.len + 2 ^ 24 < 2 ^ 64 }
-        ensures ok { OnOk result (IsPlan header.now.fields (table_of self.now) room copy.new × (length copy.new.words ≡ length copy.old.words)) }
+        ensures ok { OnOk result (IsPlan header.now.fields (table_of self.now) room copy.new
+            × (length copy.new.words ≡ length copy.old.words)) }
         ensures err { IfErr result (WhyNotPlaced header.now.fields (table_of self.now) room copy.old) }
     {
         let rb_bits = header.rb_bits();

@@ -42,8 +42,10 @@ impl Allocator {
         ensures makes { (pending : List FreeEntry)
             → MakesBlock S.state index (lent (table_of self.old) caches.old file.old pending) result
             (lent (table_of self.new) caches.new file.new pending) }
-        ensures placed { (pending : List FreeEntry) → order_of caches.old ≡ L2DependsOnRb → IsTrue (S.state file.old.image).shape.keeps → IsSound (metadata_of S.state file.old caches.old (table_of self.old) pending)
-            → OnOk result (IsBlockPlaced (mark_of self.old) index (metadata_of S.state file.old caches.old (table_of self.old) pending) (metadata_of S.state file.new caches.new (table_of self.new) pending)) }
+        ensures placed { (pending : List FreeEntry) → order_of caches.old ≡ L2DependsOnRb → IsTrue (S.state file.old.image).shape.keeps
+            → IsSound (metadata_of S.state file.old caches.old (table_of self.old) pending)
+            → OnOk result (IsBlockPlaced (mark_of self.old) index (metadata_of S.state file.old caches.old (table_of self.old) pending)
+            (metadata_of S.state file.new caches.new (table_of self.new) pending)) }
         ensures mark { mark_of self.new ≡ mark_of self.old }
     {
         match self.find_counted(file, caches, self.first_free_cluster, index) {
@@ -99,7 +101,8 @@ impl Allocator {
         requires placed { IsPlacedTable (table_of self.old) }
         requires bits { block.cluster_bits ≡ (table_of self.old).layout.cluster_bits }
         requires namable { IsNamable (table_of self.old).layout.cluster_bits block.cluster }
-        ensures names { NamesWritten (table_of self.old) index block (S.state file.old.image) result (table_of self.new) (S.state file.new.image) }
+        ensures names { NamesWritten (table_of self.old) index block (S.state file.old.image) result (table_of self.new)
+            (S.state file.new.image) }
         ensures header { file.new.header ≡ file.old.header }
         ensures mark { mark_of self.new ≡ mark_of self.old }
     {
@@ -129,7 +132,9 @@ impl Allocator {
         ensures makes { (pending : List FreeEntry)
             → MakesBlock S.state index (lent (table_of self.old) caches.old file.old pending) result
             (lent (table_of self.new) caches.new file.new pending) }
-        ensures at { OnOk result ((index * counters_of_block file.old.header.fields ≢ 0) × (block_offset (slice_index (table_of self.new).words index) ≡ index * counters_of_block file.old.header.fields * cluster_size file.old.header.fields)) }
+        ensures at { OnOk result ((index * counters_of_block file.old.header.fields ≢ 0)
+            × (block_offset (slice_index (table_of self.new).words index)
+            ≡ index * counters_of_block file.old.header.fields * cluster_size file.old.header.fields)) }
         ensures mark { mark_of self.new ≡ mark_of self.old }
     {
         let place = self.own_place(index, &file.header);
@@ -160,7 +165,8 @@ impl Allocator {
         ensures makes { (pending : List FreeEntry)
             → MakesIn S.state index place (lent (table_of self.old) caches.old file.old pending) result
             (lent (table_of self.new) caches.new file.new pending) }
-        ensures at { OnOk result ((place ≢ 0) × (block_offset (slice_index (table_of self.new).words index) ≡ place * cluster_size file.old.header.fields)) }
+        ensures at { OnOk result ((place ≢ 0) × (block_offset (slice_index (table_of self.new).words index)
+            ≡ place * cluster_size file.old.header.fields)) }
         ensures mark { mark_of self.new ≡ mark_of self.old }
     {
         if place.0 >= self.own_place(index, &file.header).0 {
@@ -189,7 +195,8 @@ impl Allocator {
 
 // A block that is to stand in a cluster, and counts nothing.
 fn cleared_block(alloc: Global, header: &Header, place: HostCluster) -> Result<RefBlock, Fault>
-    ensures ok { IfOk result (λ block. block ≡ block_of header.now.fields.cluster_bits header.now.fields.refcount_order (replicate (counters_of_block header.now.fields) 0) (Some place) true) }
+    ensures ok { IfOk result (λ block. block ≡ block_of header.now.fields.cluster_bits header.now.fields.refcount_order
+        (replicate (counters_of_block header.now.fields) 0) (Some place) true) }
     ensures err { IsOkUnless result Fault.Memory }
 {
     match RefBlock::new_cleared(alloc, header) {
@@ -203,7 +210,8 @@ fn cleared_block(alloc: Global, header: &Header, place: HostCluster) -> Result<R
 
 // A block that is to stand in a cluster, and counts this alone.
 fn own_block(alloc: Global, header: &Header, place: HostCluster) -> Result<RefBlock, Fault>
-    ensures ok { IfOk result (λ block. block ≡ block_of header.now.fields.cluster_bits header.now.fields.refcount_order (slice_set (replicate (counters_of_block header.now.fields) 0) (place % counters_of_block header.now.fields) 1) (Some place) true) }
+    ensures ok { IfOk result (λ block. block ≡ block_of header.now.fields.cluster_bits header.now.fields.refcount_order
+        (slice_set (replicate (counters_of_block header.now.fields) 0) (place % counters_of_block header.now.fields) 1) (Some place) true) }
     ensures err { IsOkUnless result Fault.Memory }
 {
     let (_, rb_index) = place.rt_rb_indices(header.rb_bits());

@@ -45,7 +45,8 @@ impl Run {
     // The run once the cluster behind it is known: with it where it is free, else none yet, behind it.
     fn then(&self, is_free: bool) -> Run
         requires { next_of self.now + 1 < 2 ^ 64 }
-        ensures { result ≡ (if is_free then record { first = self.now.first; len = self.now.len + 1 } else record { first = next_of self.now + 1; len = 0 }) }
+        ensures { result ≡ (if is_free then record { first = self.now.first; len = self.now.len + 1 } else
+            record { first = next_of self.now + 1; len = 0 }) }
     {
         if is_free {
             Run {
@@ -121,7 +122,8 @@ impl Allocator {
         end: usize,
     ) -> Result<Option<HostCluster>, Fault>
         requires inside { end ≤ length (table_of self.now).words }
-        ensures { LooksForFree S.state (table_of self.now) from (end * counters_of_block file.old.header.fields) caches.old file.old result caches.new file.new }
+        ensures { LooksForFree S.state (table_of self.now) from
+            (end * counters_of_block file.old.header.fields) caches.old file.old result caches.new file.new }
     {
         // It has at most 2^20 words.
         let _words = self.reftable.entries();
@@ -147,7 +149,9 @@ impl Allocator {
         from: HostCluster,
     ) -> Result<Option<HostCluster>, Fault>
         requires { from / counters_of_block file.old.header.fields < length (table_of self.now).words }
-        ensures { LooksForFree S.state (table_of self.now) from ((from / counters_of_block file.old.header.fields + 1) * counters_of_block file.old.header.fields) caches.old file.old result caches.new file.new }
+        ensures { LooksForFree S.state (table_of self.now) from
+            ((from / counters_of_block file.old.header.fields + 1) * counters_of_block file.old.header.fields) caches.old file.old result
+            caches.new file.new }
     {
         // It has at most 2^20 words.
         let _words = self.reftable.entries();
@@ -213,7 +217,8 @@ fn scan_in<S: Storage>(
     requires short { run.len < count }
     requires inside { index < counters_of_block file.old.header.fields }
     requires fits { next_of run + counters_of_block file.old.header.fields < 2 ^ 64 }
-    ensures { UsesBlock S.state rb_cluster (Reads (counters_of_block file.old.header.fields) (λ counters now. ScansSome counters count index run now)) caches.old file.old result caches.new file.new }
+    ensures { UsesBlock S.state rb_cluster (Reads (counters_of_block file.old.header.fields) (λ counters now.
+        ScansSome counters count index run now)) caches.old file.old result caches.new file.new }
 {
     let entries = file.header.rb_entries();
     match caches.rb_get_or_insert(file, rb_cluster) {
@@ -247,7 +252,8 @@ fn find_zero_in<S: Storage>(
     rb_cluster: HostCluster,
     index: usize,
 ) -> Result<Option<usize>, Fault>
-    ensures { UsesBlock S.state rb_cluster (Reads (counters_of_block file.old.header.fields) (FindsZero index)) caches.old file.old result caches.new file.new }
+    ensures { UsesBlock S.state rb_cluster (Reads (counters_of_block file.old.header.fields) (FindsZero index)) caches.old file.old result
+        caches.new file.new }
 {
     let entries = file.header.rb_entries();
     match caches.rb_get_or_insert(file, rb_cluster) {

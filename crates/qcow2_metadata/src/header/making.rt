@@ -92,7 +92,8 @@ impl Header {
         requires low { 9 ≤ cluster_bits }
         requires high { cluster_bits ≤ 21 }
         requires order { refcount_order ≤ 6 }
-        ensures ok { IfOk result (λ header. header ≡ new_header cluster_bits refcount_order (seen_text backing_filename) (seen_text backing_format) (seen_text external_data_file)) }
+        ensures ok { IfOk result (λ header. header ≡ new_header cluster_bits refcount_order (seen_text backing_filename)
+            (seen_text backing_format) (seen_text external_data_file)) }
         ensures err { IsOkUnless result Fault.Memory }
     {
         let feature_names = first_names(alloc)?;

@@ -12,7 +12,8 @@ use qcow2_types::PendingClusters;
 
 // The clusters that the words of a refcount table take: few, since it has at most 2^20 words.
 fn clusters_taken(reftable: &RefTable) -> u32
-    ensures value { result ≡ (8 * length reftable.now.words + (2 ^ reftable.now.layout.cluster_bits - 1)) / 2 ^ reftable.now.layout.cluster_bits }
+    ensures value { result ≡ (8 * length reftable.now.words + (2 ^ reftable.now.layout.cluster_bits - 1)) / 2
+        ^ reftable.now.layout.cluster_bits }
     ensures table { IsTable block_words reftable.now }
 {
     let _words = reftable.entries();
@@ -25,7 +26,10 @@ impl Header {
     pub fn set_l1_table(&mut self, l1_table: &L1Table, pending: Option<PendingClusters>)
         requires bits { l1_table.now.layout.cluster_bits ≡ self.old.fields.cluster_bits }
         requires placed { IsPlacedTable l1_table.now }
-        ensures fields { self.new ≡ record self.old { fields = record self.old.fields { l1_entries = length l1_table.now.words; l1_offset = table_place l1_table.now } } }
+        ensures fields { self.new ≡ record self.old {
+          fields = record self.old.fields
+              { l1_entries = length l1_table.now.words; l1_offset = table_place l1_table.now };
+        } }
         ensures sizes { first_fault (rules_of_size self.old.fields) ≡ None → first_fault (rules_of_size self.new.fields) ≡ None }
     {
         self.v2.l1_table_offset = first_byte(l1_table);
@@ -39,8 +43,15 @@ impl Header {
     pub fn set_reftable(&mut self, reftable: &RefTable)
         requires bits { reftable.now.layout.cluster_bits ≡ self.old.fields.cluster_bits }
         requires placed { IsPlacedTable reftable.now }
-        ensures fields { self.new ≡ record self.old { fields = record self.old.fields { refcount_table_offset = table_place reftable.now; refcount_table_clusters = (8 * length reftable.now.words + (2 ^ self.old.fields.cluster_bits - 1)) / 2 ^ self.old.fields.cluster_bits } } }
-        ensures whole { 8 * length reftable.now.words % 2 ^ self.old.fields.cluster_bits ≡ 0 → refcount_table_entries self.new.fields ≡ length reftable.now.words }
+        ensures fields { self.new ≡ record self.old {
+          fields = record self.old.fields {
+            refcount_table_offset = table_place reftable.now;
+            refcount_table_clusters = (8 * length reftable.now.words + (2 ^ self.old.fields.cluster_bits - 1)) / 2
+                ^ self.old.fields.cluster_bits;
+          };
+        } }
+        ensures whole { 8 * length reftable.now.words % 2 ^ self.old.fields.cluster_bits ≡ 0
+            → refcount_table_entries self.new.fields ≡ length reftable.now.words }
         ensures sizes { first_fault (rules_of_size self.old.fields) ≡ None → first_fault (rules_of_size self.new.fields) ≡ None }
         // So they can be written.
         ensures fit { FirstFieldsFit self.new.fields }

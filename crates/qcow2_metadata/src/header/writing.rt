@@ -142,7 +142,9 @@ impl Header {
     pub fn write<S: Storage>(&mut self, alloc: Global, image: &mut S) -> Result<(), Fault>
         ensures put { IsTrue (fits_first_cluster self.old) → Put (S.state image.old) (S.state image.new) 0 (header_bytes self.old) result }
         // Where the storage's unit allows it, it is one request.
-        ensures at_once { IsTrue (fits_first_cluster self.old) → IsAtOnce (unit_of (S.state image.old).shape) 0 (length (header_bytes self.old)) → PutAtOnce (S.state image.old) (S.state image.new) 0 (header_bytes self.old) result }
+        ensures at_once { IsTrue (fits_first_cluster self.old)
+            → IsAtOnce (unit_of (S.state image.old).shape) 0 (length (header_bytes self.old))
+            → PutAtOnce (S.state image.old) (S.state image.new) 0 (header_bytes self.old) result }
         ensures limit { IsFalse (fits_first_cluster self.old) → NotAsked self.old (S.state image.old) (S.state image.new) result }
         ensures ok { OnOk result (self.new ≡ written self.old) }
         ensures err { OnErr result (self.new ≡ self.old) }
