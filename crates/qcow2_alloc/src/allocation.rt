@@ -23,17 +23,13 @@ use qcow2_metadata::{RefBlock, RefTable, Table};
 use qcow2_types::{ClusterCount, ClustersToFreeEntry, HostCluster};
 use std::alloc::Global;
 
-mod allocating;
 mod counting;
-mod ensuring_blocks;
 mod growing;
-mod growing_table;
 mod handing_out;
 mod making_blocks;
 mod moving_table;
 mod readying_runs;
 mod searching;
-mod writing_blocks;
 
 /// The allocator of the clusters of an image file: its refcount table in memory, and where the search for free clusters begins.
 #[derive(Drop)]

@@ -1,16 +1,20 @@
-//! The refcount table grows.
-ghost use Rattle.std.specs.Prelude.{◌≡◌, ◌≤◌, ◌<◌, ◌+◌, ◌*◌, ◌/◌, ◌^◌, IfOk, length};
+//! The refcount table grows: room is found for the longer one, which is written, and then takes its place.
+ghost use Rattle.std.specs.Prelude.{◌≡◌, ◌≤◌, ◌<◌, ◌+◌, ◌*◌, ◌/◌, ◌^◌, IfOk, length, ℕ, ◌-◌, ◌++◌, OnOk, OnErr, IfErr, min};
 ghost use Rattle.qcow2_types.specs.Counts.{counters_of_block};
-ghost use Rattle.qcow2_alloc.specs.Allocators.{table_of};
+ghost use Rattle.qcow2_alloc.specs.Allocators.{table_of, mark_of};
 ghost use Rattle.qcow2_alloc.specs.Growing.{lacking, GrowsRoom, LooksForRoom};
+ghost use Rattle.qcow2_alloc.specs.GrowingTables.{GrowsTable, table_run};
+ghost use Rattle.qcow2_alloc.specs.MovingTables.{IsPlan, IsCopyFor, WhyNotPlaced, IsGrownFor, WhyNotGrown, EntersFree};
+ghost use Rattle.qcow2_alloc.specs.State.{seen};
 
 use crate::allocation::Allocator;
 use crate::allocation::searching::Run;
 use crate::cache::MetadataCaches;
+use crate::clusters_to_free::ClustersToFreeList;
 use crate::file::ImageFile;
 use imago_storage::{Fault, Storage};
-use qcow2_metadata::Table;
-use qcow2_types::HostCluster;
+use qcow2_metadata::{Header, RefTable, Table};
+use qcow2_types::{ClustersToFreeEntry, HostCluster, PendingClusters};
 
 impl Allocator {
     // How many blocks are lacking for a run: those that would count one of its clusters, and that the refcount table doesn't name. A block
@@ -94,6 +98,162 @@ impl Allocator {
                 first,
                 len: clusters,
             }),
+            Err(fault) => Err(fault),
+        }
+    }
+
+    // Lets the refcount table grow until it holds an index.
+    //
+    // It refuses with `Fault::Limit` where there is no place for it; with `Fault::Memory`; with `Fault::Storage`; with `Fault::CacheFull`
+    // as the public calls do, and then clusters may be counted that nobody was handed; and with `Fault::Counter` and
+    // `Fault::DamagedTable`, which no sound image has.
+    pub(super) fn grow_table<S: Storage>(
+        &mut self,
+        file: &mut ImageFile<S>,
+        caches: &mut MetadataCaches<S>,
+        list: &mut ClustersToFreeList,
+        at: usize,
+    ) -> Result<(), Fault>
+        requires past { length (table_of self.old).words ≤ at }
+        ensures grows { GrowsTable S.state (mark_of self.old) at (seen self.old caches.old file.old list.old) result
+            (seen self.new caches.new file.new list.new) }
+        ensures mark { mark_of self.new ≡ mark_of self.old }
+        ensures held { list.new.held ≡ list.old.held }
+    {
+        let copy = match self.grown_copy(&file.header, at) {
+            Ok(copy) => copy,
+            Err(fault) => return Err(fault),
+        };
+        if let Err(fault) = list.hold() {
+            return Err(fault);
+        }
+        self.place_grown(file, caches, list, copy)
+    }
+
+    // Lets a copy that has grown in memory become the refcount table, in the first room for it. The list holds room for the clusters of the
+    // old one: it takes them, or is let go.
+    pub(super) fn place_grown<S: Storage>(
+        &mut self,
+        file: &mut ImageFile<S>,
+        caches: &mut MetadataCaches<S>,
+        list: &mut ClustersToFreeList,
+        mut copy: RefTable,
+    ) -> Result<(), Fault>
+        requires grown { (at : ℕ) × (length (table_of self.old).words ≤ at)
+            × IsGrownFor file.old.header.fields (table_of self.old) at copy }
+        requires held { 0 < list.old.held }
+        ensures grows { (at : ℕ) → IsGrownFor file.old.header.fields (table_of self.old) at copy
+            → GrowsTable S.state (mark_of self.old) at (seen self.old caches.old file.old list.old) result
+            (seen self.new caches.new file.new list.new) }
+        ensures mark { mark_of self.new ≡ mark_of self.old }
+        ensures held { list.new.held ≡ list.old.held - 1 }
+    {
+        let from = self.room_start(file.header.rb_bits());
+        let room = match self.find_room(file, caches, from, copy.cluster_count().0) {
+            Ok(room) => room,
+            Err(fault) => {
+                list.release();
+                return Err(fault);
+            }
+        };
+        let taken = room;
+        match self.place_copy(&mut copy, &file.header, room) {
+            Ok(()) => self.enter_room(file, caches, list, copy, taken),
+            Err(fault) => {
+                list.release();
+                Err(fault)
+            }
+        }
+    }
+
+    // Lets a table that was placed in a room in memory become the refcount table. The clusters of the old one wait to be freed then, in the
+    // room that is held for them.
+    fn enter_room<S: Storage>(
+        &mut self,
+        file: &mut ImageFile<S>,
+        caches: &mut MetadataCaches<S>,
+        list: &mut ClustersToFreeList,
+        table: RefTable,
+        room: Run,
+    ) -> Result<(), Fault>
+        requires plan { IsPlan file.old.header.fields (table_of self.old) room table }
+        requires held { 0 < list.old.held }
+        ensures fills { EntersFree S.state room table (seen self.old caches.old file.old list.old) result
+            (seen self.new caches.new file.new list.new) }
+        ensures waits { OnOk result (list.new.entries ≡ list.old.entries ++ table_run file.old.header.fields) }
+        ensures kept { OnErr result (list.new.entries ≡ list.old.entries) }
+        ensures held { list.new.held ≡ list.old.held - 1 }
+        ensures mark { mark_of self.new ≡ mark_of self.old }
+    {
+        let clusters = file.header.reftable_clusters();
+        // No sound image has a refcount table of no clusters.
+        if clusters.0 == 0 {
+            list.release();
+            return Err(Fault::DamagedTable);
+        }
+        let offset = file.header.reftable_offset();
+        let first = offset.cluster(file.header.cluster_bits());
+        match self.fill_room(file, caches, table, room) {
+            Ok(()) => {
+                let old = ClustersToFreeEntry::metadata(first, clusters);
+                list.give_back(PendingClusters::new(old));
+                Ok(())
+            }
+            Err(fault) => {
+                list.release();
+                Err(fault)
+            }
+        }
+    }
+
+    // A copy of the refcount table that has grown in memory until it holds an index.
+    pub(super) fn grown_copy(&self, header: &Header, at: usize) -> Result<RefTable, Fault>
+        requires past { length (table_of self.now).words ≤ at }
+        ensures ok { IfOk result (IsGrownFor header.now.fields (table_of self.now) at) }
+        ensures err { IfErr result (WhyNotGrown header.now.fields (table_of self.now) at) }
+    {
+        if self.reftable.cluster_bits() != header.cluster_bits() {
+            return Err(Fault::DamagedTable);
+        }
+        self.reftable.clone_and_grow(self.alloc, header, at)
+    }
+
+    // Where the search for a room begins: at the mark, or where the clusters end that the refcount table can count.
+    fn room_start(&self, rb_bits: u32) -> HostCluster
+        requires { rb_bits ≤ 24 }
+        ensures { result ≡ min (mark_of self.now) (length (table_of self.now).words * 2 ^ rb_bits) }
+    {
+        let end = HostCluster::from_ref_indices(self.reftable.entries(), 0, rb_bits);
+        HostCluster(self.first_free_cluster.0.min(end.0))
+    }
+
+    // Places a copy of the refcount table in memory behind the blocks that are lacking for a run, and lets it name these.
+    fn place_copy(&self, copy: &mut RefTable, header: &Header, room: Run) -> Result<(), Fault>
+        requires copy { IsCopyFor header.now.fields (table_of self.now) room copy.old }
+        requires fits { room.first + room.len + 2 ^ 24 < 2 ^ 64 }
+        ensures ok { OnOk result (IsPlan header.now.fields (table_of self.now) room copy.new
+            × (length copy.new.words ≡ length copy.old.words)) }
+        ensures err { IfErr result (WhyNotPlaced header.now.fields (table_of self.now) room copy.old) }
+    {
+        let rb_bits = header.rb_bits();
+        let HostCluster(first) = room.first();
+        if first == 0 {
+            return Err(Fault::DamagedTable);
+        }
+        let last = first + (room.len() - 1);
+        if let Err(fault) = self.check_place(header.cluster_bits(), HostCluster(last)) {
+            return Err(fault);
+        }
+        if last >= HostCluster::from_ref_indices(copy.entries(), 0, rb_bits).0 {
+            return Err(Fault::Limit(last));
+        }
+        copy.set_cluster(HostCluster(first + self.lacking_for(room, rb_bits)));
+        match self.name_new_blocks(copy, header, room) {
+            Ok(()) => {
+                // Each of its words is sound.
+                let _words = copy.entries();
+                Ok(())
+            }
             Err(fault) => Err(fault),
         }
     }

@@ -1,14 +1,15 @@
-//! Clusters are handed out, and the refcount table grows, for callers above.
-ghost use Rattle.std.specs.Prelude.{◌≡◌, ◌≢◌, ◌==◌, ◌≤◌, ◌/◌, List, IfOk, OnErr, length, slice_index};
+//! Clusters are allocated and handed out, and the refcount table grows, for callers above.
+ghost use Rattle.std.specs.Prelude.{◌≡◌, ◌<◌, ◌+◌, ◌^◌, ◌≢◌, ◌==◌, ◌≤◌, ◌/◌, List, IfOk, OnErr, length, slice_index};
+ghost use Rattle.qcow2_alloc.specs.Allocators.{mark_of, table_of};
+ghost use Rattle.qcow2_alloc.specs.ReadyingRuns.{Allocates, mark_behind};
+ghost use Rattle.qcow2_alloc.specs.State.{seen, lent};
 ghost use Rattle.imago_storage.specs.Fault.{number_of};
 ghost use Rattle.qcow2_types.specs.Counts.{counters_of_block};
 ghost use Rattle.qcow2_types.specs.Pending.{FreeEntry};
 ghost use Rattle.qcow2_types.specs.Words.{block_offset};
 ghost use Rattle.qcow2_metadata.specs.Places.{IsInReach};
-ghost use Rattle.qcow2_alloc.specs.Allocators.{table_of, mark_of};
 ghost use Rattle.qcow2_alloc.specs.HandingOut.{AllocatesClusters, AllocatesClusterAt, GrowsReftable, IsBarred, held_at, held_by, mark_past};
 ghost use Rattle.qcow2_alloc.specs.HandingOutOne.{AllocatesAt, CountsOne, ReadiesCounter, ReadiesWord};
-ghost use Rattle.qcow2_alloc.specs.State.{lent, seen};
 
 use crate::allocation::Allocator;
 use crate::cache::MetadataCaches;
@@ -19,6 +20,37 @@ use qcow2_metadata::Table;
 use qcow2_types::{ClusterCount, ClustersToFreeEntry, HostCluster, PendingClusters};
 
 impl Allocator {
+    // Counts the first run of so many clusters, from the mark on, that aren't counted, and hands it out. One of none begins at the mark.
+    // The list holds room for its entry already.
+    pub(super) fn allocate<S: Storage>(
+        &mut self,
+        file: &mut ImageFile<S>,
+        caches: &mut MetadataCaches<S>,
+        list: &mut ClustersToFreeList,
+        count: ClusterCount,
+        metadata: bool,
+    ) -> Result<PendingClusters, Fault>
+        ensures allocates { Allocates S.state (mark_of self.old) count metadata (seen self.old caches.old file.old list.old) result
+            (seen self.new caches.new file.new list.new) (mark_of self.new) }
+        ensures held { list.new.held ≡ list.old.held }
+    {
+        if count == ClusterCount(0) {
+            return Ok(pending_run(self.first_free_cluster, count, metadata));
+        }
+        let first = match self.ready_run(file, caches, list, count.0) {
+            Ok(first) => first,
+            Err(fault) => return Err(fault),
+        };
+        match self.count_run(file, caches, first, count.0) {
+            Ok(()) => {
+                self.first_free_cluster = next_mark(self.first_free_cluster, first, count);
+                Ok(pending_run(first, count, metadata))
+            }
+            // What was counted of the run leaks.
+            Err(fault) => Err(fault),
+        }
+    }
+
     /// Hands out so many clusters in a row, for metadata or for the guest's data: first what waits on the list is freed, by
     /// `process_clusters_to_free`; then it is announced that blocks are written before tables; and then the first run of free clusters
     /// from the mark on is counted. No table names one of them, in the file or in memory. A run of no clusters begins at the mark.
@@ -313,6 +345,32 @@ impl Allocator {
             }
             Err(fault) => Err(fault),
         }
+    }
+}
+
+// A run of clusters that are to be named, of metadata or of the guest's data.
+fn pending_run(first: HostCluster, count: ClusterCount, metadata: bool) -> PendingClusters
+    ensures { result ≡ record { first = first; count = count; metadata = metadata } }
+{
+    if metadata {
+        PendingClusters::new(ClustersToFreeEntry::metadata(first, count))
+    } else {
+        PendingClusters::new(ClustersToFreeEntry::data(first, count))
+    }
+}
+
+// Where the search for free clusters begins once a run is counted that it found.
+fn next_mark(mark: HostCluster, first: HostCluster, count: ClusterCount) -> HostCluster
+    requires fits { first + count < 2 ^ 64 }
+    ensures { result ≡ mark_behind mark count first }
+{
+    if first == mark {
+        first + count
+    } else if count == ClusterCount(1) {
+        // Each cluster from the mark to it is counted.
+        HostCluster(first.0 + 1)
+    } else {
+        mark
     }
 }
 
