@@ -13,7 +13,8 @@ pub record Spliced (old : List ℕ) (at : ℕ) (bytes new : List ℕ) : Type 0 w
 -- the same, but in the range each byte is old or new
 pub record Mixed (old : List ℕ) (at : ℕ) (bytes new : List ℕ) : Type 0 where
   pub before : (k : ℕ) → k < at → slice_index new k ≡ slice_index old k
-  pub inside : (k : ℕ) → at ≤ k → k < at + length bytes → (slice_index new k ≡ slice_index old k) ⊎ (slice_index new k ≡ slice_index bytes (k - at))
+  pub inside : (k : ℕ) → at ≤ k → k < at + length bytes → (slice_index new k ≡ slice_index old k)
+      ⊎ (slice_index new k ≡ slice_index bytes (k - at))
   pub after : (k : ℕ) → at + length bytes ≤ k → slice_index new k ≡ slice_index old k
 
 -- the same, but in the range any byte
@@ -54,7 +55,8 @@ IsFaultless old new = (new.faults ≡ old.faults) × (new.refusals ≡ old.refus
 
 -- one request where the call succeeds, and none where it is refused
 abbrev pub RequestsOne : {T : Type 0} → StorageState → StorageState → Result T Fault → Type 0
-RequestsOne old new result = MatchResult result (λ _. IsTrue old.shape.tells → new.past ≡ old.stop ∷ old.past) (λ _. (new.stop ≡ old.stop) × (new.past ≡ old.past))
+RequestsOne old new result = MatchResult result (λ _. IsTrue old.shape.tells → new.past ≡ old.stop ∷ old.past) (λ _.
+    (new.stop ≡ old.stop) × (new.past ≡ old.past))
 
 -- a change: one request
 pub record Changed (old new : StorageState) : Type 0 where

@@ -30,7 +30,8 @@ pub record ZeroesLaid (unit : ℕ) (bytes : List ℕ) (at n : ℕ) (first last z
   pub pads : Pads bytes at (replicate n 0) (unit_start unit at) (first ++ replicate mid 0 ++ last)
   pub end : unit_start unit at + length (first ++ replicate mid 0 ++ last) ≡ round_up unit (at + n)
   -- the middle has all whole units of the range
-  pub holds : (a b : ℕ) → at ≤ a → a < b → b ≤ at + n → a % unit ≡ 0 → b % unit ≡ 0 → (unit_start unit at + length first ≤ a) × (b ≤ unit_start unit at + length first + mid)
+  pub holds : (a b : ℕ) → at ≤ a → a < b → b ≤ at + n → a % unit ≡ 0 → b % unit ≡ 0 → (unit_start unit at + length first ≤ a)
+      × (b ≤ unit_start unit at + length first + mid)
   pub alone : IsUnits unit at n → (length first ≡ 0) × ((length last ≡ 0) × (mid ≡ n))
   pub all_zero : (k : ℕ) → slice_index zeroes k ≡ 0
   pub room : min (max unit 65536) n ≤ length zeroes

@@ -37,12 +37,14 @@ fuse_state state f = record {
 }
 
 -- its alignments are the inner one's
-pub fuse_aligned : {S : Type 0} (state : S → StorageState) → ((s : S) → IsAligned (state s).shape) → (f : FuseStorage S) → IsAligned (fuse_state state f).shape
+pub fuse_aligned : {S : Type 0} (state : S → StorageState) → ((s : S) → IsAligned (state s).shape) → (f : FuseStorage S)
+    → IsAligned (fuse_state state f).shape
 unfolding fuse_state
 fuse_aligned state aligned f = aligned f.inner
 
 -- it tells its stops where the inner one does
-pub fuse_tells : {S : Type 0} (state : S → StorageState) → ((s : S) → IsTrue (state s).shape.tells) → (f : FuseStorage S) → IsTrue (fuse_state state f).shape.tells
+pub fuse_tells : {S : Type 0} (state : S → StorageState) → ((s : S) → IsTrue (state s).shape.tells) → (f : FuseStorage S)
+    → IsTrue (fuse_state state f).shape.tells
 unfolding fuse_state
 fuse_tells state tells f = tells f.inner
 

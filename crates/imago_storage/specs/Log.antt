@@ -59,7 +59,8 @@ unfoldable pub log_state : {S : Type 0} → (S → StorageState) → LogStorage 
 log_state state log = logged log.base.items log.requests.items log.refusals (state log.inner)
 
 -- its alignments are those of the storage below
-pub log_aligned : {S : Type 0} (state : S → StorageState) → ((s : S) → IsAligned (state s).shape) → (log : LogStorage S) → IsAligned (log_state state log).shape
+pub log_aligned : {S : Type 0} (state : S → StorageState) → ((s : S) → IsAligned (state s).shape) → (log : LogStorage S)
+    → IsAligned (log_state state log).shape
 unfolding log_state
 log_aligned state aligned log =
     let inner = aligned log.inner in
@@ -100,7 +101,8 @@ IsWrite offset bytes request = ⊥
 
 -- A change that a log was asked for, as a request that is so. Where it succeeds, that is the last request; where it is refused,
 -- the log stays, and the storage below has counted a refused change, or nothing has changed but how many the log has counted.
-pub record Noted {S T : Type 0} (state : S → StorageState) (IsSo : Request → Type 0) (old new : LogStorage S) (result : Result T Fault) : Type 0 where
+pub record Noted {S T : Type 0} (state : S → StorageState) (IsSo : Request → Type 0) (old new : LogStorage S)
+    (result : Result T Fault) : Type 0 where
   pub base : log_base new ≡ log_base old
   pub requests :
       MatchResult result (λ _. (request : Request) × IsSo request × (log_requests new ≡ log_requests old ++ request ∷ []))

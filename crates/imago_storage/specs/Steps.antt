@@ -130,7 +130,8 @@ TakesByte b (held written announced) was hold is = (is ≡ was) × (hold ≡ hel
 pub record WritesMapped (old new : Disk) (offset : ℕ) (bytes : List ℕ) : Type 0 where
   pub inside : offset + length bytes ≤ old.size
   pub size : new.size ≡ old.size
-  pub range : (i : ℕ) → i < length bytes → TakesByte (slice_index bytes i) (old.hold (offset + i)) (old.value (offset + i)) (new.hold (offset + i)) (new.value (offset + i))
+  pub range : (i : ℕ) → i < length bytes → TakesByte (slice_index bytes i) (old.hold (offset + i)) (old.value (offset + i))
+      (new.hold (offset + i)) (new.value (offset + i))
   pub others : (p : ℕ) → p < old.size → IsOut offset (length bytes) p → (new.value p ≡ old.value p) × (new.hold p ≡ old.hold p)
 
 -- the old values stay; new places are 0, or anything
@@ -174,18 +175,21 @@ pub record IsRun (below : ℕ → Value) (disk : Disk) (offset asked : ℕ) (kin
 -- lookup or a prepared run names is told by the layers of a chain.
 abbrev pub Step : (ℕ → Value) → Disk → Call → Answer → Disk → Type 0
 Step below old (read offset n) (bytes_read buffer) new = (length buffer ≡ n) × HoldsRange old offset buffer × Stays old new
-Step below old (write offset bytes) done new = Unless (length bytes ≡ 0) (Stays old new) (Changes (ToBytes offset bytes) old new offset (length bytes))
+Step below old (write offset bytes) done new = Unless (length bytes ≡ 0) (Stays old new)
+    (Changes (ToBytes offset bytes) old new offset (length bytes))
 Step below old (write_zeroes offset n) done new = Unless (n ≡ 0) (Stays old new) (Changes ToZero old new offset n)
 Step below old (discard_to_zero offset n) done new = Unless (n ≡ 0) (Stays old new) (Changes ToZero old new offset n)
 Step below old (discard_to_any offset n) done new = Unless (n ≡ 0) (Stays old new) (Changes ToAny old new offset n)
 Step below old (discard_to_backing offset n) done new = Unless (n ≡ 0) (Stays old new) (Changes (ToBelow below) old new offset n)
-Step below old (prepare offset asked overwrite) (prepared n state) new = Unless (asked ≡ 0) (Stays old new × (n ≡ 0) × (state ≡ false)) (Prepares old new offset asked overwrite n state)
+Step below old (prepare offset asked overwrite) (prepared n state) new = Unless (asked ≡ 0) (Stays old new × (n ≡ 0) × (state ≡ false))
+    (Prepares old new offset asked overwrite n state)
 Step below old (commit true own) done new = IsTrue own × Commits old new
 Step below old (commit false own) done new = Stays old new
 Step below old (cancel true own) done new = IsTrue own × Cancels old new
 Step below old (cancel false own) done new = Stays old new
 Step below old (ensure offset asked overwrite) (run n) new =
-    Unless (asked ≡ 0) (Stays old new × (n ≡ 0)) ((mid : Disk) × (state : Bool) × Prepares old mid offset asked overwrite n state × Commits mid new)
+    Unless (asked ≡ 0) (Stays old new × (n ≡ 0)) ((mid : Disk) × (state : Bool) × Prepares old mid offset asked overwrite n state
+    × Commits mid new)
 Step below old (write_mapped offset bytes) done new = Unless (length bytes ≡ 0) (Stays old new) (WritesMapped old new offset bytes)
 Step below old (lookup offset asked) (found kind n) new = IsRun below old offset asked kind n × Stays old new
 Step below old flush done new = Stays old new

@@ -32,7 +32,8 @@ mark_of a = a.first_free_cluster
 
 -- the cluster of the block that a word of the refcount table names, if it names one
 abbrev pub named_block : TableValue → ℕ → Option ℕ
-named_block table i = if block_offset (slice_index table.words i) == 0 then None else Some (block_offset (slice_index table.words i) / 2 ^ table.layout.cluster_bits)
+named_block table i = if block_offset (slice_index table.words i) == 0 then None else Some
+    (block_offset (slice_index table.words i) / 2 ^ table.layout.cluster_bits)
 
 -- all that contracts see of an image that is lent with its caches, its allocator and the list of clusters to free
 abbrev pub metadata_of : {S : Type 0} → (S → StorageState) → ImageFile S → MetadataCaches S → TableValue → List FreeEntry → Metadata
@@ -46,7 +47,8 @@ metadata_of state file caches table pending = record {
 }
 
 -- The block in a cluster is found and used so.
-pub record BlockUsed {S T : Type 0} (state : S → StorageState) (cluster : ℕ) (does : Block → Result T Fault → Block → Type 0) (old : MetadataCaches S) (before : ImageFile S) (result : Result T Fault) (new : MetadataCaches S) (after : ImageFile S) : Type 0 where
+pub record BlockUsed {S T : Type 0} (state : S → StorageState) (cluster : ℕ) (does : Block → Result T Fault → Block → Type 0)
+    (old : MetadataCaches S) (before : ImageFile S) (result : Result T Fault) (new : MetadataCaches S) (after : ImageFile S) : Type 0 where
   pub mid : MetadataCaches S
   pub found : BlockFound state cluster old before (Ok tt) mid after
   pub block : Block
@@ -56,11 +58,14 @@ pub record BlockUsed {S T : Type 0} (state : S → StorageState) (cluster : ℕ)
   pub left : new ≡ with_blocks mid (hit (nat_eq cluster) (cached_in mid).blocks block')
 
 -- It is found and used so, or the search is refused.
-abbrev pub UsesBlock : {S T : Type 0} → (S → StorageState) → ℕ → (Block → Result T Fault → Block → Type 0) → MetadataCaches S → ImageFile S → Result T Fault → MetadataCaches S → ImageFile S → Type 0
-UsesBlock state cluster does old before result new after = ((fault : Fault) × (result ≡ Err fault) × BlockFound state cluster old before (Err fault) new after) ⊎ BlockUsed state cluster does old before result new after
+abbrev pub UsesBlock : {S T : Type 0} → (S → StorageState) → ℕ → (Block → Result T Fault → Block → Type 0) → MetadataCaches S → ImageFile S
+    → Result T Fault → MetadataCaches S → ImageFile S → Type 0
+UsesBlock state cluster does old before result new after = ((fault : Fault) × (result ≡ Err fault)
+    × BlockFound state cluster old before (Err fault) new after) ⊎ BlockUsed state cluster does old before result new after
 
 -- The same of the L2 table in a cluster: it is found, lent, used and put back,
-pub record TableUsed {S T : Type 0} (state : S → StorageState) (cluster : ℕ) (does : TableValue → Result T Fault → TableValue → Type 0) (old : MetadataCaches S) (before : ImageFile S) (result : Result T Fault) (new : MetadataCaches S) (after : ImageFile S) : Type 0 where
+pub record TableUsed {S T : Type 0} (state : S → StorageState) (cluster : ℕ) (does : TableValue → Result T Fault → TableValue → Type 0)
+    (old : MetadataCaches S) (before : ImageFile S) (result : Result T Fault) (new : MetadataCaches S) (after : ImageFile S) : Type 0 where
   pub mid : MetadataCaches S
   pub found : TableFound state cluster old before (Ok tt) mid after
   pub table : TableValue
@@ -70,18 +75,23 @@ pub record TableUsed {S T : Type 0} (state : S → StorageState) (cluster : ℕ)
   pub left : new ≡ with_tables mid (hit (nat_eq cluster) (cached_in mid).tables table')
 
 -- or the search is refused.
-abbrev pub UsesTable : {S T : Type 0} → (S → StorageState) → ℕ → (TableValue → Result T Fault → TableValue → Type 0) → MetadataCaches S → ImageFile S → Result T Fault → MetadataCaches S → ImageFile S → Type 0
-UsesTable state cluster does old before result new after = ((fault : Fault) × (result ≡ Err fault) × TableFound state cluster old before (Err fault) new after) ⊎ TableUsed state cluster does old before result new after
+abbrev pub UsesTable : {S T : Type 0} → (S → StorageState) → ℕ → (TableValue → Result T Fault → TableValue → Type 0) → MetadataCaches S
+    → ImageFile S → Result T Fault → MetadataCaches S → ImageFile S → Type 0
+UsesTable state cluster does old before result new after = ((fault : Fault) × (result ≡ Err fault)
+    × TableFound state cluster old before (Err fault) new after) ⊎ TableUsed state cluster does old before result new after
 
 -- How a counter of a block is lowered by 1: it is refused where there is no such counter or where it is 0.
 pub record Lowers (index : ℕ) (block : Block) (result : Result Unit Fault) (block' : Block) : Type 0 where
   pub out : length block.counters ≤ index → (result ≡ Err DamagedTable) × (block' ≡ block)
   pub none : index < length block.counters → slice_index block.counters index ≡ 0 → (result ≡ Err Counter) × (block' ≡ block)
-  pub some : index < length block.counters → 0 < slice_index block.counters index → (result ≡ Ok tt) × (block' ≡ with_counter block index (slice_index block.counters index - 1))
+  pub some : index < length block.counters → 0 < slice_index block.counters index → (result ≡ Ok tt)
+      × (block' ≡ with_counter block index (slice_index block.counters index - 1))
 
 -- A cluster is counted down in the block that counts it, as a word of the refcount table names it; where none does the table is damaged.
-abbrev pub LowersCluster : {S : Type 0} → (S → StorageState) → TableValue → ℕ → MetadataCaches S → ImageFile S → Result Unit Fault → MetadataCaches S → ImageFile S → Type 0
-LowersCluster state table cluster old before result new after = MatchOption (named_block table (cluster / counters_of_block before.header.fields))
+abbrev pub LowersCluster : {S : Type 0} → (S → StorageState) → TableValue → ℕ → MetadataCaches S → ImageFile S → Result Unit Fault
+    → MetadataCaches S → ImageFile S → Type 0
+LowersCluster state table cluster old before result new after = MatchOption
+    (named_block table (cluster / counters_of_block before.header.fields))
     ((result ≡ Err DamagedTable) × (new ≡ old) × (after ≡ before))
     (λ key. UsesBlock state key (Lowers (cluster % counters_of_block before.header.fields)) old before result new after)
 
@@ -93,11 +103,13 @@ pub record IsTablePlaced (h : Fields) : Type 0 where
 -- An allocator was loaded: its table is the file's, each word of which has a meaning, and of a consistent image names the blocks that the
 -- file's does.
 pub record LoadsAllocator (old : StorageState) (h : Fields) (result : Result Allocator Fault) (new : StorageState) : Type 0 where
-  pub ok : IfOk result (λ a. IsTablePlaced h × (table_of a ≡ table_in (bytes_of old.bytes) h (h.refcount_table_offset / cluster_size h) (refcount_table_entries h)) × (mark_of a ≡ 0))
+  pub ok : IfOk result (λ a. IsTablePlaced h × (table_of a
+      ≡ table_in (bytes_of old.bytes) h (h.refcount_table_offset / cluster_size h) (refcount_table_entries h)) × (mark_of a ≡ 0))
   pub sound : OnOk result (AreSound block_words (layout_of h)
       (words_in (bytes_of old.bytes) h.refcount_table_offset (refcount_table_entries h)))
   pub table : IfOk result (λ a. 0 < refcount_table_entries h → IsTableOf (bytes_of old.bytes) h (table_of a))
   pub out : (IsTablePlaced h → ⊥) → (result ≡ Err DamagedTable) × (new ≡ old)
-  pub err : IsTablePlaced h → IfErr result (WhyNotLoaded block_words (layout_of h) (words_in (bytes_of old.bytes) h.refcount_table_offset (refcount_table_entries h)) old.faults new.faults)
+  pub err : IsTablePlaced h → IfErr result (WhyNotLoaded block_words (layout_of h)
+      (words_in (bytes_of old.bytes) h.refcount_table_offset (refcount_table_entries h)) old.faults new.faults)
   pub kept : Kept old new
   pub faults : WasNotCutOff result → IsFaultless old new

@@ -33,7 +33,8 @@ with_entries c es = record c { slots = lru_cache es c.slots.cap }
 
 module _ {K V D : Type 0} (eq : K → K → Bool) (flushes : D → K → V → Result Unit Fault → D → V → Type 0) where
   -- the value at a key was flushed in place
-  pub record FlushedAt (key : K) (before : D) (es : List (K × Slot V)) (result : Result Unit Fault) (after : D) (es' : List (K × Slot V)) : Type 0 where
+  pub record FlushedAt (key : K) (before : D) (es : List (K × Slot V)) (result : Result Unit Fault) (after : D)
+      (es' : List (K × Slot V)) : Type 0 where
     pub slot : Slot V
     pub value : V
     pub there : lookup (eq key) es ≡ Some slot
@@ -42,11 +43,13 @@ module _ {K V D : Type 0} (eq : K → K → Bool) (flushes : D → K → V → R
 
   -- the entry at a key was flushed and removed, or stays where that failed
   abbrev pub Evicted : K → D → List (K × Slot V) → Result Bool Fault → D → List (K × Slot V) → Type 0
-  Evicted key before es (Ok made) after es' = (made ≡ true) × (mid : List (K × Slot V)) × FlushedAt key before es (Ok tt) after mid × (es' ≡ remove_entry (eq key) es)
+  Evicted key before es (Ok made) after es' = (made ≡ true) × (mid : List (K × Slot V)) × FlushedAt key before es (Ok tt) after mid
+      × (es' ≡ remove_entry (eq key) es)
   Evicted key before es (Err fault) after es' = FlushedAt key before es (Err fault) after es'
 
   -- how room is made for one entry more
-  pub record MadeRoom (cap : ℕ) (may_flush : Bool) (before : D) (es : List (K × Slot V)) (result : Result Bool Fault) (after : D) (es' : List (K × Slot V)) : Type 0 where
+  pub record MadeRoom (cap : ℕ) (may_flush : Bool) (before : D) (es : List (K × Slot V)) (result : Result Bool Fault) (after : D)
+      (es' : List (K × Slot V)) : Type 0 where
     pub roomy : length es < cap → (result ≡ Ok true) × (after ≡ before) × (es' ≡ es)
     pub full : cap ≤ length es → may_flush ≡ false → (result ≡ Ok false) × (after ≡ before) × (es' ≡ es)
     pub pinned : cap ≤ length es → may_flush ≡ true → victim es ≡ None → (result ≡ Err CacheFull) × (after ≡ before) × (es' ≡ es)
@@ -55,8 +58,10 @@ module _ {K V D : Type 0} (eq : K → K → Bool) (flushes : D → K → V → R
 module _ {K V D : Type 0} (loads : D → K → Result V Fault → D → Type 0) where
   -- a value was loaded, and goes first; where the load failed, or there was no memory, the entries stay
   abbrev pub Loaded : K → D → List (K × Slot V) → Result Bool Fault → D → List (K × Slot V) → Type 0
-  Loaded key before es (Ok made) after es' = (made ≡ true) × (value : V) × loads before key (Ok value) after × (es' ≡ (key, record { value = value; pins = 0 }) ∷ es)
-  Loaded key before es (Err fault) after es' = (es' ≡ es) × (loads before key (Err fault) after ⊎ ((fault ≡ Memory) × (value : V) × loads before key (Ok value) after))
+  Loaded key before es (Ok made) after es' = (made ≡ true) × (value : V) × loads before key (Ok value) after
+      × (es' ≡ (key, record { value = value; pins = 0 }) ∷ es)
+  Loaded key before es (Err fault) after es' = (es' ≡ es)
+      × (loads before key (Err fault) after ⊎ ((fault ≡ Memory) × (value : V) × loads before key (Ok value) after))
 
   -- what comes once room was asked for
   abbrev pub LoadedAfter : K → D → List (K × Slot V) → Result Bool Fault → Result Bool Fault → D → List (K × Slot V) → Type 0
@@ -65,15 +70,18 @@ module _ {K V D : Type 0} (loads : D → K → Result V Fault → D → Type 0) 
   LoadedAfter key mid es (Err fault) result after es' = (result ≡ Err fault) × (after ≡ mid) × (es' ≡ es)
 
 -- how an entry is found or loaded
-module _ {K V D : Type 0} (eq : K → K → Bool) (loads : D → K → Result V Fault → D → Type 0) (flushes : D → K → V → Result Unit Fault → D → V → Type 0) where
-  pub record Missed (cap : ℕ) (may_flush : Bool) (key : K) (before : D) (es : List (K × Slot V)) (result : Result Bool Fault) (after : D) (es' : List (K × Slot V)) : Type 0 where
+module _ {K V D : Type 0} (eq : K → K → Bool) (loads : D → K → Result V Fault → D → Type 0)
+    (flushes : D → K → V → Result Unit Fault → D → V → Type 0) where
+  pub record Missed (cap : ℕ) (may_flush : Bool) (key : K) (before : D) (es : List (K × Slot V)) (result : Result Bool Fault) (after : D)
+      (es' : List (K × Slot V)) : Type 0 where
     pub room : Result Bool Fault
     pub mid : D
     pub entries : List (K × Slot V)
     pub made : MadeRoom eq flushes cap may_flush before es room mid entries
     pub loaded : LoadedAfter loads key mid entries room result after es'
 
-  pub record Readied (cap : ℕ) (may_flush : Bool) (key : K) (before : D) (es : List (K × Slot V)) (result : Result Bool Fault) (after : D) (es' : List (K × Slot V)) : Type 0 where
+  pub record Readied (cap : ℕ) (may_flush : Bool) (key : K) (before : D) (es : List (K × Slot V)) (result : Result Bool Fault) (after : D)
+      (es' : List (K × Slot V)) : Type 0 where
     pub found : IsSome (lookup (eq key) es) → (result ≡ Ok true) × (after ≡ before) × (es' ≡ es)
     pub missed : lookup (eq key) es ≡ None → Missed cap may_flush key before es result after es'
     -- the entry is there where it says so
@@ -82,23 +90,28 @@ module _ {K V D : Type 0} (eq : K → K → Bool) (loads : D → K → Result V 
 -- How a value is put at a key: over another,
 module _ {K V D : Type 0} (eq : K → K → Bool) (flushes : D → K → V → Result Unit Fault → D → V → Type 0) where
   abbrev pub Overwritten : K → V → D → List (K × Slot V) → Result (Option V) (Fault × V) → D → List (K × Slot V) → Type 0
-  Overwritten key value before es (Ok back) after es' = (back ≡ None) × (mid : List (K × Slot V)) × FlushedAt eq flushes key before es (Ok tt) after mid × (es' ≡ hit (eq key) mid value)
-  Overwritten key value before es (Err refused) after es' = (refused.1 ≡ value) × FlushedAt eq flushes key before es (Err refused.0) after es'
+  Overwritten key value before es (Ok back) after es' = (back ≡ None) × (mid : List (K × Slot V))
+      × FlushedAt eq flushes key before es (Ok tt) after mid × (es' ≡ hit (eq key) mid value)
+  Overwritten key value before es (Err refused) after es' = (refused.1 ≡ value)
+      × FlushedAt eq flushes key before es (Err refused.0) after es'
 
   -- what comes once room was asked for it
   abbrev pub PutAfter : K → V → List (K × Slot V) → Result Bool Fault → Result (Option V) (Fault × V) → List (K × Slot V) → Type 0
-  PutAfter key value es (Ok true) result es' = ((result ≡ Ok None) × (es' ≡ (key, record { value = value; pins = 0 }) ∷ es)) ⊎ ((result ≡ Err (Memory, value)) × (es' ≡ es))
+  PutAfter key value es (Ok true) result es' = ((result ≡ Ok None) × (es' ≡ (key, record { value = value; pins = 0 }) ∷ es))
+      ⊎ ((result ≡ Err (Memory, value)) × (es' ≡ es))
   PutAfter key value es (Ok false) result es' = (result ≡ Ok (Some value)) × (es' ≡ es)
   PutAfter key value es (Err fault) result es' = (result ≡ Err (fault, value)) × (es' ≡ es)
 
   -- or as a new one
-  pub record Added (cap : ℕ) (may_flush : Bool) (key : K) (value : V) (before : D) (es : List (K × Slot V)) (result : Result (Option V) (Fault × V)) (after : D) (es' : List (K × Slot V)) : Type 0 where
+  pub record Added (cap : ℕ) (may_flush : Bool) (key : K) (value : V) (before : D) (es : List (K × Slot V))
+      (result : Result (Option V) (Fault × V)) (after : D) (es' : List (K × Slot V)) : Type 0 where
     pub room : Result Bool Fault
     pub entries : List (K × Slot V)
     pub made : MadeRoom eq flushes cap may_flush before es room after entries
     pub put : PutAfter key value entries room result es'
 
-  pub record Inserted (cap : ℕ) (may_flush : Bool) (key : K) (value : V) (before : D) (es : List (K × Slot V)) (result : Result (Option V) (Fault × V)) (after : D) (es' : List (K × Slot V)) : Type 0 where
+  pub record Inserted (cap : ℕ) (may_flush : Bool) (key : K) (value : V) (before : D) (es : List (K × Slot V))
+      (result : Result (Option V) (Fault × V)) (after : D) (es' : List (K × Slot V)) : Type 0 where
     pub fresh : lookup (eq key) es ≡ None → Added cap may_flush key value before es result after es'
     pub barred : IsSome (lookup (eq key) es) → may_flush ≡ false → (result ≡ Ok (Some value)) × (after ≡ before) × (es' ≡ es)
     pub over : IsSome (lookup (eq key) es) → may_flush ≡ true → Overwritten key value before es result after es'
@@ -122,7 +135,8 @@ latest (Some earlier) (Err fault) = Some (cond (not (is_mild earlier) && is_mild
 
 module _ {K V D : Type 0} (flushes : D → K → V → Result Unit Fault → D → V → Type 0) where
   -- the last value was flushed in place, and its entry goes first
-  pub record FlushedLast (before : D) (es : List (K × Slot V)) (result : Result Unit Fault) (after : D) (es' : List (K × Slot V)) : Type 0 where
+  pub record FlushedLast (before : D) (es : List (K × Slot V)) (result : Result Unit Fault) (after : D)
+      (es' : List (K × Slot V)) : Type 0 where
     pub front : List (K × Slot V)
     pub last : K × Slot V
     pub value : V
@@ -133,8 +147,10 @@ module _ {K V D : Type 0} (flushes : D → K → V → Result Unit Fault → D �
   -- each value was flushed in place, from the last to the first
   abbrev pub FlushedEach : D → List (K × Slot V) → Option Fault → D → List (K × Slot V) → Type 0
   FlushedEach before [] outcome after es' = (outcome ≡ None) × (after ≡ before) × (es' ≡ [])
-  FlushedEach before (e ∷ es) outcome after es' = (mid : D) × (first : Option Fault) × (rest : List (K × Slot V)) × FlushedEach before es first mid rest
-      × (result : Result Unit Fault) × (value : V) × flushes mid e.0 e.1.value result after value × (outcome ≡ latest first result) × (es' ≡ with_value e value ∷ rest)
+  FlushedEach before (e ∷ es) outcome after es' = (mid : D) × (first : Option Fault) × (rest : List (K × Slot V))
+      × FlushedEach before es first mid rest
+      × (result : Result Unit Fault) × (value : V) × flushes mid e.0 e.1.value result after value × (outcome ≡ latest first result)
+      × (es' ≡ with_value e value ∷ rest)
 
 -- the entries that are pinned
 abbrev pub kept_pinned : {K V : Type 0} → List (K × Slot V) → List (K × Slot V)

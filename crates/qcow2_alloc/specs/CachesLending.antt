@@ -29,26 +29,35 @@ module _ {S : Type 0} where
   module _ (state : S → StorageState) where
     -- how tables and blocks are loaded from an image file, and flushed to it
     abbrev pub table_loads : ImageFile S → ℕ → Result TableValue Fault → ImageFile S → Type 0
-    table_loads old key result new = (new.header ≡ old.header) × TableLoaded old.header.fields key (state old.image) result (state new.image)
+    table_loads old key result new = (new.header ≡ old.header)
+        × TableLoaded old.header.fields key (state old.image) result (state new.image)
 
     abbrev pub table_flushes : ImageFile S → ℕ → TableValue → Result Unit Fault → ImageFile S → TableValue → Type 0
-    table_flushes old key table result new table' = (new.header ≡ old.header) × TableFlushed key table (state old.image) result (state new.image) table'
+    table_flushes old key table result new table' = (new.header ≡ old.header)
+        × TableFlushed key table (state old.image) result (state new.image) table'
 
     abbrev pub block_loads : ImageFile S → ℕ → Result Block Fault → ImageFile S → Type 0
-    block_loads old key result new = (new.header ≡ old.header) × BlockLoaded old.header.fields key (state old.image) result (state new.image)
+    block_loads old key result new = (new.header ≡ old.header)
+        × BlockLoaded old.header.fields key (state old.image) result (state new.image)
 
     abbrev pub block_flushes : ImageFile S → ℕ → Block → Result Unit Fault → ImageFile S → Block → Type 0
-    block_flushes old key block result new block' = (new.header ≡ old.header) × BlockFlushed key block (state old.image) result (state new.image) block'
+    block_flushes old key block result new block' = (new.header ≡ old.header)
+        × BlockFlushed key block (state old.image) result (state new.image) block'
 
 module _ (S : RattleType) (state : S.Denot → StorageState) where
   -- The table is found or loaded with the value that r shows, and goes first, with the last value written through r.
-  abbrev pub lends_table : MutBor (MetadataCaches S.Denot) → ImageFile S.Denot → ImageFile S.Denot → ℕ → Result (MutBor TableValue) Fault → Fml
+  abbrev pub lends_table : MutBor (MetadataCaches S.Denot) → ImageFile S.Denot → ImageFile S.Denot → ℕ
+      → Result (MutBor TableValue) Fault → Fml
   lends_table c before after cluster r = LendsSoOk (the_row S) table_row c r
-      (λ n w. (mid : MetadataCaches S.Denot) × TableFound state cluster c.now before (Ok tt) mid after × IfOk r (λ v. option_map (λ s. s.value) (lookup (nat_eq cluster) (cached_in mid).tables) ≡ Some v.now) × (n ≡ with_tables mid (hit (nat_eq cluster) (cached_in mid).tables w)))
+      (λ n w. (mid : MetadataCaches S.Denot) × TableFound state cluster c.now before (Ok tt) mid after
+      × IfOk r (λ v. option_map (λ s. s.value) (lookup (nat_eq cluster) (cached_in mid).tables) ≡ Some v.now)
+      × (n ≡ with_tables mid (hit (nat_eq cluster) (cached_in mid).tables w)))
       (λ n. IfErr r (λ fault. TableFound state cluster c.now before (Err fault) n after))
 
   -- The same of a block.
   abbrev pub lends_block : MutBor (MetadataCaches S.Denot) → ImageFile S.Denot → ImageFile S.Denot → ℕ → Result (MutBor Block) Fault → Fml
   lends_block c before after cluster r = LendsSoOk (the_row S) block_row c r
-      (λ n w. (mid : MetadataCaches S.Denot) × BlockFound state cluster c.now before (Ok tt) mid after × IfOk r (λ v. option_map (λ s. s.value) (lookup (nat_eq cluster) (cached_in mid).blocks) ≡ Some v.now) × (n ≡ with_blocks mid (hit (nat_eq cluster) (cached_in mid).blocks w)))
+      (λ n w. (mid : MetadataCaches S.Denot) × BlockFound state cluster c.now before (Ok tt) mid after
+      × IfOk r (λ v. option_map (λ s. s.value) (lookup (nat_eq cluster) (cached_in mid).blocks) ≡ Some v.now)
+      × (n ≡ with_blocks mid (hit (nat_eq cluster) (cached_in mid).blocks w)))
       (λ n. IfErr r (λ fault. BlockFound state cluster c.now before (Err fault) n after))

@@ -10,18 +10,24 @@ use Rattle.qcow2_alloc.specs.Quiet.{Metadata, counted, one_at}
 pub record IsBlockPlaced (mark index : ℕ) (m m' : Metadata) : Type 0 where
   pub place : ℕ
   pub raised : (c : ℕ) → counted m' c ≡ counted m c + one_at place c
-  pub first : (c : ℕ) → mark ≤ c → c < index * counters_of_block m.header.fields → block_offset (slice_index m.table.words (c / counters_of_block m.header.fields)) ≢ 0 → counted m c ≡ 0 → place ≤ c
+  pub first : (c : ℕ) → mark ≤ c → c < index * counters_of_block m.header.fields
+      → block_offset (slice_index m.table.words (c / counters_of_block m.header.fields)) ≢ 0 → counted m c ≡ 0 → place ≤ c
   pub own : place ≤ index * counters_of_block m.header.fields
 
 -- how many blocks are there for a run that were lacking for it
 abbrev pub made_for : Metadata → Metadata → ℕ → ℕ → ℕ
-made_for m m' first n = lacking m.table (counters_of_block m.header.fields) first n - lacking m'.table (counters_of_block m.header.fields) first n
+made_for m m' first n = lacking m.table (counters_of_block m.header.fields) first n - lacking m'.table
+    (counters_of_block m.header.fields) first n
 
 -- Blocks were made for a run, those of a range of indices, one for each at most. Where as many clusters, from one on that the first of these counts, weren't counted, what is
 -- counted anew lies before their end; and none lies behind the first one that its block counts.
 pub record FillsFrom (mark index end : ℕ) (m m' : Metadata) : Type 0 where
-  pub fewer : (first n : ℕ) → lacking m'.table (counters_of_block m.header.fields) first n ≤ lacking m.table (counters_of_block m.header.fields) first n
-  pub few : (first n : ℕ) → lacking m.table (counters_of_block m.header.fields) first n ≤ lacking m'.table (counters_of_block m.header.fields) first n + (end - index)
-  pub near : (first n z : ℕ) → first / counters_of_block m.header.fields ≤ index → ((i : ℕ) → i < end → i * counters_of_block m.header.fields < first + n) → mark ≤ z → z / counters_of_block m.header.fields ≡ index
-      → ((c : ℕ) → z ≤ c → c < z + made_for m m' first n → counted m c ≡ 0) → (c : ℕ) → counted m' c ≢ counted m c → c < z + made_for m m' first n
+  pub fewer : (first n : ℕ) → lacking m'.table (counters_of_block m.header.fields) first n
+      ≤ lacking m.table (counters_of_block m.header.fields) first n
+  pub few : (first n : ℕ) → lacking m.table (counters_of_block m.header.fields) first n
+      ≤ lacking m'.table (counters_of_block m.header.fields) first n + (end - index)
+  pub near : (first n z : ℕ) → first / counters_of_block m.header.fields ≤ index
+      → ((i : ℕ) → i < end → i * counters_of_block m.header.fields < first + n) → mark ≤ z → z / counters_of_block m.header.fields ≡ index
+      → ((c : ℕ) → z ≤ c → c < z + made_for m m' first n → counted m c ≡ 0) → (c : ℕ) → counted m' c ≢ counted m c
+      → c < z + made_for m m' first n
   pub own : (c : ℕ) → counted m' c ≢ counted m c → (i : ℕ) × (index ≤ i) × (i < end) × (c ≤ i * counters_of_block m.header.fields)

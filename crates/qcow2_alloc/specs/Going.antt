@@ -30,13 +30,16 @@ Always cached = ⊤
 
 -- What any number of writes of cached tables or blocks does, where `Ready` says what has to be written before. They succeeded where `ok`
 -- holds.
-pub record Going (H : Header) (order : CacheDependency) (Ready : Cached → Type 0) (ok : Type 0) (old : StorageState) (cached : Cached) (new : StorageState) (cached' : Cached) : Type 0 where
+pub record Going (H : Header) (order : CacheDependency) (Ready : Cached → Type 0) (ok : Type 0) (old : StorageState) (cached : Cached)
+    (new : StorageState) (cached' : Cached) : Type 0 where
   pub shape : new.shape ≡ old.shape
   pub later : Later old new
   pub faults : ok → IsFaultless old new
   pub ready : Ready cached → Ready cached'
-  pub passes : IsTrue old.shape.keeps → Safe (bytes_of old.bytes) H cached order → Ready cached → Passes (λ x. IsLeft (bytes_of old.bytes) (memory (bytes_of old.bytes) H.fields cached) H (bytes_of x)) old new
-  pub holds : IsTrue old.shape.keeps → Safe (bytes_of old.bytes) H cached order → Ready cached → ok ⊎ IsCalm old new → IsSettled H order old.bytes cached new.bytes cached'
+  pub passes : IsTrue old.shape.keeps → Safe (bytes_of old.bytes) H cached order → Ready cached
+      → Passes (λ x. IsLeft (bytes_of old.bytes) (memory (bytes_of old.bytes) H.fields cached) H (bytes_of x)) old new
+  pub holds : IsTrue old.shape.keeps → Safe (bytes_of old.bytes) H cached order → Ready cached → ok ⊎ IsCalm old new
+      → IsSettled H order old.bytes cached new.bytes cached'
 
 -- Words can name the cluster of each table that is to be written,
 abbrev pub AreTablesInReach : Cached → Type 0
@@ -61,15 +64,18 @@ CountsWrites reach before after result = MatchResult result (λ _. after ≡ bef
 -- The tables are flushed, each by one request at most, and no block;
 abbrev pub WritesTables : StorageState → Cached → Result Unit Fault → StorageState → Cached → Type 0
 WritesTables old cached result new cached' = (cached'.blocks ≡ cached.blocks)
-    × FlushedEach (λ a key table answer b table'. TableFlushed key table a answer b table') old cached.tables (fault_of result) new cached'.tables
+    × FlushedEach (λ a key table answer b table'. TableFlushed key table a answer b table') old cached.tables
+    (fault_of result) new cached'.tables
 
 -- or the blocks, and no table.
 abbrev pub WritesBlocks : StorageState → Cached → Result Unit Fault → StorageState → Cached → Type 0
 WritesBlocks old cached result new cached' = (cached'.tables ≡ cached.tables)
-    × FlushedEach (λ a key block answer b block'. BlockFlushed key block a answer b block') old cached.blocks (fault_of result) new cached'.blocks
+    × FlushedEach (λ a key block answer b block'. BlockFlushed key block a answer b block') old cached.blocks
+    (fault_of result) new cached'.blocks
 
 -- One is done, and where it succeeded the other: no request of the second comes before the last of the first.
-pub record InTurn (First Second : StorageState → Cached → Result Unit Fault → StorageState → Cached → Type 0) (old : StorageState) (cached : Cached) (result : Result Unit Fault) (new : StorageState) (cached' : Cached) : Type 0 where
+pub record InTurn (First Second : StorageState → Cached → Result Unit Fault → StorageState → Cached → Type 0) (old : StorageState)
+    (cached : Cached) (result : Result Unit Fault) (new : StorageState) (cached' : Cached) : Type 0 where
   pub mid : StorageState
   pub between : Cached
   pub answer : Result Unit Fault
@@ -78,12 +84,14 @@ pub record InTurn (First Second : StorageState → Cached → Result Unit Fault 
   pub second : answer ≡ Ok tt → Second mid between result new cached'
 
 -- Blocks are written before something is done, where they come first,
-pub record BehindBlocks (order : CacheDependency) (Done : StorageState → Cached → Result Unit Fault → StorageState → Cached → Type 0) (old : StorageState) (cached : Cached) (result : Result Unit Fault) (new : StorageState) (cached' : Cached) : Type 0 where
+pub record BehindBlocks (order : CacheDependency) (Done : StorageState → Cached → Result Unit Fault → StorageState → Cached → Type 0)
+    (old : StorageState) (cached : Cached) (result : Result Unit Fault) (new : StorageState) (cached' : Cached) : Type 0 where
   pub alone : (order ≡ L2DependsOnRb → ⊥) → Done old cached result new cached'
   pub in_turn : order ≡ L2DependsOnRb → InTurn WritesBlocks Done old cached result new cached'
 
 -- or tables, where these do.
-pub record BehindTables (order : CacheDependency) (Done : StorageState → Cached → Result Unit Fault → StorageState → Cached → Type 0) (old : StorageState) (cached : Cached) (result : Result Unit Fault) (new : StorageState) (cached' : Cached) : Type 0 where
+pub record BehindTables (order : CacheDependency) (Done : StorageState → Cached → Result Unit Fault → StorageState → Cached → Type 0)
+    (old : StorageState) (cached : Cached) (result : Result Unit Fault) (new : StorageState) (cached' : Cached) : Type 0 where
   pub alone : (order ≡ RbDependsOnL2 → ⊥) → Done old cached result new cached'
   pub in_turn : order ≡ RbDependsOnL2 → InTurn WritesTables Done old cached result new cached'
 

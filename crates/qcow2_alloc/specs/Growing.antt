@@ -45,14 +45,20 @@ needed_for table k n run = n + lacking table k run.first run.len
 
 module _ {S : Type 0} (state : S → StorageState) where
   -- The search goes on: with as many clusters as are needed where these aren't counted, and else behind the first.
-  pub record GrowsRoom (table : TableValue) (n needed : ℕ) (was : Run) (old : MetadataCaches S) (before : ImageFile S) (result : Result Run Fault) (new : MetadataCaches S) (after : ImageFile S) : Type 0 where
+  pub record GrowsRoom (table : TableValue) (n needed : ℕ) (was : Run) (old : MetadataCaches S) (before : ImageFile S)
+      (result : Result Run Fault) (new : MetadataCaches S) (after : ImageFile S) : Type 0 where
     pub looked : Looked state table old before result new after
-    pub further : IfOk result (λ now. ((now.first ≡ was.first) × (now.len ≡ needed)) ⊎ ((was.first < now.first) × (was.first < length table.words * counters_of_block before.header.fields) × (now.len ≡ n)))
+    pub further : IfOk result (λ now. ((now.first ≡ was.first) × (now.len ≡ needed))
+        ⊎ ((was.first < now.first) × (was.first < length table.words * counters_of_block before.header.fields) × (now.len ≡ n)))
     pub near : IfOk result (λ now. now.first ≤ max (was.first + 1) (length table.words * counters_of_block before.header.fields))
-    pub so_far : IsSafeWith state table old before → IfOk result (λ now. (from : ℕ) → needed ≡ needed_for table (counters_of_block before.header.fields) n was
-        → IsRoomSoFar table (counters_of_block before.header.fields) (counts_in state old before) from n was → IsRoomSoFar table (counters_of_block before.header.fields) (counts_in state old before) from n now)
+    pub so_far : IsSafeWith state table old before
+        → IfOk result (λ now. (from : ℕ) → needed ≡ needed_for table (counters_of_block before.header.fields) n was
+        → IsRoomSoFar table (counters_of_block before.header.fields) (counts_in state old before) from n was
+        → IsRoomSoFar table (counters_of_block before.header.fields) (counts_in state old before) from n now)
 
   -- So is the room searched for.
-  pub record LooksForRoom (table : TableValue) (from n : ℕ) (old : MetadataCaches S) (before : ImageFile S) (result : Result Run Fault) (new : MetadataCaches S) (after : ImageFile S) : Type 0 where
+  pub record LooksForRoom (table : TableValue) (from n : ℕ) (old : MetadataCaches S) (before : ImageFile S) (result : Result Run Fault)
+      (new : MetadataCaches S) (after : ImageFile S) : Type 0 where
     pub looked : Looked state table old before result new after
-    pub found : IsSafeWith state table old before → IfOk result (λ room. IsFirstRoom table (counters_of_block before.header.fields) (counts_in state old before) from n room.first room.len)
+    pub found : IsSafeWith state table old before → IfOk result (λ room.
+        IsFirstRoom table (counters_of_block before.header.fields) (counts_in state old before) from n room.first room.len)

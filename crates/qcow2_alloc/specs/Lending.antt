@@ -27,9 +27,14 @@ module _ (K V B D : RattleType) (key : HashMembers K.Denot) where
   abbrev pub lends_value : MutBor (AsyncLruCache K.Denot V.Denot B.Denot D.Denot) → K.Denot → Option (MutBor V.Denot) → Fml
   lends_value c k r = LendsSo cache_row V c r (λ n w. n ≡ with_entries c.now (hit (key.eq k) c.now.slots.entries w)) (λ n. n ≡ c.now)
 
-  module _ (loads : D.Denot → K.Denot → Result V.Denot Fault → D.Denot → Type 0) (flushes : D.Denot → K.Denot → V.Denot → Result Unit Fault → D.Denot → V.Denot → Type 0) where
+  module _ (loads : D.Denot → K.Denot → Result V.Denot Fault → D.Denot → Type 0)
+      (flushes : D.Denot → K.Denot → V.Denot → Result Unit Fault → D.Denot → V.Denot → Type 0) where
     -- the entry at the key is found or loaded with the value that r shows, and goes first, with the last value written through r
-    abbrev pub lends_found : MutBor (AsyncLruCache K.Denot V.Denot B.Denot D.Denot) → D.Denot → D.Denot → K.Denot → Bool → Result (MutBor V.Denot) NotLent → Fml
+    abbrev pub lends_found : MutBor (AsyncLruCache K.Denot V.Denot B.Denot D.Denot) → D.Denot → D.Denot → K.Denot → Bool
+        → Result (MutBor V.Denot) NotLent → Fml
     lends_found c before after k may_flush r = LendsSoOk cache_row V c r
-        (λ n w. (mid : List (K.Denot × Slot V.Denot)) × Readied key.eq loads flushes c.now.slots.cap may_flush k before c.now.slots.entries (Ok true) after mid × IfOk r (λ v. option_map (λ s. s.value) (lookup (key.eq k) mid) ≡ Some v.now) × (n ≡ with_entries c.now (hit (key.eq k) mid w)))
-        (λ n. Readied key.eq loads flushes c.now.slots.cap may_flush k before c.now.slots.entries (answer_of r) after n.slots.entries × (n ≡ with_entries c.now n.slots.entries))
+        (λ n w. (mid : List (K.Denot × Slot V.Denot)) × Readied key.eq loads flushes c.now.slots.cap may_flush k before c.now.slots.entries
+        (Ok true) after mid × IfOk r (λ v. option_map (λ s. s.value) (lookup (key.eq k) mid) ≡ Some v.now)
+        × (n ≡ with_entries c.now (hit (key.eq k) mid w)))
+        (λ n. Readied key.eq loads flushes c.now.slots.cap may_flush k before c.now.slots.entries (answer_of r) after n.slots.entries
+        × (n ≡ with_entries c.now n.slots.entries))

@@ -30,20 +30,27 @@ pub record IsReadyBlock (m : Metadata) (i d : ℕ) : Type 0 where
   pub reach : IsInReach m.header.fields.cluster_bits d
   pub unnamed : named_at_all m d ≡ 0
   pub unlisted : waiting m d ≡ 0
-  pub counters : (c : ℕ) → c / counters_of_block m.header.fields ≡ i → counter m.file m.header.fields (d * cluster_size m.header.fields) (c % counters_of_block m.header.fields) ≡ one_at d c
+  pub counters : (c : ℕ) → c / counters_of_block m.header.fields ≡ i
+      → counter m.file m.header.fields (d * cluster_size m.header.fields) (c % counters_of_block m.header.fields) ≡ one_at d c
   pub counted : d / counters_of_block m.header.fields ≢ i → (1 ≤ count m.file m.header.fields d) × (1 ≤ counted m d)
-  pub cached : AllByRecursion (λ e. e.0 ≡ d → e.1.value.counters ≡ counters_in m.file m.header.fields (d * cluster_size m.header.fields)) m.cached.blocks
+  pub cached : AllByRecursion (λ e. e.0 ≡ d → e.1.value.counters ≡ counters_in m.file m.header.fields (d * cluster_size m.header.fields))
+      m.cached.blocks
 
 -- The image with this file, where word i of the refcount table in memory names cluster d. The table may be marked as modified or not.
 abbrev pub with_block : Metadata → ℕ → ℕ → Bool → Bytes → Metadata
-with_block m i d modified file = record m { file = file; table = record (with_word m.table i (d * cluster_size m.header.fields)) { modified = modified } }
+with_block m i d modified file = record m {
+  file = file;
+  table = record (with_word m.table i (d * cluster_size m.header.fields)) { modified = modified };
+}
 
 -- Cluster d became block i: it is named, and counts its clusters as its bytes say. Nothing else is counted or named otherwise.
 pub record BlockNamed (old new : Metadata) (i d : ℕ) : Type 0 where
   pub here : block_at new.file new.header.fields i ≡ d * cluster_size old.header.fields
   pub blocks : (b : ℕ) → b ≢ i → block_at new.file new.header.fields b ≡ block_at old.file old.header.fields b
-  pub own : (c : ℕ) → c / counters_of_block old.header.fields ≡ i → (counted old c ≡ 0) × (counted new c ≡ one_at d c) × (count new.file new.header.fields c ≡ one_at d c)
-  pub others : (c : ℕ) → c / counters_of_block old.header.fields ≢ i → (counted new c ≡ counted old c) × (count new.file new.header.fields c ≡ count old.file old.header.fields c)
+  pub own : (c : ℕ) → c / counters_of_block old.header.fields ≡ i → (counted old c ≡ 0) × (counted new c ≡ one_at d c)
+      × (count new.file new.header.fields c ≡ one_at d c)
+  pub others : (c : ℕ) → c / counters_of_block old.header.fields ≢ i → (counted new c ≡ counted old c)
+      × (count new.file new.header.fields c ≡ count old.file old.header.fields c)
   pub references : (c : ℕ) → referenced new c ≡ referenced old c + one_at d c
   pub names : (c : ℕ) → named_at_all new c ≡ named_at_all old c + one_at d c
 
@@ -53,7 +60,8 @@ abbrev pub newly : Metadata → ℕ → ℕ → ℕ → ℕ
 newly m t n c = newly_named m.file m.header.fields (t * cluster_size m.header.fields) n (meets m.header.fields c)
 
 abbrev pub formerly : Metadata → ℕ → ℕ
-formerly m c = meets m.header.fields c m.header.fields.refcount_table_offset (m.header.fields.refcount_table_clusters * cluster_size m.header.fields)
+formerly m c = meets m.header.fields c m.header.fields.refcount_table_offset
+    (m.header.fields.refcount_table_clusters * cluster_size m.header.fields)
 
 -- what of these an old block counts
 abbrev pub newly_counted : Metadata → ℕ → ℕ → ℕ → ℕ
@@ -68,22 +76,33 @@ pub record IsReadyTable (m : Metadata) (table : TableValue) (t n : ℕ) : Type 0
   pub placed : table.cluster ≡ Some t
   pub written : (i : ℕ) → i < length table.words → word m.file (t * cluster_size m.header.fields) i ≡ slice_index table.words i
   pub sane : (i : ℕ) → i < length table.words → IsTrue (block_word_sound m.header.fields.cluster_bits (slice_index table.words i))
-  pub olds : (i : ℕ) → i < length m.table.words → block_offset (slice_index m.table.words i) ≢ 0 → (i < length table.words) × (block_offset (slice_index table.words i) ≡ block_offset (slice_index m.table.words i))
+  pub olds : (i : ℕ) → i < length m.table.words → block_offset (slice_index m.table.words i) ≢ 0 → (i < length table.words)
+      × (block_offset (slice_index table.words i) ≡ block_offset (slice_index m.table.words i))
   pub once : (c : ℕ) → newly m t n c ≤ 1
   pub free : (c : ℕ) → 0 < newly m t n c → (named_at_all m c ≡ 0) × (waiting m c ≡ 0)
-  pub own : (c : ℕ) → block_at m.file m.header.fields (c / counters_of_block m.header.fields) ≡ 0 → count m.file (with_reftable m.header.fields (t * cluster_size m.header.fields) n) c ≡ newly m t n c
-  pub others : (c : ℕ) → block_at m.file m.header.fields (c / counters_of_block m.header.fields) ≢ 0 → (newly m t n c ≤ count m.file m.header.fields c) × (newly m t n c ≤ counted m c)
-  pub cached : AllByRecursion (λ e. (b : ℕ) → block_at m.file m.header.fields b ≡ 0 → block_at m.file (with_reftable m.header.fields (t * cluster_size m.header.fields) n) b ≡ e.0 * cluster_size m.header.fields → e.0 ≢ 0
+  pub own : (c : ℕ) → block_at m.file m.header.fields (c / counters_of_block m.header.fields) ≡ 0
+      → count m.file (with_reftable m.header.fields (t * cluster_size m.header.fields) n) c ≡ newly m t n c
+  pub others : (c : ℕ) → block_at m.file m.header.fields (c / counters_of_block m.header.fields) ≢ 0
+      → (newly m t n c ≤ count m.file m.header.fields c) × (newly m t n c ≤ counted m c)
+  pub cached : AllByRecursion (λ e. (b : ℕ) → block_at m.file m.header.fields b ≡ 0
+      → block_at m.file (with_reftable m.header.fields (t * cluster_size m.header.fields) n) b
+      ≡ e.0 * cluster_size m.header.fields → e.0 ≢ 0
       → e.1.value.counters ≡ counters_in m.file m.header.fields (e.0 * cluster_size m.header.fields)) m.cached.blocks
 
 -- The image with this file, where this table of n clusters at cluster t is the refcount table.
 abbrev pub with_table : Metadata → TableValue → ℕ → ℕ → Bytes → Metadata
-with_table m table t n file = record m { file = file; header = with_refcount_table m.header (t * cluster_size m.header.fields) n; table = table }
+with_table m table t n file = record m {
+  file = file;
+  header = with_refcount_table m.header (t * cluster_size m.header.fields) n;
+  table = table;
+}
 
 -- It became the refcount table: its clusters and the new blocks are named, and the old table no longer.
 pub record TableSwitched (old new : Metadata) (t n : ℕ) : Type 0 where
-  pub own : (c : ℕ) → block_at old.file old.header.fields (c / counters_of_block old.header.fields) ≡ 0 → (counted old c ≡ 0) × (counted new c ≡ newly old t n c) × (count new.file new.header.fields c ≡ newly old t n c)
-  pub others : (c : ℕ) → block_at old.file old.header.fields (c / counters_of_block old.header.fields) ≢ 0 → (counted new c ≡ counted old c) × (count new.file new.header.fields c ≡ count old.file old.header.fields c)
+  pub own : (c : ℕ) → block_at old.file old.header.fields (c / counters_of_block old.header.fields) ≡ 0 → (counted old c ≡ 0)
+      × (counted new c ≡ newly old t n c) × (count new.file new.header.fields c ≡ newly old t n c)
+  pub others : (c : ℕ) → block_at old.file old.header.fields (c / counters_of_block old.header.fields) ≢ 0 → (counted new c ≡ counted old c)
+      × (count new.file new.header.fields c ≡ count old.file old.header.fields c)
   pub references : (c : ℕ) → referenced new c + formerly old c ≡ referenced old c + newly old t n c
   pub names : (c : ℕ) → named_at_all new c + formerly old c ≡ named_at_all old c + newly old t n c
 
@@ -103,7 +122,8 @@ pub record IsGrownTable (m : Metadata) (table : TableValue) (s : ℕ) (new : ℕ
   pub layout : table.layout ≡ layout_of m.header.fields
   pub long : length table.words ≡ n * words_of_cluster m.header.fields
   pub placed : table.cluster ≡ Some (s + rank new (length table.words))
-  pub written : (i : ℕ) → i < length table.words → word m.file ((s + rank new (length table.words)) * cluster_size m.header.fields) i ≡ slice_index table.words i
+  pub written : (i : ℕ) → i < length table.words
+      → word m.file ((s + rank new (length table.words)) * cluster_size m.header.fields) i ≡ slice_index table.words i
   pub sane : (i : ℕ) → i < length table.words → IsTrue (block_word_sound m.header.fields.cluster_bits (slice_index table.words i))
   pub longer : length m.table.words ≤ length table.words
   pub inside : (i : ℕ) → new i ≡ true → i < length table.words
@@ -113,6 +133,9 @@ pub record IsGrownTable (m : Metadata) (table : TableValue) (s : ℕ) (new : ℕ
   pub olds : (i : ℕ) → new i ≡ false → block_offset (slice_index table.words i) ≡ block_offset (slice_index m.table.words i)
   pub free : (c : ℕ) → 0 < covers c (run_of s (rank new (length table.words) + n)) → (named_at_all m c ≡ 0) × (waiting m c ≡ 0)
   pub counters : (i c : ℕ) → new i ≡ true → c / counters_of_block m.header.fields ≡ i
-      → counter m.file m.header.fields ((s + rank new i) * cluster_size m.header.fields) (c % counters_of_block m.header.fields) ≡ covers c (run_of s (rank new (length table.words) + n))
-  pub counted : (c : ℕ) → 0 < covers c (run_of s (rank new (length table.words) + n)) → new (c / counters_of_block m.header.fields) ≡ false → (1 ≤ count m.file m.header.fields c) × (1 ≤ counted m c)
-  pub cached : AllByRecursion (λ e. (i : ℕ) → new i ≡ true → e.0 ≡ s + rank new i → e.1.value.counters ≡ counters_in m.file m.header.fields (e.0 * cluster_size m.header.fields)) m.cached.blocks
+      → counter m.file m.header.fields ((s + rank new i) * cluster_size m.header.fields) (c % counters_of_block m.header.fields)
+      ≡ covers c (run_of s (rank new (length table.words) + n))
+  pub counted : (c : ℕ) → 0 < covers c (run_of s (rank new (length table.words) + n)) → new (c / counters_of_block m.header.fields) ≡ false
+      → (1 ≤ count m.file m.header.fields c) × (1 ≤ counted m c)
+  pub cached : AllByRecursion (λ e. (i : ℕ) → new i ≡ true → e.0 ≡ s + rank new i
+      → e.1.value.counters ≡ counters_in m.file m.header.fields (e.0 * cluster_size m.header.fields)) m.cached.blocks

@@ -20,11 +20,13 @@ pub record CountsItsOwn (h : Fields) (index : ℕ) (run : Run) (block : Block) :
   pub cluster_bits : block.cluster_bits ≡ h.cluster_bits
   pub order : block.order ≡ h.refcount_order
   pub long : length block.counters ≡ counters_of_block h
-  pub each : (j : ℕ) → j < counters_of_block h → slice_index block.counters j ≡ covers (index * counters_of_block h + j) (run_of run.first run.len)
+  pub each : (j : ℕ) → j < counters_of_block h → slice_index block.counters j
+      ≡ covers (index * counters_of_block h + j) (run_of run.first run.len)
 
 -- A file has such a block in cluster d.
 abbrev pub HasCountedOwn : Bytes → Fields → ℕ → ℕ → Run → Type 0
-HasCountedOwn f h d index run = (c : ℕ) → c / counters_of_block h ≡ index → counter f h (d * cluster_size h) (c % counters_of_block h) ≡ covers c (run_of run.first run.len)
+HasCountedOwn f h d index run = (c : ℕ) → c / counters_of_block h ≡ index
+    → counter f h (d * cluster_size h) (c % counters_of_block h) ≡ covers c (run_of run.first run.len)
 
 -- the image with the file that a storage has
 abbrev pub with_file : Metadata → StorageState → Metadata
@@ -44,17 +46,24 @@ pub record WritesClusters (h : Header) (first n : ℕ) (old : StorageState) (res
   pub faults : WasNotCutOff result → IsFaultless old new
   pub whole : WasNotCutOff result → result ≡ Ok tt
   pub cause : MatchResult result (λ _. new.faults ≡ old.faults) (Cause old.faults new.faults)
-  pub quiet : (m : Metadata) (taken : ℕ → ℕ) → MayWrite h first n taken old m → Quietly (WasNotCutOff result) taken taken old m new (with_file m new)
-  pub counts : (m : Metadata) (taken : ℕ → ℕ) → MayWrite h first n taken old m → IsTrue old.shape.keeps → IsSound m → result ≡ Ok tt → CountsTheSame m (with_file m new)
-  pub others : IsTrue old.shape.keeps → result ≡ Ok tt → (p : ℕ) → (p < first * cluster_size h.fields) ⊎ ((first + n) * cluster_size h.fields ≤ p) → bytes_of new.bytes p ≡ bytes_of old.bytes p
+  pub quiet : (m : Metadata) (taken : ℕ → ℕ) → MayWrite h first n taken old m
+      → Quietly (WasNotCutOff result) taken taken old m new (with_file m new)
+  pub counts : (m : Metadata) (taken : ℕ → ℕ) → MayWrite h first n taken old m → IsTrue old.shape.keeps → IsSound m → result ≡ Ok tt
+      → CountsTheSame m (with_file m new)
+  pub others : IsTrue old.shape.keeps → result ≡ Ok tt → (p : ℕ) → (p < first * cluster_size h.fields)
+      ⊎ ((first + n) * cluster_size h.fields ≤ p) → bytes_of new.bytes p ≡ bytes_of old.bytes p
 
 -- A block for an index is written to cluster d, which counts the clusters of a run that are its own.
-pub record WritesBlockTo (h : Header) (index : ℕ) (run : Run) (d : ℕ) (old : StorageState) (result : Result Unit Fault) (new : StorageState) : Type 0 where
+pub record WritesBlockTo (h : Header) (index : ℕ) (run : Run) (d : ℕ) (old : StorageState) (result : Result Unit Fault)
+    (new : StorageState) : Type 0 where
   pub writes : WritesClusters h d 1 old result new
-  pub counters : (m : Metadata) (taken : ℕ → ℕ) → MayWrite h d 1 taken old m → IsTrue old.shape.keeps → IsSound m → result ≡ Ok tt → HasCountedOwn (bytes_of new.bytes) h.fields d index run
+  pub counters : (m : Metadata) (taken : ℕ → ℕ) → MayWrite h d 1 taken old m → IsTrue old.shape.keeps → IsSound m → result ≡ Ok tt
+      → HasCountedOwn (bytes_of new.bytes) h.fields d index run
 
 -- The blocks that are lacking for a run are written to its first clusters, in the order of their indices, and count those of it that are theirs.
-pub record WritesLacking (h : Header) (table : TableValue) (run : Run) (old : StorageState) (result : Result Unit Fault) (new : StorageState) : Type 0 where
+pub record WritesLacking (h : Header) (table : TableValue) (run : Run) (old : StorageState) (result : Result Unit Fault)
+    (new : StorageState) : Type 0 where
   pub writes : WritesClusters h run.first run.len old result new
-  pub counters : (m : Metadata) (taken : ℕ → ℕ) → MayWrite h run.first run.len taken old m → IsTrue old.shape.keeps → IsSound m → result ≡ Ok tt → (i : ℕ) → lacks table (counters_of_block h.fields) run.first run.len i ≡ true
+  pub counters : (m : Metadata) (taken : ℕ → ℕ) → MayWrite h run.first run.len taken old m → IsTrue old.shape.keeps → IsSound m
+      → result ≡ Ok tt → (i : ℕ) → lacks table (counters_of_block h.fields) run.first run.len i ≡ true
       → HasCountedOwn (bytes_of new.bytes) h.fields (run.first + rank (lacks table (counters_of_block h.fields) run.first run.len) i) i run

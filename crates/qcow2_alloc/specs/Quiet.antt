@@ -92,19 +92,24 @@ module _ (m : Metadata) where
     pub behind : (p : ℕ) → 64 ≤ p → p < cluster_size m.header.fields → x p ≡ m.file p
     pub l1 : (i : ℕ) → i < m.header.fields.l1_entries → word x m.header.fields.l1_offset i ≡ word m.file m.header.fields.l1_offset i
     pub tables : (i : ℕ) → l2_table x H.fields i ≡ l2_table m.file m.header.fields i
-    pub words : (i j : ℕ) → Live (l2_table m.file m.header.fields) m.header.fields i j → (slot x H.fields i j ≡ slot m.file m.header.fields i j) ⊎ (slot x H.fields i j ≡ slot in_memory m.header.fields i j)
-    pub contents : (i j : ℕ) → Live (l2_table m.file m.header.fields) m.header.fields i j → (p : ℕ) → 0 < of_mapping m.header.fields (touches p 1) (slot x H.fields i j) → x p ≡ m.file p
+    pub words : (i j : ℕ) → Live (l2_table m.file m.header.fields) m.header.fields i j
+        → (slot x H.fields i j ≡ slot m.file m.header.fields i j) ⊎ (slot x H.fields i j ≡ slot in_memory m.header.fields i j)
+    pub contents : (i j : ℕ) → Live (l2_table m.file m.header.fields) m.header.fields i j → (p : ℕ)
+        → 0 < of_mapping m.header.fields (touches p 1) (slot x H.fields i j) → x p ≡ m.file p
 
 -- The image is as it was to the disk: in memory each word means what it did, and the file shows what it did there or in memory. What is used
 -- and not taken keeps its bytes and its place, and no more entries wait to free it. In memory, how often a cluster is counted beyond what names it and what waits to free it has changed by
 -- what was handed out and by what was taken back, to be named, to wait or to be free.
 pub record IsQuiet (handed taken : ℕ → ℕ) (old new : Metadata) : Type 0 where
   pub shows : ShowsEither old new.file new.header
-  pub words : (i j : ℕ) → Live (l2_table old.file old.header.fields) old.header.fields i j → slot (in_memory new) new.header.fields i j ≡ slot (in_memory old) old.header.fields i j
-  pub kept : (c : ℕ) → IsUsed old c → taken c ≡ 0 → Same old.file new.file (c * cluster_size old.header.fields) (cluster_size old.header.fields)
+  pub words : (i j : ℕ) → Live (l2_table old.file old.header.fields) old.header.fields i j
+      → slot (in_memory new) new.header.fields i j ≡ slot (in_memory old) old.header.fields i j
+  pub kept : (c : ℕ) → IsUsed old c → taken c ≡ 0
+      → Same old.file new.file (c * cluster_size old.header.fields) (cluster_size old.header.fields)
   pub apart : (c : ℕ) → IsUsed old c → taken c ≡ 0 → structure new.file new.header.fields (meets new.header.fields c) ≡ 0
   pub waits : (c : ℕ) → IsUsed old c → taken c ≡ 0 → waiting new c ≤ waiting old c
-  pub law : (c : ℕ) → counted new c + referenced old c + waiting old c + taken c ≡ counted old c + referenced new c + waiting new c + handed c
+  pub law : (c : ℕ) → counted new c + referenced old c + waiting old c + taken c
+      ≡ counted old c + referenced new c + waiting new c + handed c
 
 -- one at cluster c, and none elsewhere
 abbrev pub one_at : ℕ → ℕ → ℕ
@@ -116,7 +121,8 @@ IsIn s m = m.file ≡ bytes_of s.bytes
 
 -- What a call does that leaves the disk as it is: where the storage keeps what is written, and the image was sound, each file that a stop
 -- in it leaves shows what the image did, and where the call wasn't cut off the image is sound again.
-pub record Quietly (ok : Type 0) (handed taken : ℕ → ℕ) (old : StorageState) (m : Metadata) (new : StorageState) (m' : Metadata) : Type 0 where
+pub record Quietly (ok : Type 0) (handed taken : ℕ → ℕ) (old : StorageState) (m : Metadata) (new : StorageState)
+    (m' : Metadata) : Type 0 where
   pub shape : new.shape ≡ old.shape
   pub later : Later old new
   pub passes : IsTrue old.shape.keeps → IsSound m → Passes (λ x. (H : Header) × ShowsEither m (bytes_of x) H) old new

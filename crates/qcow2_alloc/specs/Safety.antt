@@ -82,7 +82,8 @@ pub record IsCalm (old new : StorageState) : Type 0 where
   pub tells : IsTrue old.shape.tells
 
 -- what is cached of a file, safe as before: memory is what it was, and the file one that a stop could have left
-pub record IsSettled (H : Header) (order : CacheDependency) (old : List ℕ) (cached : Cached) (new : List ℕ) (cached' : Cached) : Type 0 where
+pub record IsSettled (H : Header) (order : CacheDependency) (old : List ℕ) (cached : Cached) (new : List ℕ)
+    (cached' : Cached) : Type 0 where
   pub safe : Safe (bytes_of new) H cached' order
   pub memory_same : memory (bytes_of new) H.fields cached' ≡ memory (bytes_of old) H.fields cached
   pub left : IsLeft (bytes_of old) (memory (bytes_of old) H.fields cached) H (bytes_of new)

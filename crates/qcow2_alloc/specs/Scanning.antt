@@ -29,7 +29,8 @@ AreCounted counts base counters = (j : ℕ) → j < length counters → counts (
 pub record Scans (counters : List ℕ) (n index stop : ℕ) (was now : Run) : Type 0 where
   pub moved : next_of now + index ≡ next_of was + stop
   pub rising : was.first ≤ now.first
-  pub so_far : (counts : ℕ → ℕ) (from base : ℕ) → next_of was ≡ base + index → AreCounted counts base counters → IsRunSoFar counts from n was → IsRunSoFar counts from n now
+  pub so_far : (counts : ℕ → ℕ) (from base : ℕ) → next_of was ≡ base + index → AreCounted counts base counters
+      → IsRunSoFar counts from n was → IsRunSoFar counts from n now
 
 -- One of them was at least.
 pub record ScansSome (counters : List ℕ) (n index : ℕ) (was now : Run) : Type 0 where
@@ -50,9 +51,13 @@ pub record Reads {T : Type 0} (k : ℕ) (P : List ℕ → T → Type 0) (block :
   pub even : length block.counters ≡ k → MatchResult result (P block.counters) (λ fault. ⊥)
 
 -- A run is extended, from the cluster behind it on, by clusters that one block counts.
-pub record ExtendsRun {S : Type 0} (state : S → StorageState) (table : TableValue) (n : ℕ) (was : Run) (old : MetadataCaches S) (before : ImageFile S) (result : Result Run Fault) (new : MetadataCaches S) (after : ImageFile S) : Type 0 where
+pub record ExtendsRun {S : Type 0} (state : S → StorageState) (table : TableValue) (n : ℕ) (was : Run) (old : MetadataCaches S)
+    (before : ImageFile S) (result : Result Run Fault) (new : MetadataCaches S) (after : ImageFile S) : Type 0 where
   pub looked : Looked state table old before result new after
   pub more : IfOk result (λ now. next_of was < next_of now)
   pub rising : IfOk result (λ now. was.first ≤ now.first)
-  pub near : IfOk result (λ now. next_of now ≤ (next_of was / counters_of_block before.header.fields + 1) * counters_of_block before.header.fields)
-  pub so_far : IsSafeWith state table old before → IfOk result (λ now. (from : ℕ) → IsRunSoFar (counts_in state old before) from n was → IsRunSoFar (counts_in state old before) from n now)
+  pub near : IfOk result (λ now. next_of now ≤ (next_of was / counters_of_block before.header.fields + 1) * counters_of_block
+      before.header.fields)
+  pub so_far : IsSafeWith state table old before
+      → IfOk result (λ now. (from : ℕ) → IsRunSoFar (counts_in state old before) from n was
+      → IsRunSoFar (counts_in state old before) from n now)

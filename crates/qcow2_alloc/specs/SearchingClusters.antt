@@ -34,7 +34,8 @@ pub record IsFirstFree (f : Bytes) (h : Fields) (counts : ℕ → ℕ) (from end
   pub least : (z : ℕ) → from ≤ z → z < c → HasCounter f h z → 0 < counts z
 
 abbrev pub FindsFree : Bytes → Fields → (ℕ → ℕ) → ℕ → ℕ → Option ℕ → Type 0
-FindsFree f h counts from end found = MatchOption found ((z : ℕ) → from ≤ z → z < end → HasCounter f h z → 0 < counts z) (IsFirstFree f h counts from end)
+FindsFree f h counts from end found = MatchOption found ((z : ℕ) → from ≤ z → z < end → HasCounter f h z → 0 < counts z)
+    (IsFirstFree f h counts from end)
 
 module _ {S : Type 0} (state : S → StorageState) where
   -- how often each cluster is counted in memory
@@ -48,21 +49,27 @@ module _ {S : Type 0} (state : S → StorageState) where
     pub table_of_file : IsTableOf (bytes_of (state file.image).bytes) file.header.fields table
 
   -- What a search does: blocks are loaded, in the place of others where the cache is full.
-  pub record Looked {T : Type 0} (table : TableValue) (old : MetadataCaches S) (before : ImageFile S) (result : Result T Fault) (new : MetadataCaches S) (after : ImageFile S) : Type 0 where
-    pub going : Going before.header (order_of old) Always (WasNotCutOff result) (state before.image) (cached_in old) (state after.image) (cached_in new)
+  pub record Looked {T : Type 0} (table : TableValue) (old : MetadataCaches S) (before : ImageFile S) (result : Result T Fault)
+      (new : MetadataCaches S) (after : ImageFile S) : Type 0 where
+    pub going : Going before.header (order_of old) Always (WasNotCutOff result) (state before.image) (cached_in old) (state after.image)
+        (cached_in new)
     pub order : new.order ≡ old.order
     pub header : after.header ≡ before.header
     pub loose : (any : Bool) → IsLoose table old any → IsLoose table new any
     pub room : KeepsTables old new
-    pub cause : MatchResult result (λ _. (state after.image).faults ≡ (state before.image).faults) (WhyNotFreed (IsSafeWith table old before) (IsLoose table old true) (state before.image).faults (state after.image).faults)
+    pub cause : MatchResult result (λ _. (state after.image).faults ≡ (state before.image).faults)
+        (WhyNotFreed (IsSafeWith table old before) (IsLoose table old true) (state before.image).faults (state after.image).faults)
 
   -- The first run of n clusters that aren't counted, from one on, is searched for;
-  pub record LooksForRun (table : TableValue) (from n : ℕ) (old : MetadataCaches S) (before : ImageFile S) (result : Result ℕ Fault) (new : MetadataCaches S) (after : ImageFile S) : Type 0 where
+  pub record LooksForRun (table : TableValue) (from n : ℕ) (old : MetadataCaches S) (before : ImageFile S) (result : Result ℕ Fault)
+      (new : MetadataCaches S) (after : ImageFile S) : Type 0 where
     pub looked : Looked table old before result new after
     pub near : IfOk result (λ z. (from ≤ z) × (z ≤ max from (length table.words * counters_of_block before.header.fields)))
     pub found : IsSafeWith table old before → IfOk result (IsFirstRun (counts_in old before) from n)
 
   -- or the first of a range that a block counts.
-  pub record LooksForFree (table : TableValue) (from end : ℕ) (old : MetadataCaches S) (before : ImageFile S) (result : Result (Option ℕ) Fault) (new : MetadataCaches S) (after : ImageFile S) : Type 0 where
+  pub record LooksForFree (table : TableValue) (from end : ℕ) (old : MetadataCaches S) (before : ImageFile S)
+      (result : Result (Option ℕ) Fault) (new : MetadataCaches S) (after : ImageFile S) : Type 0 where
     pub looked : Looked table old before result new after
-    pub found : IsSafeWith table old before → IfOk result (FindsFree (bytes_of (state before.image).bytes) before.header.fields (counts_in old before) from end)
+    pub found : IsSafeWith table old before → IfOk result
+        (FindsFree (bytes_of (state before.image).bytes) before.header.fields (counts_in old before) from end)

@@ -139,9 +139,9 @@ module _ (m : Metadata) (table guest x : ℕ) (sound : IsSound m) (some : x ≢ 
         | inl reserved ↦ inl (reserved-still (λ p v. ⊥) (λ q. ⊥) (λ g. ⊥) (λ _. 0) (λ _. 0) m found
             (quiet-advances m found (λ _. 0) (λ _. 0) sound start quiet (λ c named. refl)) (x + d) reserved refl)
         | inr kept ↦ inr (record {
-            file = kept.file;
-            memory = quiet-entries m found (λ _. 0) (λ _. 0) sound start quiet (guest + d) ∙ kept.memory;
-          })
+          file = kept.file;
+          memory = quiet-entries m found (λ _. 0) (λ _. 0) sound start quiet (guest + d) ∙ kept.memory;
+        })
       ];
     }
 
@@ -281,9 +281,9 @@ module _ (m : Metadata) (table guest x : ℕ) (sound : IsSound m) (some : x ≢ 
               let spared = word-set.spares (x + d) apart reserved.unnamed in
               omega (arith, none, same, spared)))
           | inr kept ↦ inr (record {
-              file = kept.file;
-              memory = word-stays d to (λ same. omega (arith, same, from)) ∙ kept.memory;
-            })
+            file = kept.file;
+            memory = word-stays d to (λ same. omega (arith, same, from)) ∙ kept.memory;
+          })
         ];
       }
 

@@ -65,7 +65,8 @@ kept_where keep mapping = if keep then kept_for_zero mapping else None
 -- Each host cluster is named and handed back as often as it was named before, and once more where it is newly named: by images
 -- with clusters of this size.
 abbrev pub Conserves : ℕ → Mapping → Mapping → Option FreeEntry → (ℕ → ℕ) → Type 0
-Conserves cluster_bits old new freed named = (h : Fields) → h.cluster_bits ≡ cluster_bits → (c : ℕ) → of_mapping h (meets h c) new + holds c freed ≡ of_mapping h (meets h c) old + named c
+Conserves cluster_bits old new freed named = (h : Fields) → h.cluster_bits ≡ cluster_bits → (c : ℕ)
+    → of_mapping h (meets h c) new + holds c freed ≡ of_mapping h (meets h c) old + named c
 
 -- 1 for a cluster that is newly named where the old allocation wasn't just it, else 0
 abbrev pub newly : ℕ → Option (ℕ × ℕ) → ℕ → ℕ

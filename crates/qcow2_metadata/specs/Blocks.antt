@@ -22,7 +22,13 @@ pub record Block : Type 0 where
 
 -- a block by its parts
 abbrev pub block_of : ℕ → ℕ → List ℕ → Option ℕ → Bool → Block
-block_of cluster_bits order counters cluster modified = record { cluster_bits = cluster_bits; order = order; counters = counters; cluster = cluster; modified = modified }
+block_of cluster_bits order counters cluster modified = record {
+  cluster_bits = cluster_bits;
+  order = order;
+  counters = counters;
+  cluster = cluster;
+  modified = modified;
+}
 
 -- the block with this counter, which the file may not hold yet
 abbrev pub with_counter : Block → ℕ → ℕ → Block

@@ -30,7 +30,8 @@ named_place external w = if not (table_offset w == 0) || (external && is_copied 
 
 -- the range that a compressed word names: its place and its length
 abbrev pub packed_range : ℕ → ℕ → Option (ℕ × ℕ)
-packed_range cluster_bits w = if has_bit w 62 then Some (packed_place cluster_bits w, packed_end cluster_bits w - packed_place cluster_bits w) else None
+packed_range cluster_bits w = if has_bit w 62 then Some
+    (packed_place cluster_bits w, packed_end cluster_bits w - packed_place cluster_bits w) else None
 
 -- the word of a guest cluster that reads as zeroes, for which the host cluster at this place is kept
 abbrev pub zero_word : ℕ → Bool → ℕ

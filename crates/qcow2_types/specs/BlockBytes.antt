@@ -13,7 +13,8 @@ abbrev pub narrow_byte : ℕ → List ℕ → ℕ → ℕ
 narrow_byte width counters k = sum_below (8 / width) (λ j. slice_index counters (k * (8 / width) + j) * 2 ^ (j * width))
 
 unfoldable pub block_bytes : ℕ → List ℕ → List ℕ
-block_bytes order counters = let width = 2 ^ order in map (λ k. if nat_le 8 width then wide_byte width counters k else narrow_byte width counters k) (range_with_len 0 (length counters * width / 8))
+block_bytes order counters = let width = 2 ^ order in map (λ k.
+    if nat_le 8 width then wide_byte width counters k else narrow_byte width counters k) (range_with_len 0 (length counters * width / 8))
 
 -- these bytes are those of the counters
 pub record Packs (order : ℕ) (counters bytes : List ℕ) : Type 0 where

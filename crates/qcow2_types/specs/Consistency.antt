@@ -8,7 +8,8 @@ use Rattle.qcow2_types.specs.References.{structure, contents, of_copied, meets, 
 
 -- No table of the image is damaged.
 unfoldable pub tables_sound : Bytes → Fields → Bool
-tables_sound f h = l1_table_sound f h && refcount_table_sound f h && all_below h.l1_entries (λ i. (l2_table f h i == 0) || l2_table_sound f h (l2_table f h i))
+tables_sound f h = l1_table_sound f h && refcount_table_sound f h && all_below h.l1_entries (λ i.
+    (l2_table f h i == 0) || l2_table_sound f h (l2_table f h i))
 
 -- A cluster of the header, a table or a block is named more than once.
 unfoldable pub shares_structure : Bytes → Fields → ℕ → Bool
@@ -78,9 +79,12 @@ IsFirstFinding f h header = ⊥
 IsFirstFinding f h snapshots = 0 < h.snapshots
 IsFirstFinding f h external = (h.snapshots ≡ 0) × IsTrue (has_external_data h)
 IsFirstFinding f h table = (h.snapshots ≡ 0) × IsFalse (has_external_data h) × IsFalse (tables_sound f h)
-IsFirstFinding f h (shared_table c) = (h.snapshots ≡ 0) × IsFalse (has_external_data h) × IsTrue (tables_sound f h) × IsLeast (shares_structure f h) c
-IsFirstFinding f h (false_copied c) = (h.snapshots ≡ 0) × IsFalse (has_external_data h) × IsTrue (tables_sound f h) × Nowhere (shares_structure f h) × IsLeast (is_false_copied f h) c
-IsFirstFinding f h (under_counted c) = (h.snapshots ≡ 0) × IsFalse (has_external_data h) × IsTrue (tables_sound f h) × Nowhere (shares_structure f h) × Nowhere (is_false_copied f h) × IsLeast (is_under_counted f h) c
+IsFirstFinding f h (shared_table c) = (h.snapshots ≡ 0) × IsFalse (has_external_data h) × IsTrue (tables_sound f h)
+    × IsLeast (shares_structure f h) c
+IsFirstFinding f h (false_copied c) = (h.snapshots ≡ 0) × IsFalse (has_external_data h) × IsTrue (tables_sound f h)
+    × Nowhere (shares_structure f h) × IsLeast (is_false_copied f h) c
+IsFirstFinding f h (under_counted c) = (h.snapshots ≡ 0) × IsFalse (has_external_data h) × IsTrue (tables_sound f h)
+    × Nowhere (shares_structure f h) × Nowhere (is_false_copied f h) × IsLeast (is_under_counted f h) c
 
 -- What a checker answers: the leaks of a consistent image, or the first finding.
 abbrev pub IsVerdict : Bytes → Result (List (ℕ × ℕ)) Finding → Type 0

@@ -68,11 +68,13 @@ shown_by damaged host below = damaged_place
 
 -- the byte of a host cluster that a guest place shows
 abbrev pub host_byte : Bytes → Bytes → Fields → ℕ → ℕ → Value
-host_byte file external h p cluster = byte ((if has_external_data h then external else file) (cluster * cluster_size h + p % cluster_size h))
+host_byte file external h p cluster = byte ((if has_external_data h then external else file)
+    (cluster * cluster_size h + p % cluster_size h))
 
 -- the value at a place of a qcow2 image, above what is below
 abbrev pub in_qcow2 : Bytes → Bytes → Result Header Fault → ℕ → Value → Value
-in_qcow2 file external (Ok h) p below = shown_by (entry file h.fields (p / cluster_size h.fields)) (host_byte file external h.fields p) below
+in_qcow2 file external (Ok h) p below = shown_by (entry file h.fields (p / cluster_size h.fields))
+    (host_byte file external h.fields p) below
 in_qcow2 file external (Err e) p below = damaged_place
 
 -- the value at a place of a layer, above what is below

@@ -33,7 +33,8 @@ pub data Skipped : Type 0 where
 pub record Kept (f g : Bytes) (h : Fields) (skip : Skipped) : Type 0 where
   pub start : skip ≢ first_cluster → Same f g 0 (cluster_size h)
   pub l1 : (i : ℕ) → i < h.l1_entries → skip ≢ l1_word i → word g h.l1_offset i ≡ word f h.l1_offset i
-  pub blocks : (i : ℕ) → i < refcount_table_entries h → skip ≢ block_word i → word g h.refcount_table_offset i ≡ word f h.refcount_table_offset i
+  pub blocks : (i : ℕ) → i < refcount_table_entries h → skip ≢ block_word i
+      → word g h.refcount_table_offset i ≡ word f h.refcount_table_offset i
   pub counters : (i : ℕ) → i < refcount_table_entries h → block_at f h i ≢ 0 → skip ≢ block i → Same f g (block_at f h i) (cluster_size h)
   pub words : (i j : ℕ) → Live (l2_table f h) h i j → skip ≢ table i → word g (l2_table f h i) j ≡ word f (l2_table f h i) j
 

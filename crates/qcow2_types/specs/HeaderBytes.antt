@@ -60,7 +60,8 @@ names_data (x ∷ xs) = Some (flat_map feature_bytes (x ∷ xs))
 
 -- The extensions of a header in the order in which they are written: backing format, data file's name, names of feature bits.
 unfoldable pub extensions_of : Header → List Extension
-extensions_of h = extension_of 0xE279_2ACA h.backing_format ++ extension_of 0x4441_5441 h.data_file_name ++ extension_of 0x6803_F857 (names_data h.features)
+extensions_of h = extension_of 0xE279_2ACA h.backing_format ++ extension_of 0x4441_5441 h.data_file_name
+    ++ extension_of 0x6803_F857 (names_data h.features)
 
 -- Version 3 alone has extensions. They end with one of type 0 and length 0, which version 2 has too.
 unfoldable pub extensions_bytes : Header → List ℕ

@@ -52,7 +52,8 @@ of_copied h weight _ = 0
 
 -- 1 where the range has a byte in cluster c, else 0
 abbrev pub meets : Fields → ℕ → Weight
-meets h c first length = if nat_lt 0 length && nat_lt first ((c + 1) * cluster_size h) && nat_lt (c * cluster_size h) (first + length) then 1 else 0
+meets h c first length = if nat_lt 0 length && nat_lt first ((c + 1) * cluster_size h) && nat_lt (c * cluster_size h)
+    (first + length) then 1 else 0
 
 -- how many of the ranges that an image names meet cluster c
 unfoldable pub refs : Bytes → Fields → ℕ → ℕ

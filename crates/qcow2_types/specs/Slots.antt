@@ -25,7 +25,8 @@ over_slots table h of = sum_below h.l1_entries (λ i. or_none (table i) (sum_bel
 
 -- the mapping of a guest cluster by its one word, which is its entry where no table is damaged
 abbrev pub guest_slot : Bytes → Fields → ℕ → Mapping
-guest_slot f h guest = if l2_table f h (guest / words_of_cluster h) == 0 then unmapped else l2_mapping f h (l2_table f h (guest / words_of_cluster h)) (guest % words_of_cluster h)
+guest_slot f h guest = if l2_table f h (guest / words_of_cluster h) == 0 then unmapped else l2_mapping f h
+    (l2_table f h (guest / words_of_cluster h)) (guest % words_of_cluster h)
 
 -- Each word of the L1 table and of the refcount table is sound, and no word of an L2 table is damaged.
 pub record SoundWords (f : Bytes) (h : Fields) : Type 0 where

@@ -16,7 +16,8 @@ use Rattle.qcow2_types.specs.Versions.{KeepsSlots, SamePlaces}
 
 -- Each place whose guest cluster has the mapping that it had, but perhaps for the mark of its cluster, shows what it did.
 abbrev pub ShownByUnmarked : Bytes → Bytes → Header → Type 0
-ShownByUnmarked f g H = (external : Bytes) (p : ℕ) (below : Value) → unmarked_mapping (entry g H.fields (p / cluster_size H.fields)) ≡ unmarked_mapping (entry f H.fields (p / cluster_size H.fields))
+ShownByUnmarked f g H = (external : Bytes) (p : ℕ) (below : Value)
+    → unmarked_mapping (entry g H.fields (p / cluster_size H.fields)) ≡ unmarked_mapping (entry f H.fields (p / cluster_size H.fields))
     → shown g external H.fields p below ≡ shown f external H.fields p below
 
 -- A data cluster was written that word j of L2 table i names: no guest cluster's mapping changes, and what shows at no other one.
@@ -27,7 +28,8 @@ pub record DataWritten (f g : Bytes) (H : Header) (i j : ℕ) : Type 0 where
   pub references : (c : ℕ) → refs g H.fields c ≡ refs f H.fields c
   pub counts : (c : ℕ) → count g H.fields c ≡ count f H.fields c
   pub entries : (guest : ℕ) → entry g H.fields guest ≡ entry f H.fields guest
-  pub elsewhere : (guest : ℕ) → (guest / words_of_cluster H.fields ≢ i) ⊎ (guest % words_of_cluster H.fields ≢ j) → ShowsAs g f H.fields guest
+  pub elsewhere : (guest : ℕ) → (guest / words_of_cluster H.fields ≢ i) ⊎ (guest % words_of_cluster H.fields ≢ j)
+      → ShowsAs g f H.fields guest
 
 -- A cluster was written that nothing names, or that is kept for zeroes: the image stays as it is, and shows the same.
 pub record FreeWritten (f g : Bytes) (H : Header) : Type 0 where
@@ -47,7 +49,8 @@ pub record RunWritten (f g : Bytes) (H : Header) (c k : ℕ) : Type 0 where
   pub references : (d : ℕ) → refs g H.fields d ≡ refs f H.fields d
   pub counts : (d : ℕ) → count g H.fields d ≡ count f H.fields d
   pub entries : (guest : ℕ) → entry g H.fields guest ≡ entry f H.fields guest
-  pub elsewhere : (guest : ℕ) → ((d : ℕ) (copied : Bool) → entry f H.fields guest ≡ data_at d copied → (d < c) ⊎ (c + k < d)) → ShowsAs g f H.fields guest
+  pub elsewhere : (guest : ℕ) → ((d : ℕ) (copied : Bool) → entry f H.fields guest ≡ data_at d copied → (d < c) ⊎ (c + k < d))
+      → ShowsAs g f H.fields guest
 
 -- Refcount block b was written: no count of another block changes, and the image shows the same. Clusters that nothing names keep
 -- their bytes, and so do those that words name, also those kept for zeroes.
@@ -59,7 +62,8 @@ pub record BlockWritten (f g : Bytes) (H : Header) (b : ℕ) : Type 0 where
   pub counts : (c : ℕ) → c / counters_of_block H.fields ≢ b → count g H.fields c ≡ count f H.fields c
   pub shows : (guest : ℕ) → ShowsAs g f H.fields guest
   pub free : (c : ℕ) → refs f H.fields c ≡ 0 → Same f g (c * cluster_size H.fields) (cluster_size H.fields)
-  pub mapped : (c : ℕ) → 0 < contents_sum f H.fields (of_mapping H.fields (meets H.fields c)) → Same f g (c * cluster_size H.fields) (cluster_size H.fields)
+  pub mapped : (c : ℕ) → 0 < contents_sum f H.fields (of_mapping H.fields (meets H.fields c))
+      → Same f g (c * cluster_size H.fields) (cluster_size H.fields)
 
 -- The counter of cluster c was written, and is this number: no other count changes.
 pub record CounterWritten (f g : Bytes) (H : Header) (c number : ℕ) : Type 0 where
@@ -78,9 +82,11 @@ pub record SlotWritten (f g : Bytes) (H : Header) (i j : ℕ) (new : Mapping) : 
   pub others : (k m : ℕ) → Live (l2_table f H.fields) H.fields k m → (k ≢ i) ⊎ (m ≢ j) → slot g H.fields k m ≡ slot f H.fields k m
   pub counts : (c : ℕ) → count g H.fields c ≡ count f H.fields c
   pub entries : (guest : ℕ) → guest / words_of_cluster H.fields ≡ i → guest % words_of_cluster H.fields ≡ j → entry g H.fields guest ≡ new
-  pub elsewhere : (guest : ℕ) → (guest / words_of_cluster H.fields ≢ i) ⊎ (guest % words_of_cluster H.fields ≢ j) → ShowsAs g f H.fields guest
+  pub elsewhere : (guest : ℕ) → (guest / words_of_cluster H.fields ≢ i) ⊎ (guest % words_of_cluster H.fields ≢ j)
+      → ShowsAs g f H.fields guest
   pub free : (c : ℕ) → refs f H.fields c ≡ 0 → Same f g (c * cluster_size H.fields) (cluster_size H.fields)
-  pub mapped : (c : ℕ) → 0 < contents_sum f H.fields (of_mapping H.fields (meets H.fields c)) → Same f g (c * cluster_size H.fields) (cluster_size H.fields)
+  pub mapped : (c : ℕ) → 0 < contents_sum f H.fields (of_mapping H.fields (meets H.fields c))
+      → Same f g (c * cluster_size H.fields) (cluster_size H.fields)
 
 -- summed over what the words of L2 table i mean
 abbrev pub table_sum : Bytes → Fields → (Mapping → ℕ) → ℕ → ℕ
@@ -95,18 +101,24 @@ pub record TableWritten (f g : Bytes) (H : Header) (i : ℕ) : Type 0 where
   pub others : (k m : ℕ) → Live (l2_table f H.fields) H.fields k m → k ≢ i → slot g H.fields k m ≡ slot f H.fields k m
   pub counts : (c : ℕ) → count g H.fields c ≡ count f H.fields c
   pub structure : (weight : Weight) → structure_sum g H.fields weight ≡ structure_sum f H.fields weight
-  pub contents : (of : Mapping → ℕ) → contents_sum g H.fields of + table_sum f H.fields of i ≡ contents_sum f H.fields of + table_sum g H.fields of i
-  pub references : (c : ℕ) → refs g H.fields c + table_sum f H.fields (of_mapping H.fields (meets H.fields c)) i ≡ refs f H.fields c + table_sum g H.fields (of_mapping H.fields (meets H.fields c)) i
+  pub contents : (of : Mapping → ℕ) → contents_sum g H.fields of + table_sum f H.fields of i
+      ≡ contents_sum f H.fields of + table_sum g H.fields of i
+  pub references : (c : ℕ) → refs g H.fields c + table_sum f H.fields (of_mapping H.fields (meets H.fields c)) i
+      ≡ refs f H.fields c + table_sum g H.fields (of_mapping H.fields (meets H.fields c)) i
   pub free : (c : ℕ) → refs f H.fields c ≡ 0 → Same f g (c * cluster_size H.fields) (cluster_size H.fields)
-  pub mapped : (c : ℕ) → 0 < contents_sum f H.fields (of_mapping H.fields (meets H.fields c)) → Same f g (c * cluster_size H.fields) (cluster_size H.fields)
+  pub mapped : (c : ℕ) → 0 < contents_sum f H.fields (of_mapping H.fields (meets H.fields c))
+      → Same f g (c * cluster_size H.fields) (cluster_size H.fields)
 
 -- The same, and the image is consistent: guest clusters of other tables, and those of this one whose word means what it did, show what
 -- they did. The mark of a cluster plays no part in what is shown.
 pub record TableRewritten (f g : Bytes) (H : Header) (i : ℕ) : Type 0 where
   pub written : TableWritten f g H i
   pub consistent : IsConsistent g H
-  pub entries : (guest : ℕ) → guest / words_of_cluster H.fields ≡ i → entry g H.fields guest ≡ slot g H.fields i (guest % words_of_cluster H.fields)
-  pub elsewhere : (guest : ℕ) → (guest / words_of_cluster H.fields ≢ i) ⊎ (slot g H.fields i (guest % words_of_cluster H.fields) ≡ slot f H.fields i (guest % words_of_cluster H.fields)) → ShowsAs g f H.fields guest
+  pub entries : (guest : ℕ) → guest / words_of_cluster H.fields ≡ i
+      → entry g H.fields guest ≡ slot g H.fields i (guest % words_of_cluster H.fields)
+  pub elsewhere : (guest : ℕ) → (guest / words_of_cluster H.fields ≢ i)
+      ⊎ (slot g H.fields i (guest % words_of_cluster H.fields) ≡ slot f H.fields i (guest % words_of_cluster H.fields))
+      → ShowsAs g f H.fields guest
   pub values : ShownByUnmarked f g H
 
 -- Word j of L2 table i was written, and names cluster c as copied data, which nothing named: no other cluster's references change.
@@ -130,7 +142,8 @@ pub record TableEntered (f g : Bytes) (H : Header) (i c place : ℕ) : Type 0 wh
   pub references : (d : ℕ) → d ≢ c → refs g H.fields d ≡ refs f H.fields d
   pub shows : (guest : ℕ) → ShowsAs g f H.fields guest
   pub free : (d : ℕ) → refs f H.fields d ≡ 0 → Same f g (d * cluster_size H.fields) (cluster_size H.fields)
-  pub mapped : (d : ℕ) → 0 < contents_sum f H.fields (of_mapping H.fields (meets H.fields d)) → Same f g (d * cluster_size H.fields) (cluster_size H.fields)
+  pub mapped : (d : ℕ) → 0 < contents_sum f H.fields (of_mapping H.fields (meets H.fields d))
+      → Same f g (d * cluster_size H.fields) (cluster_size H.fields)
 
 -- Word i of the L1 table was written and names the L2 table at this place: no word of another table and no count changes. What is
 -- named changes by the old table, with what its words name, and the new one with what its words name. Clusters that nothing names keep
@@ -144,20 +157,27 @@ pub record TableReplaced (f g : Bytes) (H : Header) (i place : ℕ) : Type 0 whe
   pub words : (j : ℕ) → j < words_of_cluster H.fields → word g place j ≡ word f place j
   pub others : (k m : ℕ) → Live (l2_table f H.fields) H.fields k m → k ≢ i → slot g H.fields k m ≡ slot f H.fields k m
   pub counts : (d : ℕ) → count g H.fields d ≡ count f H.fields d
-  pub structure : (weight : Weight) → structure_sum g H.fields weight + of_cluster H.fields weight (l2_table f H.fields i) ≡ structure_sum f H.fields weight + weight place (cluster_size H.fields)
-  pub contents : (of : Mapping → ℕ) → contents_sum g H.fields of + of_table_or_none f H.fields of (l2_table f H.fields i) ≡ contents_sum f H.fields of + of_table f H.fields of place
-  pub references : (d : ℕ) → refs g H.fields d + (of_cluster H.fields (meets H.fields d) (l2_table f H.fields i) + of_table_or_none f H.fields (of_mapping H.fields (meets H.fields d)) (l2_table f H.fields i))
-      ≡ refs f H.fields d + (meets H.fields d place (cluster_size H.fields) + of_table f H.fields (of_mapping H.fields (meets H.fields d)) place)
+  pub structure : (weight : Weight) → structure_sum g H.fields weight + of_cluster H.fields weight (l2_table f H.fields i)
+      ≡ structure_sum f H.fields weight + weight place (cluster_size H.fields)
+  pub contents : (of : Mapping → ℕ) → contents_sum g H.fields of + of_table_or_none f H.fields of (l2_table f H.fields i)
+      ≡ contents_sum f H.fields of + of_table f H.fields of place
+  pub references : (d : ℕ) → refs g H.fields d + (of_cluster H.fields (meets H.fields d)
+      (l2_table f H.fields i) + of_table_or_none f H.fields (of_mapping H.fields (meets H.fields d)) (l2_table f H.fields i))
+      ≡ refs f H.fields d + (meets H.fields d place (cluster_size H.fields) + of_table f H.fields
+      (of_mapping H.fields (meets H.fields d)) place)
   pub free : (d : ℕ) → refs f H.fields d ≡ 0 → Same f g (d * cluster_size H.fields) (cluster_size H.fields)
-  pub mapped : (d : ℕ) → 0 < contents_sum f H.fields (of_mapping H.fields (meets H.fields d)) → Same f g (d * cluster_size H.fields) (cluster_size H.fields)
+  pub mapped : (d : ℕ) → 0 < contents_sum f H.fields (of_mapping H.fields (meets H.fields d))
+      → Same f g (d * cluster_size H.fields) (cluster_size H.fields)
 
 -- The same, and the image is consistent: guest clusters of other tables, and those of this one for which the new table has the
 -- mapping that they had, show what they did. The mark of a cluster plays no part in what is shown.
 pub record TableSwapped (f g : Bytes) (H : Header) (i place : ℕ) : Type 0 where
   pub replaced : TableReplaced f g H i place
   pub consistent : IsConsistent g H
-  pub entries : (guest : ℕ) → guest / words_of_cluster H.fields ≡ i → entry g H.fields guest ≡ l2_mapping f H.fields place (guest % words_of_cluster H.fields)
-  pub elsewhere : (guest : ℕ) → (guest / words_of_cluster H.fields ≢ i) ⊎ (l2_mapping f H.fields place (guest % words_of_cluster H.fields) ≡ entry f H.fields guest) → ShowsAs g f H.fields guest
+  pub entries : (guest : ℕ) → guest / words_of_cluster H.fields ≡ i
+      → entry g H.fields guest ≡ l2_mapping f H.fields place (guest % words_of_cluster H.fields)
+  pub elsewhere : (guest : ℕ) → (guest / words_of_cluster H.fields ≢ i)
+      ⊎ (l2_mapping f H.fields place (guest % words_of_cluster H.fields) ≡ entry f H.fields guest) → ShowsAs g f H.fields guest
   pub values : ShownByUnmarked f g H
 
 -- Word i of the refcount table, which named no block, was written and names the one in cluster c, at this place. The clusters that it
@@ -170,11 +190,14 @@ pub record BlockEntered (f g : Bytes) (H : Header) (i c place : ℕ) : Type 0 wh
   pub tables : (k : ℕ) → l2_table g H.fields k ≡ l2_table f H.fields k
   pub slots : (k m : ℕ) → Live (l2_table f H.fields) H.fields k m → slot g H.fields k m ≡ slot f H.fields k m
   pub counts : (d : ℕ) → d / counters_of_block H.fields ≢ i → count g H.fields d ≡ count f H.fields d
-  pub new_counts : (d : ℕ) → d / counters_of_block H.fields ≡ i → count g H.fields d ≡ counter f H.fields place (d % counters_of_block H.fields)
+  pub new_counts : (d : ℕ) → d / counters_of_block H.fields ≡ i
+      → count g H.fields d ≡ counter f H.fields place (d % counters_of_block H.fields)
   pub named_once : refs g H.fields c ≡ 1
-  pub structure : (weight : Weight) → structure_sum g H.fields weight ≡ structure_sum f H.fields weight + weight place (cluster_size H.fields)
+  pub structure : (weight : Weight) → structure_sum g H.fields weight
+      ≡ structure_sum f H.fields weight + weight place (cluster_size H.fields)
   pub contents : (of : Mapping → ℕ) → contents_sum g H.fields of ≡ contents_sum f H.fields of
   pub references : (d : ℕ) → d ≢ c → refs g H.fields d ≡ refs f H.fields d
   pub shows : (guest : ℕ) → ShowsAs g f H.fields guest
   pub free : (d : ℕ) → refs f H.fields d ≡ 0 → Same f g (d * cluster_size H.fields) (cluster_size H.fields)
-  pub mapped : (d : ℕ) → 0 < contents_sum f H.fields (of_mapping H.fields (meets H.fields d)) → Same f g (d * cluster_size H.fields) (cluster_size H.fields)
+  pub mapped : (d : ℕ) → 0 < contents_sum f H.fields (of_mapping H.fields (meets H.fields d))
+      → Same f g (d * cluster_size H.fields) (cluster_size H.fields)

@@ -46,17 +46,23 @@ pub record L1Switched (f g : Bytes) (H : Header) (offset more : ℕ) : Type 0 wh
   pub kept : Kept f g H.fields first_cluster
   pub words : (i : ℕ) → i < H.fields.l1_entries + more → word g offset i ≡ word f offset i
   pub tables : (i : ℕ) → l2_table g (with_l1 H.fields offset (H.fields.l1_entries + more)) i ≡ l2_table f H.fields i
-  pub slots : (i j : ℕ) → Live (l2_table f H.fields) H.fields i j → slot g (with_l1 H.fields offset (H.fields.l1_entries + more)) i j ≡ slot f H.fields i j
+  pub slots : (i j : ℕ) → Live (l2_table f H.fields) H.fields i j
+      → slot g (with_l1 H.fields offset (H.fields.l1_entries + more)) i j ≡ slot f H.fields i j
   pub blocks : (i : ℕ) → block_at g (with_l1 H.fields offset (H.fields.l1_entries + more)) i ≡ block_at f H.fields i
   pub counts : (d : ℕ) → count g (with_l1 H.fields offset (H.fields.l1_entries + more)) d ≡ count f H.fields d
   -- the new table's clusters are named, and no longer the old one's
-  pub structure : (weight : Weight) → structure_sum g (with_l1 H.fields offset (H.fields.l1_entries + more)) weight + weight H.fields.l1_offset (H.fields.l1_entries * 8) ≡ structure_sum f H.fields weight + weight offset ((H.fields.l1_entries + more) * 8)
+  pub structure : (weight : Weight) → structure_sum g
+      (with_l1 H.fields offset (H.fields.l1_entries + more)) weight + weight H.fields.l1_offset (H.fields.l1_entries * 8)
+      ≡ structure_sum f H.fields weight + weight offset ((H.fields.l1_entries + more) * 8)
   pub contents : (of : Mapping → ℕ) → contents_sum g (with_l1 H.fields offset (H.fields.l1_entries + more)) of ≡ contents_sum f H.fields of
-  pub references : (d : ℕ) → refs g (with_l1 H.fields offset (H.fields.l1_entries + more)) d + meets H.fields d H.fields.l1_offset (H.fields.l1_entries * 8) ≡ refs f H.fields d + meets H.fields d offset ((H.fields.l1_entries + more) * 8)
+  pub references : (d : ℕ) → refs g (with_l1 H.fields offset (H.fields.l1_entries + more)) d + meets H.fields d H.fields.l1_offset
+      (H.fields.l1_entries * 8) ≡ refs f H.fields d + meets H.fields d offset ((H.fields.l1_entries + more) * 8)
   pub entries : (guest : ℕ) → entry g (with_l1 H.fields offset (H.fields.l1_entries + more)) guest ≡ entry f H.fields guest
-  pub shows : (external : Bytes) (p : ℕ) (below : Value) → shown g external (with_l1 H.fields offset (H.fields.l1_entries + more)) p below ≡ shown f external H.fields p below
+  pub shows : (external : Bytes) (p : ℕ) (below : Value)
+      → shown g external (with_l1 H.fields offset (H.fields.l1_entries + more)) p below ≡ shown f external H.fields p below
   pub free : (d : ℕ) → refs f H.fields d ≡ 0 → Same f g (d * cluster_size H.fields) (cluster_size H.fields)
-  pub mapped : (d : ℕ) → 0 < contents_sum f H.fields (of_mapping H.fields (meets H.fields d)) → Same f g (d * cluster_size H.fields) (cluster_size H.fields)
+  pub mapped : (d : ℕ) → 0 < contents_sum f H.fields (of_mapping H.fields (meets H.fields d))
+      → Same f g (d * cluster_size H.fields) (cluster_size H.fields)
 
 -- the fields with another refcount table
 abbrev pub with_reftable : Fields → ℕ → ℕ → Fields
@@ -71,7 +77,8 @@ with_refcount_table H offset clusters = record H { fields = with_reftable H.fiel
 abbrev pub newly_named : Bytes → Fields → ℕ → ℕ → Weight → ℕ
 newly_named f h offset clusters weight =
     weight offset (clusters * cluster_size h)
-    + sum_below (clusters * words_of_cluster h) (λ i. if block_at f h i == 0 then of_cluster h weight (block_at f (with_reftable h offset clusters) i) else 0)
+    + sum_below (clusters * words_of_cluster h) (λ i.
+    if block_at f h i == 0 then of_cluster h weight (block_at f (with_reftable h offset clusters) i) else 0)
 
 -- The refcount table moved to this place, and has so many clusters: its words name the blocks that the old ones named, and perhaps new
 -- ones. The clusters of these are counted as their bytes say.
@@ -80,18 +87,27 @@ pub record RefcountTableSwitched (f g : Bytes) (H : Header) (offset clusters : �
   pub kept : Kept f g H.fields first_cluster
   pub words : (i : ℕ) → i < clusters * words_of_cluster H.fields → word g offset i ≡ word f offset i
   pub tables : (i : ℕ) → l2_table g (with_reftable H.fields offset clusters) i ≡ l2_table f H.fields i
-  pub slots : (i j : ℕ) → Live (l2_table f H.fields) H.fields i j → slot g (with_reftable H.fields offset clusters) i j ≡ slot f H.fields i j
+  pub slots : (i j : ℕ) → Live (l2_table f H.fields) H.fields i j
+      → slot g (with_reftable H.fields offset clusters) i j ≡ slot f H.fields i j
   pub blocks : (i : ℕ) → block_at g (with_reftable H.fields offset clusters) i ≡ block_at f (with_reftable H.fields offset clusters) i
   pub counts : (d : ℕ) → count g (with_reftable H.fields offset clusters) d ≡ count f (with_reftable H.fields offset clusters) d
-  pub old_counts : (d : ℕ) → block_at f H.fields (d / counters_of_block H.fields) ≢ 0 → count g (with_reftable H.fields offset clusters) d ≡ count f H.fields d
+  pub old_counts : (d : ℕ) → block_at f H.fields (d / counters_of_block H.fields) ≢ 0
+      → count g (with_reftable H.fields offset clusters) d ≡ count f H.fields d
   -- the new table's clusters and the new blocks are named, and no longer the old table's
-  pub structure : (weight : Weight) → structure_sum g (with_reftable H.fields offset clusters) weight + weight H.fields.refcount_table_offset (H.fields.refcount_table_clusters * cluster_size H.fields) ≡ structure_sum f H.fields weight + newly_named f H.fields offset clusters weight
+  pub structure : (weight : Weight) → structure_sum g
+      (with_reftable H.fields offset clusters) weight + weight H.fields.refcount_table_offset
+      (H.fields.refcount_table_clusters * cluster_size H.fields)
+      ≡ structure_sum f H.fields weight + newly_named f H.fields offset clusters weight
   pub contents : (of : Mapping → ℕ) → contents_sum g (with_reftable H.fields offset clusters) of ≡ contents_sum f H.fields of
-  pub references : (d : ℕ) → refs g (with_reftable H.fields offset clusters) d + meets H.fields d H.fields.refcount_table_offset (H.fields.refcount_table_clusters * cluster_size H.fields) ≡ refs f H.fields d + newly_named f H.fields offset clusters (meets H.fields d)
+  pub references : (d : ℕ) → refs g (with_reftable H.fields offset clusters) d + meets H.fields d H.fields.refcount_table_offset
+      (H.fields.refcount_table_clusters * cluster_size H.fields)
+      ≡ refs f H.fields d + newly_named f H.fields offset clusters (meets H.fields d)
   pub entries : (guest : ℕ) → entry g (with_reftable H.fields offset clusters) guest ≡ entry f H.fields guest
-  pub shows : (external : Bytes) (p : ℕ) (below : Value) → shown g external (with_reftable H.fields offset clusters) p below ≡ shown f external H.fields p below
+  pub shows : (external : Bytes) (p : ℕ) (below : Value)
+      → shown g external (with_reftable H.fields offset clusters) p below ≡ shown f external H.fields p below
   pub free : (d : ℕ) → refs f H.fields d ≡ 0 → Same f g (d * cluster_size H.fields) (cluster_size H.fields)
-  pub mapped : (d : ℕ) → 0 < contents_sum f H.fields (of_mapping H.fields (meets H.fields d)) → Same f g (d * cluster_size H.fields) (cluster_size H.fields)
+  pub mapped : (d : ℕ) → 0 < contents_sum f H.fields (of_mapping H.fields (meets H.fields d))
+      → Same f g (d * cluster_size H.fields) (cluster_size H.fields)
 
 -- the fields with another size of the disk
 abbrev pub sized : Fields → ℕ → Fields
@@ -116,4 +132,5 @@ pub record SizeSwitched (f g : Bytes) (H : Header) (n : ℕ) : Type 0 where
   pub entries : (guest : ℕ) → entry g (sized H.fields n) guest ≡ entry f H.fields guest
   pub shows : (external : Bytes) (p : ℕ) (below : Value) → shown g external (sized H.fields n) p below ≡ shown f external H.fields p below
   pub free : (d : ℕ) → refs f H.fields d ≡ 0 → Same f g (d * cluster_size H.fields) (cluster_size H.fields)
-  pub mapped : (d : ℕ) → 0 < contents_sum f H.fields (of_mapping H.fields (meets H.fields d)) → Same f g (d * cluster_size H.fields) (cluster_size H.fields)
+  pub mapped : (d : ℕ) → 0 < contents_sum f H.fields (of_mapping H.fields (meets H.fields d))
+      → Same f g (d * cluster_size H.fields) (cluster_size H.fields)

@@ -76,7 +76,8 @@ packed_mapping cluster_bits w =
 
 -- A standard word has bits 1 to 8 and 56 to 61 clear, in version 2 bit 0 too, and its place is one of a cluster.
 abbrev pub standard_word_sound : Layout → ℕ → Bool
-standard_word_sound layout w = (bits_at w 1 8 == 0) && (bits_at w 56 6 == 0) && (not (has_bit w 0) || (layout.version == 3)) && is_place layout.cluster_bits (table_offset w)
+standard_word_sound layout w = (bits_at w 1 8 == 0) && (bits_at w 56 6 == 0) &&
+    (not (has_bit w 0) || (layout.version == 3)) && is_place layout.cluster_bits (table_offset w)
 
 -- It names a host cluster by an offset that isn't 0. In an external data file cluster 0 can be named too, by the copied bit.
 abbrev pub names_cluster : Layout → ℕ → Bool

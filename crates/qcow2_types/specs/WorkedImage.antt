@@ -11,16 +11,23 @@ Pieces = List (ℕ × List ℕ)
 -- the bytes of the file that these pieces make
 unfoldable pub of_pieces : Pieces → Bytes
 of_pieces [] i = 0
-of_pieces (piece ∷ rest) i = let later = of_pieces rest i in let here = slice_index piece.1 (i - piece.0) in if nat_le piece.0 i && nat_lt i (piece.0 + length piece.1) then here else later
+of_pieces (piece ∷ rest) i = let later = of_pieces rest i in let here = slice_index piece.1 (i - piece.0) in if nat_le piece.0 i && nat_lt i
+    (piece.0 + length piece.1) then here else later
 
 -- the worked image
 unfoldable pub image : Pieces
 image =
     (0, 81 ∷ 70 ∷ 73 ∷ 251 ∷ 0 ∷ 0 ∷ 0 ∷ 3 ∷ [])
-    ∷
-    (16, 0 ∷ 0 ∷ 0 ∷ 0 ∷ 0 ∷ 0 ∷ 0 ∷ 9 ∷ 0 ∷ 0 ∷ 0 ∷ 0 ∷ 0 ∷ 1 ∷ 0 ∷ 0 ∷ 0 ∷ 0 ∷ 0 ∷ 0 ∷ 0 ∷ 0 ∷ 0 ∷ 2 ∷ 0 ∷ 0 ∷ 0 ∷ 0 ∷ 0 ∷ 0 ∷ 6 ∷ 0 ∷ 0 ∷ 0 ∷ 0 ∷ 0 ∷ 0 ∷ 0 ∷ 2 ∷ 0 ∷ 0 ∷ 0 ∷ 0 ∷ 1 ∷ 0 ∷ 0 ∷ 0 ∷ 0 ∷ [])
-    ∷
-    (96, 0 ∷ 0 ∷ 0 ∷ 4 ∷ 0 ∷ 0 ∷ 0 ∷ 104 ∷ 104 ∷ 3 ∷ 248 ∷ 87 ∷ 0 ∷ 0 ∷ 0 ∷ 144 ∷ 0 ∷ 0 ∷ 100 ∷ 105 ∷ 114 ∷ 116 ∷ 121 ∷ 32 ∷ 98 ∷ 105 ∷ 116 ∷ 0 ∷ 0 ∷ 0 ∷ 0 ∷ 0 ∷ [])
+    ∷ (
+      16,
+      0 ∷ 0 ∷ 0 ∷ 0 ∷ 0 ∷ 0 ∷ 0 ∷ 9 ∷ 0 ∷ 0 ∷ 0 ∷ 0 ∷ 0 ∷ 1 ∷ 0 ∷ 0 ∷ 0 ∷ 0 ∷ 0 ∷ 0 ∷ 0 ∷ 0 ∷ 0 ∷ 2 ∷ 0 ∷ 0 ∷ 0 ∷ 0 ∷ 0 ∷ 0 ∷ 6 ∷ 0 ∷ 0
+          ∷ 0 ∷ 0 ∷ 0 ∷ 0 ∷ 0 ∷ 2 ∷ 0 ∷ 0 ∷ 0 ∷ 0 ∷ 1 ∷ 0 ∷ 0 ∷ 0 ∷ 0 ∷ [],
+    )
+    ∷ (
+      96,
+      0 ∷ 0 ∷ 0 ∷ 4 ∷ 0 ∷ 0 ∷ 0 ∷ 104 ∷ 104 ∷ 3 ∷ 248 ∷ 87 ∷ 0 ∷ 0 ∷ 0 ∷ 144 ∷ 0 ∷ 0 ∷ 100 ∷ 105 ∷ 114 ∷ 116 ∷ 121 ∷ 32 ∷ 98 ∷ 105 ∷ 116
+          ∷ 0 ∷ 0 ∷ 0 ∷ 0 ∷ 0 ∷ [],
+    )
     ∷
     (160, 0 ∷ 1 ∷ 99 ∷ 111 ∷ 114 ∷ 114 ∷ 117 ∷ 112 ∷ 116 ∷ 32 ∷ 98 ∷ 105 ∷ 116 ∷ 0 ∷ 0 ∷ 0 ∷ [])
     ∷
