@@ -137,7 +137,7 @@ impl L2Table {
         }) }
         ensures err { IsOkUnless result Fault.Memory }
     {
-        let mut content = Vec::new(alloc);
+        let mut content = Vec::with_capacity(alloc, header.l2_entries())?;
         for _word in 0..header.l2_entries() {
             content.push(L2Entry::empty())?;
         }
@@ -217,7 +217,7 @@ impl L2Table {
             { words = map (shared_word self.now.layout) self.now.words; cluster = None; modified = true }) }
         ensures err { IsOkUnless result Fault.Memory }
     {
-        let mut content = Vec::new(alloc);
+        let mut content = Vec::with_capacity(alloc, self.content.len())?;
         for entry in &self.content {
             content.push(if self.layout.external_data() {
                 *entry

@@ -225,7 +225,7 @@ fn entries_in<E: TableEntry>(alloc: Global, bytes: &[u8], header: &Header) -> Re
     ensures refused { IfErr result (WhyNotDecoded E.kind (layout_of header.now.fields)
         (words_in (bytes_of bytes.now) 0 (length bytes.now / 8))) }
 {
-    let mut entries = Vec::new(alloc);
+    let mut entries = Vec::with_capacity(alloc, bytes.len() / 8)?;
     for index in 0..bytes.len() / 8 {
         let entry = match E::try_from_plain(word_at(bytes, 8 * index), header) {
             Ok(entry) => entry,
@@ -289,7 +289,7 @@ pub fn longer_content<T: Table>(
     ensures words { IfOk result (λ content. T.InternalEntry.words content.items ≡ padded (T.value table.now).words count) }
     ensures refused { IsOkUnless result Fault.Memory }
 {
-    let mut content = Vec::new(alloc);
+    let mut content = Vec::with_capacity(alloc, count)?;
     for index in 0..count {
         content.push(entry_or_empty(table, index))?;
     }
@@ -317,7 +317,7 @@ fn bytes_in<T: Table>(alloc: Global, table: &T) -> Result<Vec<u8>, Fault>
     ensures bytes { IfOk result (λ bytes. bytes.items ≡ table_bytes (T.value table.now).words) }
     ensures refused { IsOkUnless result Fault.Memory }
 {
-    let mut bytes = Vec::new(alloc);
+    let mut bytes = Vec::with_capacity(alloc, table.byte_size())?;
     for index in 0..table.entries() {
         let word = table.get(index).to_plain();
         if bytes.extend_from_slice(&word.to_be_bytes()).is_err() {
