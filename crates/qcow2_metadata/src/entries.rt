@@ -119,6 +119,10 @@ impl TableEntry for L2Entry {
     ghost kind = { l2_words };
 
     fn try_from_plain(value: u64, header: &Header) -> Result<L2Entry, Fault> {
+        // Most words of most tables name nothing.
+        if value == 0 {
+            return Ok(L2Entry::empty());
+        }
         match l2_mapping(value, TableLayout::of_header(header), 0) {
             Ok(_) => Ok(L2Entry(value)),
             Err(fault) => Err(fault),
