@@ -9,7 +9,7 @@ use Rattle.std.proofs.lemmas.List.{append-nil, length-append}
 use Rattle.std.proofs.lemmas.Nat.{mod-mul-add, pow-add}
 use Rattle.qcow2_types.specs.Header.{Fields, Shaped, layout_of}
 use Rattle.qcow2_types.specs.Words.{Layout}
-use Rattle.std.specs.Prelude.{slice_index, Bool, true, false}
+use Rattle.std.specs.Prelude.{slice_index, Bool, true, false, Result, Ok, Err, IfOk}
 use Rattle.std.proofs.lemmas.List.FromFn.{map-range_with_len_more, get_or-map-range_with_len, length-map-range_with_len}
 use Rattle.std.proofs.lemmas.Bool.{cases_lt}
 use Rattle.std.proofs.Common.{inl, inr}
@@ -103,6 +103,9 @@ pub word_of_bytes : (f : Bytes) (i : ℕ) → word f 0 i ≡ be f (8 * i) 8
 unfolding word
 word_of_bytes f i = let at : 0 + 8 * i ≡ 8 * i = omega arith in ap (λ p. be f p 8) at
 
+pub word_in_bytes : (f : Bytes) (n i : ℕ) → i < n → slice_index (words_in f 0 n) i ≡ be f (8 * i) 8
+word_in_bytes f n i inside = words_at f 0 n i inside ∙ word_of_bytes f i
+
 -- words read elsewhere
 pub words_same : (f g : Bytes) (p q n : ℕ) → ((i : ℕ) → i < n → word f p i ≡ word g q i) → words_in f p n ≡ words_in g q n
 words_same f g p q zero same = refl
@@ -115,7 +118,7 @@ words_same f g p q (suc n) same =
     ap (λ k. words_in f p k) next ∙ (fs ∙ (cc (front, own)) ∙ sym gs) ∙ ap (λ k. words_in g q k) (sym next)
 
 -- the words in bytes that were read
-pub words_read : (file bytes : List ℕ) (place n : ℕ) → Reads file place bytes → length bytes ≡ n * 8 → words_in (bytes_of bytes) 0 (length bytes / 8) ≡ words_in (bytes_of file) place n
+words_read : (file bytes : List ℕ) (place n : ℕ) → Reads file place bytes → length bytes ≡ n * 8 → words_in (bytes_of bytes) 0 (length bytes / 8) ≡ words_in (bytes_of file) place n
 unfolding word
 words_read file bytes place n reads long =
     let count : length bytes / 8 ≡ n = omega arith in
@@ -126,6 +129,12 @@ words_read file bytes place n reads long =
     one i lt = be-same (bytes_of bytes) (bytes_of file) (0 + 8 * i) (place + 8 * i) 8 (λ k low.
         let at : place + (0 + 8 * i + k) ≡ place + 8 * i + k = omega arith in
         reads (0 + 8 * i + k) (omega arith) ∙ ap (λ p. slice_index file p) at)
+
+-- The same of a read that may be refused.
+pub words_read_if : {X : Type 0} (items : X → List ℕ) (r : Result X Fault) (file : List ℕ) (place n : ℕ) → IfOk r (λ b. Reads file place (items b)) → IfOk r (λ b. length (items b) ≡ n * 8)
+    → IfOk r (λ b. words_in (bytes_of (items b)) 0 (length (items b) / 8) ≡ words_in (bytes_of file) place n)
+words_read_if items (Ok b) file place n reads long = words_read file (items b) place n reads long
+words_read_if items (Err fault) file place n reads long = tt
 
 -- one word more of which a fact holds
 pub each_more : (P : ℕ → Type 0) (f : Bytes) (p n : ℕ) → EachWord P (words_in f p n) → P (word f p n) → EachWord P (words_in f p (n + 1))

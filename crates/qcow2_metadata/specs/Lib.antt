@@ -20,3 +20,4 @@ pub mod Growth
 pub mod Allocations
 pub mod RefTableView
 pub mod L2View
+pub mod StoredView

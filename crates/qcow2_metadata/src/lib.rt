@@ -19,6 +19,7 @@ mod reading;
 mod ref_table;
 mod refblock;
 mod rules;
+mod stored_table;
 mod table;
 pub mod words;
 
@@ -29,4 +30,5 @@ pub use l2_table::{CompressedClusterReadGuard, L2Table, L2TableWriteGuard};
 pub use mapping::L2Mapping;
 pub use ref_table::RefTable;
 pub use refblock::{RefBlock, RefBlockWriteGuard};
+pub use stored_table::StoredL2Table;
 pub use table::Table;

@@ -236,6 +236,27 @@ fn entries_in<E: TableEntry>(alloc: Global, bytes: &[u8], header: &Header) -> Re
     Ok(entries)
 }
 
+/// The bytes of the `entries` words from the begin of a cluster of an image with this header on.
+pub fn load_bytes<S: Storage>(
+    alloc: Global,
+    image: &mut S,
+    header: &Header,
+    cluster: HostCluster,
+    entries: usize,
+) -> Result<Vec<u8>, Fault>
+    requires reach { IsInReach header.now.fields.cluster_bits cluster }
+    requires few { entries ≤ 2 ^ 22 }
+    ensures words { IfOk result (λ bytes. words_in (bytes_of bytes.items) 0 (length bytes.items / 8)
+        ≡ words_in (bytes_of (S.state image.old).bytes) (cluster * cluster_size header.now.fields) entries) }
+    ensures whole { IfOk result (λ bytes. length bytes.items ≡ entries * 8) }
+    ensures kept { Kept (S.state image.old) (S.state image.new) }
+    ensures faults { CountsFaults (S.state image.old).faults (S.state image.new).faults result }
+    ensures shaped { Shaped header.now.fields }
+{
+    let HostOffset(place) = cluster.offset(header.cluster_bits());
+    read_cluster(alloc, image, place, entries * 8)
+}
+
 /// The `entries` words from the begin of a cluster of an image with this header on.
 fn load_entries<E: TableEntry, S: Storage>(
     alloc: Global,
@@ -258,15 +279,8 @@ fn load_entries<E: TableEntry, S: Storage>(
     ensures faults { OnOk result ((S.state image.new).faults ≡ (S.state image.old).faults) }
     ensures shaped { Shaped header.now.fields }
 {
-    let HostOffset(place) = cluster.offset(header.cluster_bits());
-    let bytes = match read_cluster(alloc, image, place, entries * 8) {
-        Ok(bytes) => bytes,
-        Err(fault) => return Err(fault),
-    };
-    match entries_in(alloc, &bytes, header) {
-        Ok(content) => Ok(content),
-        Err(fault) => Err(fault),
-    }
+    let bytes = load_bytes(alloc, image, header, cluster, entries)?;
+    entries_in(alloc, &bytes, header)
 }
 
 /// The word at an index, or the empty one past the end.

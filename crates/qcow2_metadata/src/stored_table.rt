@@ -1,0 +1,116 @@
+// L2 tables that are read where their bytes lie.
+ghost use Rattle.std.specs.Prelude.{◌≡◌, ℕ, ◌+◌, ◌*◌, ◌/◌, ◌%◌, ◌^◌, ◌<◌, ◌≤◌, length, slice_index, OnOk, IfOk, IfErr};
+ghost use Rattle.imago_storage.specs.Calls.{Kept};
+ghost use Rattle.qcow2_types.specs.Bytes.{bytes_of};
+ghost use Rattle.qcow2_types.specs.Header.{cluster_size, layout_of, words_of_cluster};
+ghost use Rattle.qcow2_types.specs.Places.{l2_entries};
+ghost use Rattle.qcow2_types.specs.Words.{mapping_of};
+ghost use Rattle.qcow2_metadata.specs.MappingView.{mapping_seen, BacksAt, IsNamed};
+ghost use Rattle.qcow2_metadata.specs.Places.{IsInReach};
+ghost use Rattle.qcow2_metadata.specs.Tables.{l2_words, AreSound, WhyNotDecoded, WhyNotLoaded, words_in};
+
+use crate::Header;
+use crate::entries::{L2Entry, TableEntry};
+use crate::layout::TableLayout;
+use crate::mapping::L2Mapping;
+use crate::table::load_bytes;
+use crate::words::{l2_mapping, word_at};
+use imago_storage::{Fault, Storage};
+use qcow2_types::{GuestCluster, GuestOffset, HostCluster};
+use std::alloc::Global;
+use std::marker::Model;
+
+/// An L2 table as the file holds it, to be read alone: it takes the memory of one cluster, and each lookup decodes its word.
+#[derive(Drop)]
+pub struct StoredL2Table {
+    bytes: Vec<u8>,
+    layout: TableLayout,
+}
+
+impl Model for StoredL2Table {
+    ghost use Rattle.qcow2_metadata.specs.StoredView.{StoredValue, seen_stored, IsStored};
+
+    ghost Value = { StoredValue };
+
+    ghost view = { seen_stored };
+
+    ghost invariant = { IsStored };
+}
+
+/// Refuses bytes that hold a word with no meaning in an image with this header.
+fn check_words(bytes: &[u8], header: &Header) -> Result<(), Fault>
+    ensures sound { OnOk result (AreSound l2_words (layout_of header.now.fields) (words_in (bytes_of bytes.now) 0 (length bytes.now / 8))) }
+    ensures refused { IfErr result (WhyNotDecoded l2_words (layout_of header.now.fields)
+        (words_in (bytes_of bytes.now) 0 (length bytes.now / 8))) }
+{
+    for index in 0..bytes.len() / 8 {
+        L2Entry::try_from_plain(word_at(bytes, 8 * index), header)?;
+    }
+    Ok(())
+}
+
+impl StoredL2Table {
+    /// Loads the table in a cluster of an image with this header, as `L2Table::load` does. It reads one cluster.
+    ///
+    /// Refused with `Fault::DamagedTable` where the format gives one of the words no meaning; with `Fault::Memory` and
+    /// `Fault::Storage`. It changes nothing in the image. From the format's section "Cluster mapping".
+    pub fn load<S: Storage>(
+        alloc: Global,
+        image: &mut S,
+        header: &Header,
+        cluster: HostCluster,
+    ) -> Result<StoredL2Table, Fault>
+        requires { IsInReach header.now.fields.cluster_bits cluster }
+        ensures layout { IfOk result (λ table. table.layout ≡ layout_of header.now.fields) }
+        ensures words { IfOk result (λ table. table.words ≡ words_in (bytes_of (S.state image.old).bytes)
+            (cluster * cluster_size header.now.fields) (words_of_cluster header.now.fields)) }
+        ensures sound { OnOk result (AreSound l2_words (layout_of header.now.fields) (words_in (bytes_of (S.state image.old).bytes)
+            (cluster * cluster_size header.now.fields) (words_of_cluster header.now.fields))) }
+        ensures err { IfErr result (WhyNotLoaded l2_words (layout_of header.now.fields) (words_in (bytes_of (S.state image.old).bytes)
+            (cluster * cluster_size header.now.fields) (words_of_cluster header.now.fields)) (S.state image.old).faults
+            (S.state image.new).faults) }
+        ensures kept { Kept (S.state image.old) (S.state image.new) }
+        ensures faults { OnOk result ((S.state image.new).faults ≡ (S.state image.old).faults) }
+    {
+        let layout = TableLayout::of_header(header);
+        let bytes = load_bytes(alloc, image, header, cluster, header.l2_entries())?;
+        check_words(&bytes, header)?;
+        Ok(StoredL2Table { bytes, layout })
+    }
+
+    /// The number of its words, which fill a cluster: of 2^9 to 2^21 bytes.
+    #[tactic(auto, using(crate::proofs::TableFacts::words_long))]
+    pub fn entries(&self) -> usize
+        ensures value { result ≡ length self.now.words }
+        ensures whole { length self.now.words * 8 ≡ 2 ^ self.now.layout.cluster_bits }
+        ensures bounds { (9 ≤ self.now.layout.cluster_bits) × (self.now.layout.cluster_bits ≤ 21) }
+    {
+        self.bytes.len() / 8
+    }
+
+    // The word at an index.
+    #[tactic(auto, using(crate::proofs::TableFacts::words_long, crate::proofs::TableFacts::word_in_bytes))]
+    fn word(&self, index: usize) -> u64
+        requires { index < length self.now.words }
+        ensures { result ≡ slice_index self.now.words index }
+    {
+        word_at(&self.bytes, 8 * index)
+    }
+
+    /// Where the bytes of a guest cluster are. Where they are in the layer below, they are there at the cluster's own place.
+    pub fn get_mapping(&self, lookup_cluster: GuestCluster) -> L2Mapping
+        requires { lookup_cluster * 2 ^ self.now.layout.cluster_bits < 2 ^ 64 }
+        ensures means { mapping_seen result
+            ≡ mapping_of self.now.layout (slice_index self.now.words (lookup_cluster % l2_entries self.now.layout.cluster_bits)) }
+        ensures named { IsNamed self.now.layout.cluster_bits result }
+        ensures backs { BacksAt (lookup_cluster * 2 ^ self.now.layout.cluster_bits) result }
+    {
+        let cluster_bits = self.layout.cluster_bits();
+        let GuestOffset(place) = lookup_cluster.offset(cluster_bits);
+        let word = self.word(lookup_cluster.l2_index(cluster_bits));
+        match l2_mapping(word, self.layout, place) {
+            Ok(mapping) => mapping,
+            Err(_) => unreachable!(),
+        }
+    }
+}
