@@ -15,7 +15,7 @@ use Rattle.qcow2_types.proofs.Counting.Limit.{sum-zero}
 use Rattle.qcow2_types.proofs.Counting.Sound.{all-below-holds}
 use Rattle.qcow2_types.proofs.Numbers.Sums.{sum-none, sum-more}
 use Rattle.qcow2_types.proofs.Numbers.WordLemmas.{zero-word}
-use Rattle.qcow2_metadata.specs.Tables.{TableValue, WhyNotLoaded, words_in, table_in, l2_words}
+use Rattle.qcow2_metadata.specs.Tables.{WhyNotLoaded, words_in, l2_words}
 use Rattle.qcow2_metadata.proofs.TableFacts.{words_long, words_more}
 use Rattle.qimg_core.specs.declared.check.CheckFault.TheVariants.{Table}
 use Rattle.qimg_core.specs.declared.check.names.Tallies.{Tallies}
@@ -96,8 +96,8 @@ module _ (f : Bytes) (h : Fields) (place cluster : ℕ) (is : IsTrue (is_place h
   l2-begin = ap (λ k. k * 2 ^ h.cluster_bits) begins ∙ place-whole h.cluster_bits place is
 
   -- its words as they are loaded
-  pub l2-words : (n : ℕ) → n ≡ words_of_cluster h → (table : TableValue) → table ≡ table_in f h cluster n → table.words ≡ words_in f place (words_of_cluster h)
-  l2-words n whole table loaded = ap (λ t. t.words) loaded ∙ (ap (λ p. words_in f p n) l2-begin ∙ ap (words_in f place) whole)
+  pub l2-words : (words : List ℕ) → words ≡ words_in f (cluster * cluster_size h) (words_of_cluster h) → words ≡ words_in f place (words_of_cluster h)
+  l2-words words loaded = loaded ∙ ap (λ p. words_in f p (words_of_cluster h)) l2-begin
 
 -- So the table isn't loaded, and that is the finding.
 pub l2-finding : (old new : StorageState) (h : Fields) (place cluster : ℕ) → IsTrue (is_place h.cluster_bits place) → cluster ≡ place / 2 ^ h.cluster_bits → h.cluster_bits ≤ 21 → (fault : Fault)

@@ -15,7 +15,7 @@ use super::names::{Tallies, Times, name_range};
 use super::{CheckFault, blocks_end, load_fault};
 use crate::file_end::words_before;
 use imago_storage::Storage;
-use qcow2_metadata::{Header, L1Table, L2Mapping, L2Table, RefTable, Table};
+use qcow2_metadata::{Header, L1Table, L2Mapping, RefTable, StoredL2Table, Table};
 use qcow2_types::{GuestCluster, HostCluster, HostOffset};
 use std::alloc::Global;
 
@@ -229,7 +229,7 @@ fn name_data(
 fn name_words(
     names: &mut Tallies,
     header: &Header,
-    table: &L2Table,
+    table: &StoredL2Table,
     times: u64,
 ) -> Result<(), CheckFault>
     requires layout { table.now.layout ≡ layout_of header.now.fields }
@@ -265,7 +265,7 @@ fn name_table<S: Storage>(
         return Ok(());
     }
     let cluster = HostOffset(place).cluster(header.cluster_bits());
-    match L2Table::load(alloc, image, header, cluster, header.l2_entries()) {
+    match StoredL2Table::load(alloc, image, header, cluster) {
         Ok(table) => name_words(names, header, &table, times),
         Err(fault) => Err(load_fault(fault, CheckFault::Table)),
     }

@@ -18,18 +18,18 @@ returns-in-Ok-clause-ok g c =
     let h = c.args.header.now.fields in
     let at = cluster-at c.cluster-cluster.result c.args.place _ _ _ c.cluster-cluster.ensures refl c.cluster_bits.ensures.value in
     on_ok_weaker c.name_words.result
-    (adds-table f h c.args.times c.args.names.now c.name_words.new.names c.args.place c.in-Ok.table.words (l2-words f h c.args.place c.cluster-cluster.result c.requires.place at c.l2_entries.result c.l2_entries.ensures c.in-Ok.table c.in-Ok.ensures.ok))
+    (adds-table f h c.args.times c.args.names.now c.name_words.new.names c.args.place c.in-Ok.table.words (l2-words f h c.args.place c.cluster-cluster.result c.requires.place at c.in-Ok.table.words c.in-Ok.ensures.words))
     c.name_words.ensures.ok
 
 pub returns-in-Ok-clause-sound : goal.returns-in-Ok-clause-sound
 returns-in-Ok-clause-sound g c =
     let f = file (g.S.Storage.state c.args.image.now) in
     let at = cluster-at c.cluster-cluster.result c.args.place _ _ _ c.cluster-cluster.ensures refl c.cluster_bits.ensures.value in
-    on_ok_weaker c.name_words.result (λ named. l2-sound f c.args.header.now.fields c.args.place c.cluster-cluster.result (l2-begin f c.args.header.now.fields c.args.place c.cluster-cluster.result c.requires.place at) (rw (← c.l2_entries.ensures) c.in-Ok.ensures.sound)) c.name_words.ensures.ok
+    on_ok_weaker c.name_words.result (λ named. l2-sound f c.args.header.now.fields c.args.place c.cluster-cluster.result (l2-begin f c.args.header.now.fields c.args.place c.cluster-cluster.result c.requires.place at) c.in-Ok.ensures.sound) c.name_words.ensures.ok
 
 pub returns-in-Err-clause-err : goal.returns-in-Err-clause-err
 returns-in-Err-clause-err g c =
     let old = g.S.Storage.state c.args.image.now in
     let new = g.S.Storage.state c.load.new.image in
     let at = cluster-at c.cluster-cluster.result c.args.place _ _ _ c.cluster-cluster.ensures refl c.cluster_bits.ensures.value in
-    rw c.load_fault.ensures (l2-finding old new c.args.header.now.fields c.args.place c.cluster-cluster.result c.requires.place at c.cluster_bits.ensures.shaped.high c.in-Err.fault (rw (← c.l2_entries.ensures) c.in-Err.ensures.err))
+    rw c.load_fault.ensures (l2-finding old new c.args.header.now.fields c.args.place c.cluster-cluster.result c.requires.place at c.cluster_bits.ensures.shaped.high c.in-Err.fault c.in-Err.ensures.err)
