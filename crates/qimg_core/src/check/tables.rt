@@ -105,11 +105,12 @@ pub fn places_of<S: Storage>(
     ensures kept { Kept (S.state image.old) (S.state image.new) }
     ensures faults { OnOk result ((S.state image.new).faults ≡ (S.state image.old).faults) }
 {
-    let tables = table_places(alloc, image, header)?;
+    let mut tables = table_places(alloc, image, header)?;
     let mut blocks = block_places(alloc, image, header)?;
     let end = blocks_end(&blocks);
     blocks.truncate(end);
-    // It had a place for each word of the table, and would keep that room while the image is checked.
+    // What they have room for beyond their places would be kept while the image is checked.
+    tables.shrink_to_fit();
     blocks.shrink_to_fit();
     Ok(Places { tables, blocks })
 }
