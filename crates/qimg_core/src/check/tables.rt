@@ -53,7 +53,7 @@ fn table_places<S: Storage>(
         Ok(table) => table,
         Err(fault) => return Err(load_fault(fault, CheckFault::Table)),
     };
-    let mut places = Vec::new(alloc);
+    let mut places = Vec::with_capacity(alloc, table.entries())?;
     for index in 0..table.entries() {
         if let Some(place) = table.get(index).l2_offset() {
             places.push(place.0)?;
@@ -82,7 +82,7 @@ fn block_places<S: Storage>(
         Ok(table) => table,
         Err(fault) => return Err(load_fault(fault, CheckFault::Table)),
     };
-    let mut places = Vec::new(alloc);
+    let mut places = Vec::with_capacity(alloc, table.entries())?;
     for index in 0..table.entries() {
         let place = match table.get(index).refblock_offset() {
             Some(place) => place.0,
@@ -105,12 +105,12 @@ pub fn places_of<S: Storage>(
     ensures kept { Kept (S.state image.old) (S.state image.new) }
     ensures faults { OnOk result ((S.state image.new).faults ≡ (S.state image.old).faults) }
 {
+    // Each list has room for a place of each word of its table, and would keep it while the image is checked.
     let mut tables = table_places(alloc, image, header)?;
+    tables.shrink_to_fit();
     let mut blocks = block_places(alloc, image, header)?;
     let end = blocks_end(&blocks);
     blocks.truncate(end);
-    // What they have room for beyond their places would be kept while the image is checked.
-    tables.shrink_to_fit();
     blocks.shrink_to_fit();
     Ok(Places { tables, blocks })
 }
