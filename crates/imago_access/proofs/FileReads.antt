@@ -1,21 +1,22 @@
 -- Reads of the files of layers, one behind the other, and what they are as looks.
-use Rattle.std.proofs.Common.{◌≡◌, refl, ℕ, zero, suc, ◌-◌, ◌<◌, ◌≤◌, List, [], ◌∷◌, ◌++◌, length, arith, ap, subst, sym, ◌∙◌, inr}
-use Rattle.std.specs.Prelude.{⊤, map, IsTrue}
-use Rattle.imago_storage.specs.State.{StorageState, IsAlignment}
-use Rattle.imago_storage.specs.Through.{Overflows}
+use Rattle.std.proofs.Common.{◌≡◌, refl, ℕ, zero, suc, ◌+◌, ◌-◌, ◌<◌, ◌≤◌, ◌^◌, List, [], ◌∷◌, ◌++◌, length, arith, ap, subst, sym, ◌∙◌, inl, inr}
+use Rattle.std.specs.Prelude.{⊤, IsTrue}
+use Rattle.std.proofs.lemmas.Nat.{div-add-mod'}
+use Rattle.imago_storage.specs.State.{StorageState, IsAlignment, unit_of}
+use Rattle.imago_storage.specs.Calls.{IsFaultless, Kept}
+use Rattle.imago_storage.specs.Through.{NotRead, Overflows, round_up}
 use Rattle.imago_storage.specs.declared.fault.Fault.{Fault}
 use Rattle.imago_storage.specs.declared.fault.Fault.TheVariants.{RangeOverflow, Memory, Storage}
 use Rattle.imago_access.specs.declared.seen.Seen.{Ghosts}
-use Rattle.imago_access.specs.Layer.{Layer, unit_of_layer}
-use Rattle.imago_access.specs.Chain.{unit_of_chain}
-use Rattle.imago_access.specs.Files.{Pairs, IsKept, IsLater, IsStorageAt, files, files_of}
-use Rattle.imago_access.specs.FileReads.{bytes_in, files_at, FilesRead, FileReadCause}
+use Rattle.imago_access.specs.Layer.{Layer}
+use Rattle.imago_access.specs.Refusals.{IsOfStorages}
+use Rattle.imago_access.specs.Files.{Pairs, IsKept, IsLater, IsStorageAt, OverflowsIn, files, greatest}
+use Rattle.imago_access.specs.FileReads.{file_bytes_in, files_at, FilesRead, FileReadCause}
 use Rattle.imago_access.specs.Going.{Looked}
 use Rattle.imago_access.specs.Stops.{Left, GivesNone}
-use Rattle.imago_access.proofs.FilePairs.{kept_all_same, kept_all_both, faultless_all_same, faultless_all_both, later_all_same, some_rose_left, some_rose_right}
+use Rattle.imago_access.proofs.FilePairs.{pairs_append, kept_all_same, kept_all_both, faultless_all_same, faultless_all_both, later_all_same, some_rose_left, some_rose_right}
 use Rattle.imago_access.proofs.Room.{room_same, takes_both}
 use Rattle.imago_access.proofs.Stopping.{passes_none}
-use Rattle.imago_access.proofs.Units.{overflows_chain, overflows_more, unit_aligned}
 
 -- storages that were kept haven't gone back
 pub kept_later : (xs ys : List StorageState) → Pairs IsKept xs ys → Pairs IsLater xs ys
@@ -26,7 +27,7 @@ kept_later (x ∷ xs) (y ∷ ys) kept =
     ((kept.0.0.shape, record { faults = kept.0.1; refusals = omega (arith, kept.0.0.refusals) }), kept_later xs ys kept.1)
 
 -- they have the bytes that they had
-pub kept_bytes : (xs ys : List StorageState) (number : ℕ) → Pairs IsKept xs ys → bytes_in ys number ≡ bytes_in xs number
+pub kept_bytes : (xs ys : List StorageState) (number : ℕ) → Pairs IsKept xs ys → file_bytes_in ys number ≡ file_bytes_in xs number
 kept_bytes [] [] number kept = refl
 kept_bytes [] (y ∷ ys) number kept = absurd kept
 kept_bytes (x ∷ xs) [] number kept = absurd kept
@@ -34,12 +35,12 @@ kept_bytes (x ∷ xs) (y ∷ ys) zero kept = kept.0.0.bytes
 kept_bytes (x ∷ xs) (y ∷ ys) (suc number) kept = kept_bytes xs ys number kept.1
 
 -- the bytes of a storage by its number
-pub bytes_there : (ss : List StorageState) (index : ℕ) (s : StorageState) → IsStorageAt ss index s → bytes_in ss index ≡ s.bytes
+pub bytes_there : (ss : List StorageState) (index : ℕ) (s : StorageState) → IsStorageAt ss index s → file_bytes_in ss index ≡ s.bytes
 bytes_there [] index s is = absurd is
 bytes_there (t ∷ ts) zero s is = ap (λ (u : StorageState). u.bytes) (sym is)
 bytes_there (t ∷ ts) (suc index) s is = bytes_there ts index s is
 
-pub bytes_beyond : (ss : List StorageState) (index : ℕ) → length ss ≤ index → bytes_in ss index ≡ []
+pub bytes_beyond : (ss : List StorageState) (index : ℕ) → length ss ≤ index → file_bytes_in ss index ≡ []
 bytes_beyond [] index past = refl
 bytes_beyond (t ∷ ts) zero past = absurd (omega (arith, past))
 bytes_beyond (t ∷ ts) (suc index) past = bytes_beyond ts index (omega (arith, past))
@@ -111,39 +112,63 @@ module _ {D St : Type 0} (g : Ghosts D St) where
   all_read_looked whole (x ∷ xs) [] h = absurd h
 
   -- each file of each layer has the bytes that it had
-  pub bytes_at_kept : (whole : Type 0) (xs ys : List D) (layer file : ℕ) → Pairs (FilesRead g whole) xs ys → bytes_in (files_at g ys layer) file ≡ bytes_in (files_at g xs layer) file
+  pub bytes_at_kept : (whole : Type 0) (xs ys : List D) (layer file : ℕ) → Pairs (FilesRead g whole) xs ys → file_bytes_in (files_at g ys layer) file ≡ file_bytes_in (files_at g xs layer) file
   bytes_at_kept whole [] [] layer file h = refl
   bytes_at_kept whole (x ∷ xs) (y ∷ ys) zero file h = kept_bytes (files g x) (files g y) file h.0.kept
   bytes_at_kept whole (x ∷ xs) (y ∷ ys) (suc layer) file h = bytes_at_kept whole xs ys layer file h.1
   bytes_at_kept whole [] (y ∷ ys) layer file h = absurd h
   bytes_at_kept whole (x ∷ xs) [] layer file h = absurd h
 
--- Why a read of one layer's files is refused is why one of the chain's is: by the greater unit, and among more storages.
-pub cause_left : (unit unit' offset n : ℕ) (olds news us : List StorageState) (e : Fault) → (Overflows unit offset n → Overflows unit' offset n)
-    → FileReadCause unit offset n olds news e → FileReadCause unit' offset n (olds ++ us) (news ++ us) e
-cause_left unit unit' offset n olds news us RangeOverflow more why = more why
-cause_left unit unit' offset n olds news us Memory more why = tt
-cause_left unit unit' offset n olds news us Storage more why = some_rose_left olds news us us why
-cause_left unit unit' offset n olds news us e more why = absurd why
+-- Why a read of one layer's files is refused is why one of the chain's is: among more storages.
+pub cause_left : (overflows : Type 0) (olds news us : List StorageState) (e : Fault)
+    → FileReadCause overflows olds news e → FileReadCause overflows (olds ++ us) (news ++ us) e
+cause_left overflows olds news us RangeOverflow why = why
+cause_left overflows olds news us Memory why = pairs_append IsFaultless olds news us us why (faultless_all_same us)
+cause_left overflows olds news us Storage why = some_rose_left olds news us us why
+cause_left overflows olds news us e why = absurd why
 
-pub cause_right : (unit unit' offset n : ℕ) (ss us vs : List StorageState) (e : Fault) → (Overflows unit offset n → Overflows unit' offset n)
-    → FileReadCause unit offset n us vs e → FileReadCause unit' offset n (ss ++ us) (ss ++ vs) e
-cause_right unit unit' offset n ss us vs RangeOverflow more why = more why
-cause_right unit unit' offset n ss us vs Memory more why = tt
-cause_right unit unit' offset n ss us vs Storage more why = some_rose_right ss ss us vs (later_all_same ss) why
-cause_right unit unit' offset n ss us vs e more why = absurd why
+pub cause_right : (overflows : Type 0) (ss us vs : List StorageState) (e : Fault)
+    → FileReadCause overflows us vs e → FileReadCause overflows (ss ++ us) (ss ++ vs) e
+cause_right overflows ss us vs RangeOverflow why = why
+cause_right overflows ss us vs Memory why = pairs_append IsFaultless ss ss us vs (faultless_all_same ss) why
+cause_right overflows ss us vs Storage why = some_rose_right ss ss us vs (later_all_same ss) why
+cause_right overflows ss us vs e why = absurd why
 
-module _ {D St : Type 0} (g : Ghosts D St) (aligned : (d : D) → IsAlignment (g.layer d).fixed.req_align × IsAlignment (g.layer d).fixed.mem_align) (d : D) (ds : List D) where
-  pub cause_top : (offset n : ℕ) (new : D) (e : Fault) → FileReadCause (unit_of_layer (g.layer d)) offset n (files g d) (files g new) e
-      → FileReadCause (unit_of_chain (map g.layer (d ∷ ds))) offset n (files_of g (d ∷ ds)) (files_of g (new ∷ ds)) e
-  cause_top offset n new e = cause_left (unit_of_layer (g.layer d)) (unit_of_chain (map g.layer (d ∷ ds))) offset n (files g d) (files g new) (files_of g ds) e
-      (overflows_chain g.layer aligned d ds offset n)
+pub cause_more : (less more : Type 0) (olds news : List StorageState) (e : Fault) → (less → more) → FileReadCause less olds news e → FileReadCause more olds news e
+cause_more less more olds news RangeOverflow over why = over why
+cause_more less more olds news Memory over why = why
+cause_more less more olds news Storage over why = why
+cause_more less more olds news e over why = absurd why
 
-  pub cause_below : (offset n : ℕ) (news : List D) (e : Fault) → FileReadCause (unit_of_chain (map g.layer ds)) offset n (files_of g ds) (files_of g news) e
-      → FileReadCause (unit_of_chain (map g.layer (d ∷ ds))) offset n (files_of g (d ∷ ds)) (files_of g (d ∷ news)) e
-  cause_below offset n news e = cause_right (unit_of_chain (map g.layer ds)) (unit_of_chain (map g.layer (d ∷ ds))) offset n (files g d) (files_of g ds) (files_of g news) e
-      (λ over. let le : unit_of_chain (map g.layer ds) ≤ unit_of_chain (map g.layer (d ∷ ds)) = omega arith in
-      overflows_more (unit_of_chain (map g.layer ds)) (unit_of_chain (map g.layer (d ∷ ds))) offset n (unit_aligned g.layer aligned ds) (unit_aligned g.layer aligned (d ∷ ds)) le over)
+-- why a read of a storage is refused is why one of the first of several is
+pub first_cause : (s t : StorageState) (ss : List StorageState) (offset n : ℕ) (e : Fault) → Kept s t → NotRead s t offset n e
+    → FileReadCause (Overflows (unit_of s.shape) offset n) (s ∷ ss) (t ∷ ss) e
+first_cause s t ss offset n RangeOverflow kept why = why.0
+first_cause s t ss offset n Memory kept why = ((why, kept.refusals), faultless_all_same ss)
+first_cause s t ss offset n Storage kept why = inl why
+first_cause s t ss offset n e kept why = absurd why
+
+-- ---- Where a range overflows.
+
+-- no range from the start on overflows a unit that isn't great, where it ends below 2^63
+from_start : (unit n : ℕ) → unit ≤ 2 ^ 20 → n ≤ 2 ^ 63 → Overflows unit 0 n → ⊥
+unfolding round_up
+from_start unit n small low over = let end = 0 + n + (unit - 1) in omega (arith, div-add-mod' end unit, small, low, over.1)
+
+from_start_in : (s : StorageState) (ss : List StorageState) (file n : ℕ) → greatest (λ t. t.shape.req_align) s ss ≤ 2 ^ 20
+    → greatest (λ t. t.shape.mem_align) s ss ≤ 2 ^ 20 → n ≤ 2 ^ 63 → OverflowsIn (s ∷ ss) file 0 n → ⊥
+from_start_in s [] zero n requests memory low over = from_start (unit_of s.shape) n (omega (arith, requests, memory)) low over
+from_start_in s [] (suc file) n requests memory low over = over
+from_start_in s (t ∷ ts) zero n requests memory low over = from_start (unit_of s.shape) n (omega (arith, requests, memory)) low over
+from_start_in s (t ∷ ts) (suc file) n requests memory low over = from_start_in t ts file n (omega (arith, requests)) (omega (arith, memory)) low over
+
+-- so of no file of a chain
+module _ {D St : Type 0} (g : Ghosts D St) (aligned : (d : D) → IsAlignment (g.layer d).fixed.req_align × IsAlignment (g.layer d).fixed.mem_align) (storages : (d : D) → IsOfStorages (g.layer d) (g.image d) (g.extras d)) where
+  pub fits_at : (ds : List D) (layer file n : ℕ) → n ≤ 2 ^ 63 → OverflowsIn (files_at g ds layer) file 0 n → ⊥
+  fits_at [] layer file n low over = over
+  fits_at (d ∷ ds) zero file n low over = from_start_in (g.image d) (g.extras d) file n
+      (omega (arith, (storages d).requests, (aligned d).0.small)) (omega (arith, (storages d).memory, (aligned d).1.small)) low over
+  fits_at (d ∷ ds) (suc layer) file n low over = fits_at ds layer file n low over
 
 -- the files of a layer by its number, and those of the ones below by theirs
 module _ {D St : Type 0} (g : Ghosts D St) (d : D) (ds : List D) where
@@ -156,7 +181,7 @@ module _ {D St : Type 0} (g : Ghosts D St) (d : D) (ds : List D) where
   at_below (suc layer) below = let less : layer ≡ suc layer - 1 = omega arith in ap (files_at g ds) less
 
   -- a further file of the top
-  pub further_at : (layer file : ℕ) → layer ≤ 0 → (file ≡ 0 → ⊥) → bytes_in (files_at g (d ∷ ds) layer) file ≡ bytes_in (g.extras d) (file - 1)
+  pub further_at : (layer file : ℕ) → layer ≤ 0 → (file ≡ 0 → ⊥) → file_bytes_in (files_at g (d ∷ ds) layer) file ≡ file_bytes_in (g.extras d) (file - 1)
   further_at layer zero top further = absurd (further refl)
   further_at layer (suc file) top further =
-      let less : file ≡ suc file - 1 = omega arith in ap (λ ss. bytes_in ss (suc file)) (at_top layer top) ∙ ap (bytes_in (g.extras d)) less
+      let less : file ≡ suc file - 1 = omega arith in ap (λ ss. file_bytes_in ss (suc file)) (at_top layer top) ∙ ap (file_bytes_in (g.extras d)) less

@@ -3,7 +3,6 @@ use Rattle.std.specs.Prelude.{◌≡◌, ⊤, ℕ, zero, suc, List, [], ◌∷�
 use Rattle.imago_storage.specs.State.{StorageState}
 use Rattle.imago_storage.specs.Calls.{IsFaultless}
 use Rattle.imago_storage.specs.Steps.{Call}
-use Rattle.imago_storage.specs.Through.{Overflows}
 use Rattle.imago_storage.specs.declared.fault.Fault.{Fault}
 use Rattle.imago_storage.specs.declared.fault.Fault.TheVariants.{RangeOverflow, Memory, Storage}
 use Rattle.imago_access.specs.declared.seen.Seen.{Ghosts}
@@ -11,10 +10,10 @@ use Rattle.imago_access.specs.Files.{Pairs, IsKept, SomeRose, files}
 use Rattle.imago_access.specs.Room.{Takes}
 
 -- the bytes of the storage with this number: none where there is none
-abbrev pub bytes_in : List StorageState → ℕ → List ℕ
-bytes_in [] number = []
-bytes_in (s ∷ ss) zero = s.bytes
-bytes_in (s ∷ ss) (suc number) = bytes_in ss number
+abbrev pub file_bytes_in : List StorageState → ℕ → List ℕ
+file_bytes_in [] number = []
+file_bytes_in (s ∷ ss) zero = s.bytes
+file_bytes_in (s ∷ ss) (suc number) = file_bytes_in ss number
 
 -- the storages of the layer with this number, of which the top has 0: none where there is no such layer
 abbrev pub files_at : {D St : Type 0} → Ghosts D St → List D → ℕ → List StorageState
@@ -35,9 +34,9 @@ pub record FilesRead {D St : Type 0} (g : Ghosts D St) (whole : Type 0) (old new
   pub room : g.safe old → Takes g (λ _. ⊤) old new
   pub began : (d : D) (call : Call) → g.began d call old → g.began d call new
 
--- Why such a read is refused, by the unit of requests: the padded end of its range passes 64 bits, memory is wanting, or a storage failed.
-abbrev pub FileReadCause : (unit offset n : ℕ) → List StorageState → List StorageState → Fault → Type 0
-FileReadCause unit offset n olds news RangeOverflow = Overflows unit offset n
-FileReadCause unit offset n olds news Memory = ⊤
-FileReadCause unit offset n olds news Storage = SomeRose olds news
-FileReadCause unit offset n olds news fault = ⊥
+-- Why such a read is refused: the padded end of its range passes 64 bits, memory is wanting and no storage failed, or one failed.
+abbrev pub FileReadCause : (overflows : Type 0) → List StorageState → List StorageState → Fault → Type 0
+FileReadCause overflows olds news RangeOverflow = overflows
+FileReadCause overflows olds news Memory = Pairs IsFaultless olds news
+FileReadCause overflows olds news Storage = SomeRose olds news
+FileReadCause overflows olds news fault = ⊥

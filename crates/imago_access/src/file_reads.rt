@@ -1,7 +1,6 @@
 // The files of a layer, as they stand.
-ghost use Rattle.std.specs.Prelude.{length, OnOk, IfErr};
-ghost use Rattle.imago_access.specs.Layer.{unit_of_layer};
-ghost use Rattle.imago_access.specs.Files.{AreRead, WasNotCutOff, files};
+ghost use Rattle.std.specs.Prelude.{◌≡◌, ◌≤◌, length, OnOk, IfErr, IsOk, IsErrOf};
+ghost use Rattle.imago_access.specs.Files.{AreRead, OverflowsIn, WasNotCutOff, files};
 ghost use Rattle.imago_access.specs.FileReads.{FilesRead, FileReadCause};
 
 use crate::drivers::FormatDriverInstance;
@@ -15,8 +14,10 @@ pub trait ReadFiles: FormatDriverInstance {
     /// Fills the buffer with the bytes of a file from an offset in bytes on. The image file has the number 0, and the further files follow.
     /// Past a file's end it reads zeroes, and so does a number that no file has. What waits in memory to be written isn't in the files.
     ///
-    /// It refuses with `Fault::RangeOverflow` where the end of the range, rounded up to the driver's alignment, passes `u64`, with
-    /// `Fault::Memory` and with `Fault::Storage`. A refusal leaves the buffer open, and all but counts of faults as it was.
+    /// It refuses with `Fault::RangeOverflow`, before it takes memory or asks for anything, where the range isn't empty and its end, padded
+    /// to the file's own unit of requests (the larger of its two alignments, in bytes), passes `u64`; else with `Fault::Memory`, where no
+    /// storage failed, and with `Fault::Storage`. An empty range, and a number that no file has, are never refused. A refusal leaves the
+    /// buffer open, and all but counts of faults as it was.
     fn read_file(
         &mut self,
         alloc: Global,
@@ -24,8 +25,16 @@ pub trait ReadFiles: FormatDriverInstance {
         offset: u64,
         buf: &mut [u8],
     ) -> Result<(), Fault>
+        // What it answers.
         ensures bytes { OnOk result (AreRead (files Self.Seen self.old) file offset (length buf.old) buf.new) }
+        ensures overflow { OverflowsIn (files Self.Seen self.old) file offset (length buf.old) → IsErrOf result Fault.RangeOverflow }
+        ensures empty { length buf.old ≡ 0 → IsOk result }
+        ensures beyond { length (files Self.Seen self.old) ≤ file → IsOk result }
+
+        // What it keeps.
         ensures read { FilesRead Self.Seen (WasNotCutOff result) self.old self.new }
-        ensures cause { let unit = unit_of_layer (Self.layer self.old) in
-            IfErr result (FileReadCause unit offset (length buf.old) (files Self.Seen self.old) (files Self.Seen self.new)) };
+
+        // Why it is refused.
+        ensures cause { let overflows = OverflowsIn (files Self.Seen self.old) file offset (length buf.old) in
+            IfErr result (FileReadCause overflows (files Self.Seen self.old) (files Self.Seen self.new)) };
 }

@@ -1,9 +1,8 @@
 // The files of a chain's layers, as they stand.
-ghost use Rattle.std.specs.Prelude.{◌≡◌, ◌∷◌, length, map, OnOk, IfErr};
-ghost use Rattle.imago_access.specs.Chain.{unit_of_chain};
+ghost use Rattle.std.specs.Prelude.{◌≡◌, ◌≤◌, ◌∷◌, length, OnOk, IfErr, IsOk, IsErrOf};
 ghost use Rattle.imago_access.specs.Layers.{chain, layers};
-ghost use Rattle.imago_access.specs.Files.{AreRead, Pairs, WasNotCutOff, files_of};
-ghost use Rattle.imago_access.specs.FileReads.{bytes_in, files_at, FilesRead, FileReadCause};
+ghost use Rattle.imago_access.specs.Files.{AreRead, OverflowsIn, Pairs, WasNotCutOff, files_of};
+ghost use Rattle.imago_access.specs.FileReads.{file_bytes_in, files_at, FilesRead, FileReadCause};
 ghost use Rattle.imago_access.specs.Going.{Looked};
 
 use crate::access::FormatAccess;
@@ -16,7 +15,7 @@ impl<D: FormatDriverInstance> FormatAccess<D> {
     /// The length of a file of a layer, in bytes. The top layer has the number 0; of its files the image file has 0, and the further files
     /// follow. Of a number that none has it is 0.
     pub fn file_size(&self, layer: usize, file: usize) -> u64
-        ensures { result ≡ length (bytes_in (files_at D.Seen (chain self.now) layer) file) }
+        ensures { result ≡ length (file_bytes_in (files_at D.Seen (chain self.now) layer) file) }
     {
         if layer > 0 {
             return match &self.below {
@@ -39,8 +38,10 @@ impl<D: ReadFiles> FormatAccess<D> {
     /// end it reads zeroes, and so do numbers that none has. What waits in memory to be written isn't in the files. That is no read of the
     /// disk: an image that has failed, or lacks a file, answers it too, and a storage's fault marks none as failed.
     ///
-    /// It refuses with `Fault::RangeOverflow` where the end of the range, rounded up to the chain's alignment, passes `u64`, with
-    /// `Fault::Memory` and with `Fault::Storage`. A refusal leaves the buffer open, and all but counts of faults as it was.
+    /// It refuses with `Fault::RangeOverflow`, before it takes memory or asks for anything, where the range isn't empty and its end, padded
+    /// to the file's own unit of requests (the larger of its two alignments, in bytes), passes `u64`; else with `Fault::Memory`, where no
+    /// storage of the chain failed, and with `Fault::Storage`. An empty range, and numbers that no file has, are never refused. A refusal
+    /// leaves the buffer open, and all but counts of faults as it was.
     #[cycle(read_file)]
     pub fn read_file(
         &mut self,
@@ -52,15 +53,18 @@ impl<D: ReadFiles> FormatAccess<D> {
     ) -> Result<(), Fault>
         // What it answers.
         ensures bytes { OnOk result (AreRead (files_at D.Seen (chain self.old) layer) file offset (length buf.old) buf.new) }
+        ensures overflow { OverflowsIn (files_at D.Seen (chain self.old) layer) file offset (length buf.old)
+            → IsErrOf result Fault.RangeOverflow }
+        ensures empty { length buf.old ≡ 0 → IsOk result }
+        ensures beyond { length (files_at D.Seen (chain self.old) layer) ≤ file → IsOk result }
 
         // What it keeps.
         ensures read { Pairs (FilesRead D.Seen (WasNotCutOff result)) (chain self.old) (chain self.new) }
         ensures looked { Pairs (Looked D.Seen (WasNotCutOff result)) (chain self.old) (chain self.new) }
 
         // Why it is refused.
-        ensures cause { let unit = unit_of_chain (map D.layer (chain self.old)) in
-            IfErr result (FileReadCause unit offset (length buf.old) (files_of D.Seen (chain self.old))
-            (files_of D.Seen (chain self.new))) }
+        ensures cause { let overflows = OverflowsIn (files_at D.Seen (chain self.old) layer) file offset (length buf.old) in
+            IfErr result (FileReadCause overflows (files_of D.Seen (chain self.old)) (files_of D.Seen (chain self.new))) }
     {
         Self::read_file_part(
             alloc,
@@ -85,10 +89,14 @@ impl<D: ReadFiles> FormatAccess<D> {
         buf: &mut [u8],
     ) -> Result<(), Fault>
         ensures bytes { OnOk result (AreRead (files_at D.Seen (driver.old ∷ layers below.old) layer) file offset (length buf.old) buf.new) }
+        ensures overflow { OverflowsIn (files_at D.Seen (driver.old ∷ layers below.old) layer) file offset (length buf.old)
+            → IsErrOf result Fault.RangeOverflow }
+        ensures empty { length buf.old ≡ 0 → IsOk result }
+        ensures beyond { length (files_at D.Seen (driver.old ∷ layers below.old) layer) ≤ file → IsOk result }
         ensures read { Pairs (FilesRead D.Seen (WasNotCutOff result)) (driver.old ∷ layers below.old) (driver.new ∷ layers below.new) }
         ensures cause { let olds = driver.old ∷ layers below.old in let news = driver.new ∷ layers below.new in
-            IfErr result (FileReadCause (unit_of_chain (map D.layer olds)) offset (length buf.old) (files_of D.Seen olds)
-            (files_of D.Seen news)) }
+            let overflows = OverflowsIn (files_at D.Seen olds layer) file offset (length buf.old) in
+            IfErr result (FileReadCause overflows (files_of D.Seen olds) (files_of D.Seen news)) }
     {
         if layer == 0 {
             return driver.read_file(alloc, file, offset, buf);
@@ -107,10 +115,13 @@ impl<D: ReadFiles> FormatAccess<D> {
         buf: &mut [u8],
     ) -> Result<(), Fault>
         ensures bytes { OnOk result (AreRead (files_at D.Seen (layers below.old) layer) file offset (length buf.old) buf.new) }
+        ensures overflow { OverflowsIn (files_at D.Seen (layers below.old) layer) file offset (length buf.old)
+            → IsErrOf result Fault.RangeOverflow }
+        ensures empty { length buf.old ≡ 0 → IsOk result }
+        ensures beyond { length (files_at D.Seen (layers below.old) layer) ≤ file → IsOk result }
         ensures read { Pairs (FilesRead D.Seen (WasNotCutOff result)) (layers below.old) (layers below.new) }
-        ensures cause { let unit = unit_of_chain (map D.layer (layers below.old)) in
-            IfErr result (FileReadCause unit offset (length buf.old) (files_of D.Seen (layers below.old))
-            (files_of D.Seen (layers below.new))) }
+        ensures cause { let overflows = OverflowsIn (files_at D.Seen (layers below.old) layer) file offset (length buf.old) in
+            IfErr result (FileReadCause overflows (files_of D.Seen (layers below.old)) (files_of D.Seen (layers below.new))) }
     {
         match below {
             Some(access) => access.read_file(alloc, layer, file, offset, buf),
