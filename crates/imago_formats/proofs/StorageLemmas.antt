@@ -8,11 +8,14 @@ use Rattle.imago_storage.specs.State.{StorageState, IsAlignment, IsAligned, Rose
 use Rattle.imago_storage.specs.Calls.{Cause, Kept, IsFaultless}
 use Rattle.imago_storage.specs.declared.fault.Fault.{Fault}
 use Rattle.imago_storage.specs.declared.fault.Fault.TheVariants.{Memory, Storage, RangeOverflow}
-use Rattle.imago_formats.specs.VmdkFiles.{IsStopped, IsUnread, unit_of_all}
+use Rattle.imago_formats.specs.VmdkFiles.{IsStopped, unit_of_all}
 use Rattle.imago_formats.specs.VmdkLaws.{aligned_files}
 use Rattle.imago_storage.specs.Through.{NotRead, Overflows}
 use Rattle.std.proofs.Math.Nat.{le_refl}
 use Rattle.imago_access.proofs.FilePairs.{is_kept_same, is_kept_both, kept_all_same, faultless_all_same}
+use Rattle.imago_access.specs.FileReads.{FileReadCause}
+use Rattle.imago_access.specs.Layer.{Layer, unit_of_layer}
+use Rattle.imago_access.specs.Refusals.{ReadMappedCause}
 use Rattle.imago_access.specs.Files.{IsKept, IsStorageAt, Pairs, OverflowsIn, SomeRose, WasNotCutOff, byte_in, greatest}
 use Rattle.imago_access.proofs.Units.{alignment_max, overflows_more}
 
@@ -67,7 +70,7 @@ kept_first x y xs kept = (kept, kept_all_same xs)
 -- ---- Reads of one of several storages.
 
 -- a read that wasn't cut off has met no fault
-read_faultless : {T : Type 0} (r : Result T Fault) (a b : StorageState) (place n : ℕ) → Kept a b → OnOk r (b.faults ≡ a.faults) → IfErr r (NotRead a b place n) →
+pub read_faultless : {T : Type 0} (r : Result T Fault) (a b : StorageState) (place n : ℕ) → Kept a b → OnOk r (b.faults ≡ a.faults) → IfErr r (NotRead a b place n) →
     WasNotCutOff r → IsFaultless a b
 read_faultless (Ok v) a b place n kept same why whole = (same, kept.refusals)
 read_faultless (Err RangeOverflow) a b place n kept same why whole = (ap (λ (s : StorageState). s.faults) why.1, kept.refusals)
@@ -112,14 +115,28 @@ module _ {A : Type 0} (state : A → StorageState) where
         (kept_step (state (get_or xs i d)) (state y) kept) (kept_all_same (map state xs)),
   )
 
-  pub read_at_err : {T : Type 0} (r : Result T Fault) (s : StorageState) (xs : List A) (i : ℕ) (d y : A) (place n : ℕ) → i < length xs →
-      IsAlignment (unit_of (state (get_or xs i d)).shape) → IsAlignment (unit_of_all (s ∷ map state xs)) →
-      IfErr r (NotRead (state (get_or xs i d)) (state y) place n) → IfErr r (IsUnread (s ∷ map state xs) (s ∷ map state (set xs i y)) place n)
-  read_at_err (Ok v) s xs i d y place n h one all why = tt
-  read_at_err (Err RangeOverflow) s xs i d y place n h one all why = overflows_more _ _ place n one all (unit_at s xs i d h) why.0
-  read_at_err (Err Memory) s xs i d y place n h one all why = tt
-  read_at_err (Err Storage) s xs i d y place n h one all why = inr (rose_at state (map state xs) xs i d y h why (faultless_all_same (map state xs)))
-  read_at_err (Err fault) s xs i d y place n h one all why = why
+  pub read_at_cause : (s : StorageState) (xs : List A) (i : ℕ) (d y : A) (offset n : ℕ) (e : Fault) → i < length xs →
+      Kept (state (get_or xs i d)) (state y) → NotRead (state (get_or xs i d)) (state y) offset n e →
+      FileReadCause (Overflows (unit_of (state (get_or xs i d)).shape) offset n) (s ∷ map state xs) (s ∷ map state (set xs i y)) e
+  read_at_cause s xs i d y offset n RangeOverflow h kept why = why.0
+  read_at_cause s xs i d y offset n Memory h kept why = (
+    (refl, refl),
+    pairs_at state IsFaultless (map state xs) xs i d y h (faultless_step (state (get_or xs i d)) (state y) (why, kept.refusals)) (faultless_all_same (map state xs)),
+  )
+  read_at_cause s xs i d y offset n Storage h kept why = inr (rose_at state (map state xs) xs i d y h why (faultless_all_same (map state xs)))
+  read_at_cause s xs i d y offset n e h kept why = absurd why
+
+  -- a range that overflows one of them overflows the greatest of their units
+  pub overflow_all : ((x : A) → IsAligned (state x).shape) → (s : A) (xs : List A) (k place n : ℕ) →
+      OverflowsIn (state s ∷ map state xs) k place n → Overflows (unit_of_all (state s ∷ map state xs)) place n
+  overflow_all aligned s xs zero place n over =
+      overflows_more (unit_of (state s).shape) (unit_of_all (state s ∷ map state xs)) place n
+      (alignment_max (state s).shape.req_align (state s).shape.mem_align (aligned s).requests (aligned s).memory) (all_aligned aligned s xs) (unit_first (state s) (map state xs)) over
+  overflow_all aligned s [] (suc k) place n over = absurd over
+  overflow_all aligned s (y ∷ ys) (suc k) place n over =
+      let le : unit_of_all (state y ∷ map state ys) ≤ unit_of_all (state s ∷ state y ∷ map state ys) = omega arith in
+      overflows_more (unit_of_all (state y ∷ map state ys)) (unit_of_all (state s ∷ state y ∷ map state ys)) place n
+      (all_aligned aligned y ys) (all_aligned aligned s (y ∷ ys)) le (overflow_all aligned y ys k place n over)
 
   pub byte_at : (s : StorageState) (xs : List A) (i : ℕ) (d : A) (p : ℕ) → i < length xs → byte_in (map state xs) i p ≡ get_or (state (get_or xs i d)).bytes p 0
   byte_at s [] i d p h = absurd (omega arith)
@@ -138,6 +155,12 @@ module _ {A : Type 0} (state : A → StorageState) where
   overflow_at (y ∷ ys) zero d place n h passes = passes
   overflow_at (y ∷ ys) (suc i) d place n h passes = overflow_at ys i d place n (omega arith) passes
 
+  passes_at : (xs : List A) (i : ℕ) (d : A) (place n : ℕ) → i < length xs → Overflows (unit_of (state (get_or xs i d)).shape) place n →
+      OverflowsIn (map state xs) i place n
+  passes_at [] i d place n h over = absurd (omega arith)
+  passes_at (y ∷ ys) zero d place n h over = over
+  passes_at (y ∷ ys) (suc i) d place n h over = passes_at ys i d place n (omega arith) over
+
   pub overflow_past : (xs : List A) (i place n : ℕ) → length xs ≤ i → OverflowsIn (map state xs) i place n → ⊥
   overflow_past [] i place n h passes = passes
   overflow_past (y ∷ ys) zero place n h passes = absurd (omega (arith, h))
@@ -152,13 +175,12 @@ pub read_first_whole : {T : Type 0} (r : Result T Fault) (a b : StorageState) (f
     IfErr r (NotRead a b place n) → WasNotCutOff r → Pairs IsFaultless (a ∷ fs) (b ∷ fs)
 read_first_whole r a b fs place n kept same why whole = (read_faultless r a b place n kept same why whole, faultless_all_same fs)
 
-pub read_first_err : {T : Type 0} (r : Result T Fault) (a b : StorageState) (fs : List StorageState) (place n : ℕ) →
-    IsAlignment (unit_of a.shape) → IsAlignment (unit_of_all (a ∷ fs)) → IfErr r (NotRead a b place n) → IfErr r (IsUnread (a ∷ fs) (b ∷ fs) place n)
-read_first_err (Ok v) a b fs place n one all why = tt
-read_first_err (Err RangeOverflow) a b fs place n one all why = overflows_more _ _ place n one all (unit_first a fs) why.0
-read_first_err (Err Memory) a b fs place n one all why = tt
-read_first_err (Err Storage) a b fs place n one all why = inl why
-read_first_err (Err fault) a b fs place n one all why = why
+pub mapped_cause : (layer : Layer) (overflows : Type 0) (olds news : List StorageState) (place n : ℕ) (e : Fault) → (overflows → Overflows (unit_of_layer layer) place n) →
+    FileReadCause overflows olds news e → ReadMappedCause layer place n olds news e
+mapped_cause layer overflows olds news place n RangeOverflow over why = over why
+mapped_cause layer overflows olds news place n Memory over why = tt
+mapped_cause layer overflows olds news place n Storage over why = why
+mapped_cause layer overflows olds news place n e over why = absurd why
 
 pub byte_beyond : {A : Type 0} (state : A → StorageState) (s : StorageState) (xs : List A) (k p : ℕ) → length xs < k → byte_in (s ∷ map state xs) k p ≡ 0
 byte_beyond state s xs zero p h = absurd (omega arith)
@@ -182,6 +204,13 @@ overflow_within state s xs zero d place n some h passes = absurd (omega (arith, 
 overflow_within state s xs (suc k) d place n some h passes =
     let same : suc k - 1 ≡ k = omega arith in
     subst (λ i. Overflows (unit_of (state (get_or xs i d)).shape) place n) (sym same) (overflow_at state xs k d place n (omega (arith, h)) passes)
+
+pub passes_within : {A : Type 0} (state : A → StorageState) (s : StorageState) (xs : List A) (k : ℕ) (d : A) (place n : ℕ) → 0 < k → k - 1 < length xs →
+    Overflows (unit_of (state (get_or xs (k - 1) d)).shape) place n → OverflowsIn (s ∷ map state xs) k place n
+passes_within state s xs zero d place n some h over = absurd (omega (arith, some))
+passes_within state s xs (suc k) d place n some h over =
+    let same : suc k - 1 ≡ k = omega arith in
+    passes_at state xs k d place n (omega (arith, h)) (subst (λ i. Overflows (unit_of (state (get_or xs i d)).shape) place n) same over)
 
 -- the storage that is found by its index
 storage_at : {A : Type 0} (state : A → StorageState) (xs : List A) (i : ℕ) (x : A) → i < length xs → x ≡ get_or xs i x → IsStorageAt (map state xs) i (state x)

@@ -2,12 +2,11 @@
 use Rattle.std.specs.Prelude.{map, ⊤, ◌≡◌, ◌<◌, Some, None, ℕ, max, List, [], ◌∷◌}
 use Rattle.imago_storage.specs.State.{StorageState}
 use Rattle.imago_storage.specs.declared.fault.Fault.{Fault}
-use Rattle.imago_storage.specs.declared.fault.Fault.TheVariants.{Memory, Storage, RangeOverflow, MissingData, ReadOnly}
+use Rattle.imago_storage.specs.declared.fault.Fault.TheVariants.{Memory, Storage, MissingData, ReadOnly}
 use Rattle.imago_access.specs.Layer.{Layer}
 use Rattle.imago_access.specs.Refusals.{barrier}
 use Rattle.imago_access.specs.Files.{IsKept, Pairs, SomeRose, files, greatest}
 use Rattle.imago_access.specs.declared.seen.Seen.{Ghosts}
-use Rattle.imago_storage.specs.Through.{Overflows}
 
 -- the states of an image file and of others
 abbrev pub states : {A : Type 0} → (A → StorageState) → A → List A → List StorageState
@@ -23,11 +22,6 @@ IsStopped olds news fault = ⊥
 abbrev pub unit_of_all : List StorageState → ℕ
 unit_of_all [] = 0
 unit_of_all (s ∷ ss) = max (greatest (λ t. t.shape.req_align) s ss) (greatest (λ t. t.shape.mem_align) s ss)
-
--- why the bytes of one of several storages aren't read: also where the padded end of the range passes 64 bits
-abbrev pub IsUnread : List StorageState → List StorageState → ℕ → ℕ → Fault → Type 0
-IsUnread olds news place n RangeOverflow = Overflows (unit_of_all olds) place n
-IsUnread olds news place n fault = IsStopped olds news fault
 
 -- why a change is refused of a layer that is never written: a file is missing, or there is something to change
 abbrev pub Refuses : Layer → ℕ → Fault → Type 0

@@ -1,14 +1,15 @@
 // A VMDK image as a driver.
-ghost use Rattle.std.specs.Prelude.{IsErrOf, slice_index_or, ◌<◌, ℕ, ◌≡◌, ◌⊎◌, ◌∷◌, ◌-◌, ◌+◌, ◌*◌, ◌<◌, [], ⊤, min, map, refl, length, OnOk, IfOk, IfErr, IsOk, IsTrue, Ok, Err, Some, None};
+ghost use Rattle.std.specs.Prelude.{IsErrOf, slice_index_or, ◌<◌, ◌≤◌, ℕ, ◌≡◌, ◌⊎◌, ◌∷◌, ◌-◌, ◌+◌, ◌*◌, ◌<◌, [], ⊤, min, map, refl, length, OnOk, IfOk, IfErr, IsOk, IsTrue, Ok, Err, Some, None};
 ghost use Rattle.std.proofs.Common.{inr};
 ghost use Rattle.std.proofs.Math.Nat.{le_refl};
 ghost use Rattle.imago_storage.specs.Calls.{CountsFaults, IsFaultless, Kept};
 ghost use Rattle.imago_access.specs.Failing.{Fails, RefusesFlush, RefusesLookup};
+ghost use Rattle.imago_access.specs.FileReads.{FileReadCause};
 ghost use Rattle.imago_access.specs.Files.{AreRead, OverflowsIn, Pairs, WasNotCutOff, byte_in, files, keep_all};
 ghost use Rattle.imago_access.specs.Mappings.{IsOneOf, IsRun, LooksIn, NamesRoomIn, States};
 ghost use Rattle.imago_access.specs.Going.{AtOnce, IsUnchanged, Looked, Marks, RangeAtOnce};
 ghost use Rattle.imago_access.specs.PartCalls.{IsPart, DoesPart, PartCall, PartRefused};
-ghost use Rattle.imago_formats.specs.VmdkFiles.{IsUnread, Keeps, Refuses};
+ghost use Rattle.imago_formats.specs.VmdkFiles.{Keeps, Refuses};
 ghost use Rattle.imago_access.specs.PreparingCalls.{Commits, CommitRefused, Cancels};
 ghost use Rattle.imago_access.specs.Refusals.{barrier};
 ghost use Rattle.imago_formats.specs.Descriptor.{descriptor_of, is_signed, text_of};
@@ -48,7 +49,7 @@ pub struct Vmdk<S> {
 }
 
 impl<S: Storage> Vmdk<S> {
-    /// Opens a descriptor, without the files that it names: while one is missing, each call but getters is refused with
+    /// Opens a descriptor, without the files that it names: while one is missing, each call of the disk but getters is refused with
     /// `Fault::MissingData`.
     ///
     /// It refuses with `Fault::DamagedDescriptor`, `Fault::Unsupported`, `Fault::Memory`, and `Fault::Storage` where the storage may fail.
@@ -169,10 +170,11 @@ impl<S: Storage> Vmdk<S> {
         ensures keeps { Keeps ⟦<Vmdk<S> as Seen>⟧ self.old self.new }
         ensures bytes { OnOk result (AreRead (files ⟦<Vmdk<S> as Seen>⟧ self.old) storage place (length buf.old) buf.new) }
         ensures whole { let d = ⟦<Vmdk<S> as Seen>⟧ in WasNotCutOff result → Pairs IsFaultless (files d self.old) (files d self.new) }
-        ensures err { let d = ⟦<Vmdk<S> as Seen>⟧ in
-            IfErr result (IsUnread (files d self.old) (files d self.new) place (length buf.old)) }
         ensures overflow { OverflowsIn (files ⟦<Vmdk<S> as Seen>⟧ self.old) storage place (length buf.old)
             → IsErrOf result Fault.RangeOverflow }
+        ensures beyond { length (files ⟦<Vmdk<S> as Seen>⟧ self.old) ≤ storage → IsOk result }
+        ensures cause { let d = ⟦<Vmdk<S> as Seen>⟧ in let overflows = OverflowsIn (files d self.old) storage place (length buf.old) in
+            IfErr result (FileReadCause overflows (files d self.old) (files d self.new)) }
         ensures empty { length buf.old ≡ 0 → IsOk result × IsUnchanged ⟦<Vmdk<S> as Seen>⟧ self.old self.new }
     {
         read_storage(alloc, &mut self.image, &mut self.files, storage, place, buf)

@@ -1,8 +1,9 @@
 // The storages of an image: the file of its descriptor, and those that its extents ask for.
-ghost use Rattle.std.specs.Prelude.{IsErrOf, ◌≡◌, ◌∷◌, map, length, OnOk, IfErr, IsOk};
+ghost use Rattle.std.specs.Prelude.{IsErrOf, ◌≡◌, ◌<◌, ◌∷◌, map, length, OnOk, IfErr, IsOk};
 ghost use Rattle.imago_storage.specs.Calls.{Cause, IsFaultless};
-ghost use Rattle.imago_formats.specs.VmdkFiles.{IsStopped, IsUnread, states};
+ghost use Rattle.imago_formats.specs.VmdkFiles.{IsStopped, states};
 ghost use Rattle.imago_storage.specs.State.{IsAlignment};
+ghost use Rattle.imago_access.specs.FileReads.{FileReadCause};
 ghost use Rattle.imago_access.specs.Files.{AreRead, IsKept, OverflowsIn, Pairs, WasNotCutOff, greatest};
 
 use imago_storage::{Fault, Storage, StorageExt, larger_alignment};
@@ -100,9 +101,11 @@ pub(crate) fn read_storage<S: Storage>(
     ensures bytes { OnOk result (AreRead (states S.state image.old files.old) storage place (length buf.old) buf.new) }
     ensures kept { Pairs IsKept (states S.state image.old files.old) (states S.state image.new files.new) }
     ensures whole { WasNotCutOff result → Pairs IsFaultless (states S.state image.old files.old) (states S.state image.new files.new) }
-    ensures err { IfErr result (IsUnread (states S.state image.old files.old) (states S.state image.new files.new) place (length buf.old)) }
     ensures overflow { OverflowsIn (states S.state image.old files.old) storage place (length buf.old)
         → IsErrOf result Fault.RangeOverflow }
+    ensures beyond { length files.old < storage → IsOk result }
+    ensures cause { let olds = states S.state image.old files.old in
+        IfErr result (FileReadCause (OverflowsIn olds storage place (length buf.old)) olds (states S.state image.new files.new)) }
     ensures empty { length buf.old ≡ 0
         → IsOk result × (S.state image.new ≡ S.state image.old) × (map S.state files.new ≡ map S.state files.old) }
 {

@@ -1,7 +1,14 @@
-use Rattle.std.proofs.Common.{◌≡◌, ◌∷◌, ◌∙◌, ◌+◌, ◌-◌, ℕ, refl, sym, get_or, length, arith, ◌<◌}
+use Rattle.std.proofs.Common.{◌≡◌, ◌∷◌, ◌∙◌, ◌+◌, ◌-◌, ℕ, refl, sym, get_or, length, arith, ◌<◌, set}
 use Rattle.std.specs.Prelude.{map}
+use Rattle.std.proofs.lemmas.Result.{IfErr-weaker}
+use Rattle.imago_storage.specs.State.{unit_of}
+use Rattle.imago_storage.specs.Through.{NotRead, Overflows}
+use Rattle.imago_access.specs.FileReads.{FileReadCause}
+use Rattle.imago_access.specs.Files.{OverflowsIn}
+use Rattle.imago_access.proofs.FileReads.{cause_more, first_cause}
+use Rattle.imago_formats.specs.VmdkFiles.{states}
 use Rattle.imago_access.proofs.FilePairs.{kept_all_same, faultless_all_same}
-use Rattle.imago_formats.proofs.StorageLemmas.{kept_first, read_first_whole, read_first_err, read_at_kept, read_at_whole, read_at_err, all_aligned, byte_beyond, byte_within, same_at, overflow_beyond, overflow_within, zero_at, on_ok_reads}
+use Rattle.imago_formats.proofs.StorageLemmas.{kept_first, read_first_whole, read_at_cause, read_at_kept, read_at_whole, byte_beyond, byte_within, passes_within, same_at, overflow_beyond, overflow_within, zero_at, on_ok_reads}
 use Rattle.imago_formats.proofs.vmdk.storages.read_storage.Goals as goal
 
 pub returns-then-storage-eq0-clause-kept : goal.returns-then-storage-eq0-clause-kept
@@ -15,11 +22,15 @@ returns-then-storage-eq0-clause-whole g c =
     read_first_whole c.read.result (state c.args.image.now) (state c.read.new.self) (map state c.args.files.now) c.args.place (length c.args.buf.now)
     c.read.ensures.kept c.read.ensures.faults c.read.ensures.err
 
-pub returns-then-storage-eq0-clause-err : goal.returns-then-storage-eq0-clause-err
-returns-then-storage-eq0-clause-err g c =
+pub returns-then-storage-eq0-clause-cause : goal.returns-then-storage-eq0-clause-cause
+returns-then-storage-eq0-clause-cause g c =
     let state = g.S.Storage.state in
-    read_first_err c.read.result (state c.args.image.now) (state c.read.new.self) (map state c.args.files.now) c.args.place (length c.args.buf.now)
-    c.read.ensures.unit (all_aligned state g.met.S.Storage.aligned c.args.image.now c.args.files.now) c.read.ensures.err
+    let olds = states state c.args.image.now c.args.files.now in
+    let image = state c.args.image.now in let new = state c.read.new.self in let fs = map state c.args.files.now in
+    let n = length c.args.buf.now in
+    rw c.if-storage-eq0.true (IfErr-weaker c.read.result (NotRead image new c.args.place n)
+    (FileReadCause (Overflows (unit_of image.shape) c.args.place n) olds (new ∷ fs))
+    (λ e. first_cause image new fs c.args.place n e c.read.ensures.kept) c.read.ensures.err)
 
 pub returns-then-storage-files-clause-kept : goal.returns-then-storage-files-clause-kept
 returns-then-storage-files-clause-kept g c = let state = g.S.Storage.state in kept_all_same (state c.args.image.now ∷ map state c.args.files.now)
@@ -66,13 +77,20 @@ returns-clause-whole g c =
     read_at_whole state c.read-2.result (state c.args.image.now) c.args.files.now (c.args.storage - 1) c.index-files-storage.result c.read-2.new.self
     c.args.place (length c.args.buf.now) inside c.read-2.ensures.kept c.read-2.ensures.faults c.read-2.ensures.err
 
-pub returns-clause-err : goal.returns-clause-err
-returns-clause-err g c =
+pub returns-clause-cause : goal.returns-clause-cause
+returns-clause-cause g c =
     let state = g.S.Storage.state in
     let some : 0 < c.args.storage = some_storage c.args.storage c.if-storage-eq0.false in
     let inside : c.args.storage - 1 < length c.args.files.now = omega (arith, some, c.if-storage-files.false) in
-    read_at_err state c.read-2.result (state c.args.image.now) c.args.files.now (c.args.storage - 1) c.index-files-storage.result c.read-2.new.self
-    c.args.place (length c.args.buf.now) inside c.read-2.ensures.unit (all_aligned state g.met.S.Storage.aligned c.args.image.now c.args.files.now) c.read-2.ensures.err
+    let image = state c.args.image.now in let files = c.args.files.now in let file = c.index-files-storage.result in
+    let n = length c.args.buf.now in
+    let news = image ∷ map state (set files (c.args.storage - 1) c.read-2.new.self) in
+    IfErr-weaker c.read-2.result (NotRead (state (get_or files (c.args.storage - 1) file)) (state c.read-2.new.self) c.args.place n)
+    (FileReadCause (OverflowsIn (image ∷ map state files) c.args.storage c.args.place n) (image ∷ map state files) news)
+    (λ e why. cause_more (Overflows (unit_of (state (get_or files (c.args.storage - 1) file)).shape) c.args.place n)
+    (OverflowsIn (image ∷ map state files) c.args.storage c.args.place n) (image ∷ map state files) news e
+    (passes_within state image files c.args.storage file c.args.place n some inside)
+    (read_at_cause state image files (c.args.storage - 1) file c.read-2.new.self c.args.place n e inside c.read-2.ensures.kept why)) c.read-2.ensures.err
 
 pub returns-clause-empty : goal.returns-clause-empty
 returns-clause-empty g c = λ none.
