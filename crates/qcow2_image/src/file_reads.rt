@@ -1,8 +1,7 @@
 // The file of a qcow2 image, as it stands.
-ghost use Rattle.std.specs.Prelude.{length, OnOk, IfErr};
+ghost use Rattle.std.specs.Prelude.{◌≡◌, ◌≤◌, length, OnOk, IfErr, IsOk, IsErrOf};
 ghost use Rattle.imago_access.specs.FileReads.{FilesRead, FileReadCause};
-ghost use Rattle.imago_access.specs.Files.{AreRead, WasNotCutOff, files};
-ghost use Rattle.imago_access.specs.Layer.{unit_of_layer};
+ghost use Rattle.imago_access.specs.Files.{AreRead, OverflowsIn, WasNotCutOff, files};
 ghost use Rattle.qcow2_image.specs.Leaking.{KeepsLeaks};
 
 use crate::qcow2::Qcow2;
@@ -19,9 +18,13 @@ impl<S: Storage> ReadFiles for Qcow2<S> {
         buf: &mut [u8],
     ) -> Result<(), Fault>
         ensures bytes { OnOk result (AreRead (files ⟦<Qcow2<S> as Seen>⟧ self.old) file offset (length buf.old) buf.new) }
+        ensures overflow { let d = ⟦<Qcow2<S> as Seen>⟧ in
+            OverflowsIn (files d self.old) file offset (length buf.old) → IsErrOf result Fault.RangeOverflow }
+        ensures empty { length buf.old ≡ 0 → IsOk result }
+        ensures beyond { let d = ⟦<Qcow2<S> as Seen>⟧ in length (files d self.old) ≤ file → IsOk result }
         ensures read { FilesRead ⟦<Qcow2<S> as Seen>⟧ (WasNotCutOff result) self.old self.new }
-        ensures cause { let d = ⟦<Qcow2<S> as Seen>⟧ in let unit = unit_of_layer (d.layer self.old) in
-            IfErr result (FileReadCause unit offset (length buf.old) (files d self.old) (files d self.new)) }
+        ensures cause { let d = ⟦<Qcow2<S> as Seen>⟧ in let overflows = OverflowsIn (files d self.old) file offset (length buf.old) in
+            IfErr result (FileReadCause overflows (files d self.old) (files d self.new)) }
         // It leaks nothing.
         ensures leaks { KeepsLeaks S.Storage self.old self.new }
     {

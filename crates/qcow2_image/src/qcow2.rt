@@ -56,8 +56,8 @@ impl PreparedMappingState {
 
 /// A qcow2 image: each place of the disk is what the tables of its file say of it.
 ///
-/// Its one storage, the image file, has the number 0. A fault of that storage marks it as failed, and so does a commit that was cut off,
-/// and want of memory in a change.
+/// Its one storage, the image file, has the number 0. In a call of the disk, a fault of that storage marks it as failed, and so does a
+/// commit that was cut off, and want of memory in a change. A read of its file as it stands marks nothing.
 ///
 /// One that was opened for writing is written where a place has data in a host cluster of its own, which its L2 entry marks as copied:
 /// bytes go there at once, and no table changes. Where a guest cluster has none of its own, a cluster is allocated: it is reserved, filled
@@ -117,8 +117,8 @@ impl<S: Storage> Seen for Qcow2<S> {
 }
 
 impl<S: Storage> Qcow2<S> {
-    /// Whether it has failed: after a fault of a storage, a commit that was cut off, tables that couldn't be read anew, or want of memory
-    /// in a change it has to be opened again.
+    /// Whether it has failed: after a fault of a storage in a call of the disk, a commit that was cut off, tables that couldn't be read
+    /// anew, or want of memory in a change it has to be opened again.
     pub fn failed(&self) -> bool
         ensures { result ≡ (⟦<Qcow2<S> as Seen>⟧.layer self.now).failed }
     {
