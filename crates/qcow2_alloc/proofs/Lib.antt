@@ -1,3 +1,4 @@
+pub mod Faults
 pub mod Caching
 pub mod Flushing
 pub mod Memory

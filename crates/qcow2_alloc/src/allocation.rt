@@ -57,10 +57,8 @@ impl Allocator {
             return Err(Fault::DamagedTable);
         }
         let entries = file.header.reftable_entries();
-        match RefTable::load(alloc, &mut file.image, &file.header, cluster, entries) {
-            Ok(table) => Ok(Allocator::from_table(alloc, table, HostCluster(0))),
-            Err(fault) => Err(fault),
-        }
+        let table = RefTable::load(alloc, &mut file.image, &file.header, cluster, entries)?;
+        Ok(Allocator::from_table(alloc, table, HostCluster(0)))
     }
 
     /// An allocator over this refcount table, which begins its search at `first_free`: each cluster before is counted.
@@ -109,15 +107,11 @@ impl Allocator {
         let Some(rb_cluster) = self.block_cluster(rt_index) else {
             return Err(Fault::DamagedTable);
         };
-        match lower_in(caches, file, rb_cluster, rb_index) {
-            Ok(()) => {
-                if cluster < self.first_free_cluster {
-                    self.first_free_cluster = cluster;
-                }
-                Ok(())
-            }
-            Err(fault) => Err(fault),
+        lower_in(caches, file, rb_cluster, rb_index)?;
+        if cluster < self.first_free_cluster {
+            self.first_free_cluster = cluster;
         }
+        Ok(())
     }
 
     // Counts the last cluster of an entry down, and takes it off the entry.
@@ -142,13 +136,9 @@ impl Allocator {
         let Some(last) = last_cluster(list.entry(index)) else {
             return Err(Fault::DamagedTable);
         };
-        match self.free_cluster(file, caches, last) {
-            Ok(()) => {
-                list.shorten(index, ClusterCount(1));
-                Ok(())
-            }
-            Err(fault) => Err(fault),
-        }
+        self.free_cluster(file, caches, last)?;
+        list.shorten(index, ClusterCount(1));
+        Ok(())
     }
 
     // Counts the clusters of an entry down, from the last to the first, and takes it off the list.
@@ -172,10 +162,7 @@ impl Allocator {
     {
         let ClusterCount(count) = list.entry(index).count();
         for _ in 0..count {
-            match self.free_last(file, caches, list, index) {
-                Ok(()) => (),
-                Err(fault) => return Err(fault),
-            }
+            self.free_last(file, caches, list, index)?;
         }
         let _parts = list.remove(index).into_parts();
         Ok(())
@@ -199,10 +186,7 @@ impl Allocator {
         ensures held { list.new.held ≡ list.old.held }
     {
         while let Some(index) = list.position_of_metadata() {
-            match self.free_entry(file, caches, list, index) {
-                Ok(()) => (),
-                Err(fault) => return Err(fault),
-            }
+            self.free_entry(file, caches, list, index)?;
         }
         Ok(())
     }
@@ -225,10 +209,7 @@ impl Allocator {
     {
         while !list.is_empty() {
             let last = list.len() - 1;
-            match self.free_entry(file, caches, list, last) {
-                Ok(()) => (),
-                Err(fault) => return Err(fault),
-            }
+            self.free_entry(file, caches, list, last)?;
         }
         Ok(())
     }
@@ -259,9 +240,7 @@ impl Allocator {
             (order_of caches.old) result (order_of caches.new) }
         ensures held { list.new.held ≡ list.old.held }
     {
-        if let Err(fault) = self.free_metadata(file, caches, list) {
-            return Err(fault);
-        }
+        self.free_metadata(file, caches, list)?;
         if list.is_empty() {
             return Ok(());
         }
@@ -269,10 +248,8 @@ impl Allocator {
             drop_entries(list);
             return Ok(());
         }
-        match caches.rb_depends_on_l2(file) {
-            Ok(()) => self.free_all(file, caches, list),
-            Err(fault) => Err(fault),
-        }
+        caches.rb_depends_on_l2(file)?;
+        self.free_all(file, caches, list)
     }
 
     /// Drops each refcount block that isn't pinned from its cache, without writing it.
@@ -323,10 +300,8 @@ fn lower_counter(block: &mut RefBlock, index: usize) -> Result<(), Fault>
     if index >= block.entries() {
         return Err(Fault::DamagedTable);
     }
-    match block.lock_write().decrement(index) {
-        Ok(_) => Ok(()),
-        Err(fault) => Err(fault),
-    }
+    let _value = block.lock_write().decrement(index)?;
+    Ok(())
 }
 
 // Lowers a counter of the block in a cluster by 1.
@@ -338,8 +313,6 @@ fn lower_in<S: Storage>(
 ) -> Result<(), Fault>
     ensures { UsesBlock S.state rb_cluster (Lowers index) caches.old file.old result caches.new file.new }
 {
-    match caches.rb_get_or_insert(file, rb_cluster) {
-        Ok(block) => lower_counter(block, index),
-        Err(fault) => Err(fault),
-    }
+    let block = caches.rb_get_or_insert(file, rb_cluster)?;
+    lower_counter(block, index)
 }

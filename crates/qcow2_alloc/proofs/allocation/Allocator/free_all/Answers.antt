@@ -6,6 +6,7 @@ use Rattle.qcow2_alloc.specs.Freeing.{Frees, IsSublist}
 use Rattle.qcow2_alloc.specs.State.{lent}
 use Rattle.qcow2_alloc.proofs.Freeing.FreeingEntries.{frees-none, frees-then, freed, failed}
 use Rattle.qcow2_alloc.proofs.Freeing.FreeingRest.{sublist-all, sublist-then, sublist-removed, rest-whole, rest-shortened}
+use Rattle.qcow2_alloc.proofs.Faults.{handed-on}
 use Rattle.qcow2_alloc.proofs.allocation.Allocator.free_all.Goals as goal
 
 pub loop-list-init : goal.loop-list-init
@@ -19,22 +20,23 @@ loop-list-preserved g c =
       c.free_entry.ensures.held ∙ same.0,
       c.free_entry.ensures.order ∙ same.1,
       c.free_entry.ensures.table ∙ same.2,
-      sublist-then n.list.entries l.list.entries c.args.list.now.entries (subst (λ (es : List FreeEntry). IsSublist es l.list.entries) (sym c.in-Ok.ensures.ok) (sublist-removed l.list.entries (c.len-last.result - 1))) same.3,
+      sublist-then n.list.entries l.list.entries c.args.list.now.entries (subst (λ (es : List FreeEntry). IsSublist es l.list.entries) (sym c.in_ok-free_entry.ensures.ok) (sublist-removed l.list.entries (c.len-last.result - 1))) same.3,
       λ first. frees-then g.S.Storage.state (table_of c.args.self.now) c.args.caches.now c.args.file.now (mark_of c.args.self.now) c.args.list.now.entries l.caches l.file (mark_of l.self) l.list.entries freed n.caches n.file (mark_of n.self) n.list.entries (same.4 first)
-          (subst (λ (t : TableValue). Frees g.S.Storage.state (mark_of l.self) (lent t l.caches l.file l.list.entries) freed (lent t n.caches n.file n.list.entries) (mark_of n.self)) same.2 (c.in-Ok.ensures.frees (inr (same.1 ∙ first)))),
+          (subst (λ (t : TableValue). Frees g.S.Storage.state (mark_of l.self) (lent t l.caches l.file l.list.entries) freed (lent t n.caches n.file n.list.entries) (mark_of n.self)) same.2 (c.in_ok-free_entry.ensures.frees (inr (same.1 ∙ first)))),
     )
 
-pub returns-in-Err-clause-frees : goal.returns-in-Err-clause-frees
-returns-in-Err-clause-frees g c = λ first.
+pub returns-in_err-free_entry-clause-frees : goal.returns-in_err-free_entry-clause-frees
+returns-in_err-free_entry-clause-frees g c = rw (handed-on _ _ c.from_residual.ensures.1) (
+    λ first.
     let same = c.loop-list.invariant in
     let l = c.loop-list in
     let n = c.free_entry.new in
-    frees-then g.S.Storage.state (table_of c.args.self.now) c.args.caches.now c.args.file.now (mark_of c.args.self.now) c.args.list.now.entries l.caches l.file (mark_of l.self) l.list.entries (failed c.in-Err.fault) n.caches n.file (mark_of n.self) n.list.entries (same.4 first)
-    (subst (λ (t : TableValue). Frees g.S.Storage.state (mark_of l.self) (lent t l.caches l.file l.list.entries) (failed c.in-Err.fault) (lent t n.caches n.file n.list.entries) (mark_of n.self)) same.2 (c.in-Err.ensures.frees (inr (same.1 ∙ first))))
+    frees-then g.S.Storage.state (table_of c.args.self.now) c.args.caches.now c.args.file.now (mark_of c.args.self.now) c.args.list.now.entries l.caches l.file (mark_of l.self) l.list.entries (failed c.in_err-free_entry.field-0.0) n.caches n.file (mark_of n.self) n.list.entries (same.4 first)
+    (subst (λ (t : TableValue). Frees g.S.Storage.state (mark_of l.self) (lent t l.caches l.file l.list.entries) (failed c.in_err-free_entry.field-0.0) (lent t n.caches n.file n.list.entries) (mark_of n.self)) same.2 (c.in_err-free_entry.ensures.frees (inr (same.1 ∙ first)))))
 
-pub returns-in-Err-clause-left : goal.returns-in-Err-clause-left
-returns-in-Err-clause-left g c =
-    let cut = c.in-Err.ensures.err in
+pub returns-in_err-free_entry-clause-left : goal.returns-in_err-free_entry-clause-left
+returns-in_err-free_entry-clause-left g c =
+    let cut = c.in_err-free_entry.ensures.err in
     rest-shortened c.args.list.now.entries c.loop-list.list.entries c.free_entry.new.list.entries _ cut.0 c.loop-list.invariant.3 cut.1 cut.2
 
 pub returns-clause-left : goal.returns-clause-left

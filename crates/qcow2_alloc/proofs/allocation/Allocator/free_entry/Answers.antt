@@ -10,6 +10,7 @@ use Rattle.qcow2_alloc.specs.Freeing.{Frees}
 use Rattle.qcow2_alloc.specs.State.{lent}
 use Rattle.qcow2_alloc.proofs.Freeing.FreeingEntries.{frees-none, frees-then, empty-removed, may-still, freed, failed}
 use Rattle.qcow2_alloc.proofs.Freeing.FreeingLists.{entry-shortened, shortened-none, shortened-more, removed-shortened}
+use Rattle.qcow2_alloc.proofs.Faults.{handed-on}
 use Rattle.qcow2_alloc.proofs.allocation.Allocator.free_entry.Goals as goal
 
 pub loop-init : goal.loop-init
@@ -29,39 +30,40 @@ free_last-requires-clause-some g c =
     let test = c.loop-test.true in
     omega (arith, left, count, test)
 
-pub returns-in-Err-clause-frees : goal.returns-in-Err-clause-frees
-returns-in-Err-clause-frees g c = λ may.
+pub returns-in_err-free_last-clause-frees : goal.returns-in_err-free_last-clause-frees
+returns-in_err-free_last-clause-frees g c = rw (handed-on _ _ c.from_residual.ensures.1) (
+    λ may.
     let same = c.loop.invariant in
-    frees-then g.S.Storage.state (table_of c.args.self.now) c.args.caches.now c.args.file.now (mark_of c.args.self.now) c.args.list.now.entries c.loop.caches c.loop.file (mark_of c.loop.self) c.loop.list.entries (failed c.in-Err.fault) c.free_last.new.caches c.free_last.new.file (mark_of c.free_last.new.self) c.free_last.new.list.entries
-    (same.4 may) (subst (λ (t : TableValue). Frees g.S.Storage.state (mark_of c.loop.self) (lent t c.loop.caches c.loop.file c.loop.list.entries) (failed c.in-Err.fault) (lent t c.free_last.new.caches c.free_last.new.file c.free_last.new.list.entries) (mark_of c.free_last.new.self)) same.3
-    (c.in-Err.ensures.frees (may-still c.args.list.now.entries c.args.index c.loop.counter c.requires.inside c.loop.list.entries (order_of c.args.caches.now) (order_of c.loop.caches) same.0 same.2 may)))
+    frees-then g.S.Storage.state (table_of c.args.self.now) c.args.caches.now c.args.file.now (mark_of c.args.self.now) c.args.list.now.entries c.loop.caches c.loop.file (mark_of c.loop.self) c.loop.list.entries (failed c.in_err-free_last.field-0.0) c.free_last.new.caches c.free_last.new.file (mark_of c.free_last.new.self) c.free_last.new.list.entries
+    (same.4 may) (subst (λ (t : TableValue). Frees g.S.Storage.state (mark_of c.loop.self) (lent t c.loop.caches c.loop.file c.loop.list.entries) (failed c.in_err-free_last.field-0.0) (lent t c.free_last.new.caches c.free_last.new.file c.free_last.new.list.entries) (mark_of c.free_last.new.self)) same.3
+    (c.in_err-free_last.ensures.frees (may-still c.args.list.now.entries c.args.index c.loop.counter c.requires.inside c.loop.list.entries (order_of c.args.caches.now) (order_of c.loop.caches) same.0 same.2 may))))
 
-pub returns-in-Err-clause-order : goal.returns-in-Err-clause-order
-returns-in-Err-clause-order g c = c.free_last.ensures.order ∙ c.loop.invariant.2
+pub returns-in_err-free_last-clause-order : goal.returns-in_err-free_last-clause-order
+returns-in_err-free_last-clause-order g c = c.free_last.ensures.order ∙ c.loop.invariant.2
 
-pub returns-in-Err-clause-table : goal.returns-in-Err-clause-table
-returns-in-Err-clause-table g c = c.free_last.ensures.table ∙ c.loop.invariant.3
+pub returns-in_err-free_last-clause-table : goal.returns-in_err-free_last-clause-table
+returns-in_err-free_last-clause-table g c = c.free_last.ensures.table ∙ c.loop.invariant.3
 
-pub returns-in-Err-clause-err : goal.returns-in-Err-clause-err
-returns-in-Err-clause-err g c =
+pub returns-in_err-free_last-clause-err : goal.returns-in_err-free_last-clause-err
+returns-in_err-free_last-clause-err g c = rw (handed-on _ _ c.from_residual.ensures.1) (
     let count = c.count-2.view_is ∙ c.count.ensures ∙ ap (λ (e : FreeEntry). e.count) c.entry.ensures in
     let test = c.loop-test.true in
-    (c.loop.counter, omega (arith, count, test), c.in-Err.ensures.err ∙ c.loop.invariant.0)
+    (c.loop.counter, omega (arith, count, test), c.in_err-free_last.ensures.err ∙ c.loop.invariant.0))
 
-pub returns-in-Err-clause-held : goal.returns-in-Err-clause-held
-returns-in-Err-clause-held g c = c.free_last.ensures.held ∙ c.loop.invariant.1
+pub returns-in_err-free_last-clause-held : goal.returns-in_err-free_last-clause-held
+returns-in_err-free_last-clause-held g c = c.free_last.ensures.held ∙ c.loop.invariant.1
 
 pub loop-preserved : goal.loop-preserved
 loop-preserved g c =
     let same = c.loop.invariant in
     let es = c.args.list.now.entries in (
-      c.in-Ok.ensures.ok ∙ ap (λ (l : List FreeEntry). shortened l c.args.index 1) same.0 ∙ shortened-more es c.args.index c.loop.counter,
+      c.in_ok-free_last.ensures.ok ∙ ap (λ (l : List FreeEntry). shortened l c.args.index 1) same.0 ∙ shortened-more es c.args.index c.loop.counter,
       c.free_last.ensures.held ∙ same.1,
       c.free_last.ensures.order ∙ same.2,
       c.free_last.ensures.table ∙ same.3,
       λ may. frees-then g.S.Storage.state (table_of c.args.self.now) c.args.caches.now c.args.file.now (mark_of c.args.self.now) es c.loop.caches c.loop.file (mark_of c.loop.self) c.loop.list.entries freed c.free_last.new.caches c.free_last.new.file (mark_of c.free_last.new.self) c.free_last.new.list.entries
           (same.4 may) (subst (λ (t : TableValue). Frees g.S.Storage.state (mark_of c.loop.self) (lent t c.loop.caches c.loop.file c.loop.list.entries) freed (lent t c.free_last.new.caches c.free_last.new.file c.free_last.new.list.entries) (mark_of c.free_last.new.self)) same.3
-          (c.in-Ok.ensures.frees (may-still es c.args.index c.loop.counter c.requires.inside c.loop.list.entries (order_of c.args.caches.now) (order_of c.loop.caches) same.0 same.2 may))),
+          (c.in_ok-free_last.ensures.frees (may-still es c.args.index c.loop.counter c.requires.inside c.loop.list.entries (order_of c.args.caches.now) (order_of c.loop.caches) same.0 same.2 may))),
     )
 
 pub remove-requires : goal.remove-requires

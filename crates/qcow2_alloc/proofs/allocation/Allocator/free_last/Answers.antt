@@ -6,6 +6,7 @@ use Rattle.qcow2_alloc.specs.Freeing.{Frees}
 use Rattle.qcow2_alloc.specs.State.{lent}
 use Rattle.qcow2_alloc.proofs.Freeing.FreeingEntries.{last-freed, far-refused}
 use Rattle.qcow2_alloc.proofs.Freeing.FreeingLists.{last}
+use Rattle.qcow2_alloc.proofs.Faults.{handed-on}
 use Rattle.qcow2_alloc.proofs.allocation.Allocator.free_last.Goals as goal
 
 pub returns-in_default-clause-frees : goal.returns-in_default-clause-frees
@@ -13,26 +14,27 @@ returns-in_default-clause-frees g c = λ may.
     far-refused g.S.Storage.state (table_of c.args.self.now) c.args.list.now.entries c.args.index c.requires.inside c.requires.some c.args.caches.now c.args.file.now (mark_of c.args.self.now)
     (subst (λ (e : FreeEntry). 2 ^ 64 ≤ e.first + (e.count - 1)) c.entry.ensures c.in_default.ensures)
 
-pub returns-in-Ok-clause-frees : goal.returns-in-Ok-clause-frees
-returns-in-Ok-clause-frees g c = λ may.
+pub returns-clause-frees : goal.returns-clause-frees
+returns-clause-frees g c = λ may.
     let state = g.S.Storage.state in
     let table = table_of c.args.self.now in
     let es = c.args.list.now.entries in
     let new = c.free_cluster.new in
     let there : c.in-Some.last ≡ last es c.args.index c.requires.inside c.requires.some = c.in-Some.ensures ∙ ap (λ (e : FreeEntry). e.first + (e.count - 1)) c.entry.ensures in
     let all = last-freed state table es c.args.index c.requires.inside c.requires.some c.args.caches.now c.args.file.now (mark_of c.args.self.now) (Ok tt) new.caches new.file may
-    (subst (λ (n : ℕ). LowersCluster state table n c.args.caches.now c.args.file.now (Ok tt) new.caches new.file) there c.in-Ok.ensures.lowered) in
-    let mark : mark_of new.self ≡ min (mark_of c.args.self.now) (last es c.args.index c.requires.inside c.requires.some) = c.in-Ok.ensures.marked ∙ ap (λ n. min (mark_of c.args.self.now) n) there in
+    (subst (λ (n : ℕ). LowersCluster state table n c.args.caches.now c.args.file.now (Ok tt) new.caches new.file) there c.in_ok-free_cluster.ensures.lowered) in
+    let mark : mark_of new.self ≡ min (mark_of c.args.self.now) (last es c.args.index c.requires.inside c.requires.some) = c.in_ok-free_cluster.ensures.marked ∙ ap (λ n. min (mark_of c.args.self.now) n) there in
     subst (λ (n : ℕ). Frees state (mark_of c.args.self.now) (lent table c.args.caches.now c.args.file.now es) (Ok tt) (lent table new.caches new.file c.shorten.new.self.entries) n) (sym mark)
     (subst (λ (l : List FreeEntry). Frees state (mark_of c.args.self.now) (lent table c.args.caches.now c.args.file.now es) (Ok tt) (lent table new.caches new.file l) (min (mark_of c.args.self.now) (last es c.args.index c.requires.inside c.requires.some))) (sym (ap (λ (l : FreeList). l.entries) c.shorten.ensures)) all)
 
-pub returns-in-Err-clause-frees : goal.returns-in-Err-clause-frees
-returns-in-Err-clause-frees g c = λ may.
+pub returns-in_err-free_cluster-clause-frees : goal.returns-in_err-free_cluster-clause-frees
+returns-in_err-free_cluster-clause-frees g c = rw (handed-on _ _ c.from_residual.ensures.1) (
+    λ may.
     let state = g.S.Storage.state in
     let table = table_of c.args.self.now in
     let es = c.args.list.now.entries in
     let new = c.free_cluster.new in
     let there : c.in-Some.last ≡ last es c.args.index c.requires.inside c.requires.some = c.in-Some.ensures ∙ ap (λ (e : FreeEntry). e.first + (e.count - 1)) c.entry.ensures in
-    let all = last-freed state table es c.args.index c.requires.inside c.requires.some c.args.caches.now c.args.file.now (mark_of c.args.self.now) (Err c.in-Err.fault) new.caches new.file may
-    (subst (λ (n : ℕ). LowersCluster state table n c.args.caches.now c.args.file.now (Err c.in-Err.fault) new.caches new.file) there c.in-Err.ensures.lowered) in
-    subst (λ (n : ℕ). Frees state (mark_of c.args.self.now) (lent table c.args.caches.now c.args.file.now es) (Err c.in-Err.fault) (lent table new.caches new.file es) n) (sym c.in-Err.ensures.stays) all
+    let all = last-freed state table es c.args.index c.requires.inside c.requires.some c.args.caches.now c.args.file.now (mark_of c.args.self.now) (Err c.in_err-free_cluster.field-0.0) new.caches new.file may
+    (subst (λ (n : ℕ). LowersCluster state table n c.args.caches.now c.args.file.now (Err c.in_err-free_cluster.field-0.0) new.caches new.file) there c.in_err-free_cluster.ensures.lowered) in
+    subst (λ (n : ℕ). Frees state (mark_of c.args.self.now) (lent table c.args.caches.now c.args.file.now es) (Err c.in_err-free_cluster.field-0.0) (lent table new.caches new.file es) n) (sym c.in_err-free_cluster.ensures.stays) all)

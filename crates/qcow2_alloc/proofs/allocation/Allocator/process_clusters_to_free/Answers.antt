@@ -11,55 +11,57 @@ use Rattle.qcow2_alloc.specs.State.{lent}
 use Rattle.qcow2_alloc.proofs.Freeing.FreeingEntries.{frees-then, freed, failed}
 use Rattle.qcow2_alloc.proofs.Freeing.FreeingInTurn.{announcing-frees}
 use Rattle.qcow2_alloc.proofs.Freeing.FreeingRest.{order-announced, rest-none, rest-of-data, rest-without-metadata}
+use Rattle.qcow2_alloc.proofs.Faults.{handed-on}
 use Rattle.qcow2_alloc.proofs.allocation.Allocator.process_clusters_to_free.Goals as goal
 
-pub returns-in-Ok-clause-frees : goal.returns-in-Ok-clause-frees
-returns-in-Ok-clause-frees g c =
+pub returns-clause-frees : goal.returns-clause-frees
+returns-clause-frees g c =
     let state = g.S.Storage.state in
     let t = table_of c.args.self.now in
     let m = c.free_metadata.new in
     let a = c.rb_depends_on_l2.new in
     let n = c.free_all.new in
-    let done = c.in-Ok.ensures in
+    let done = c.in_ok-rb_depends_on_l2.ensures in
     let announced = announcing-frees state (lent t m.caches m.file m.list.entries) a.self a.file (mark_of m.self) done.kept done.header done.room freed done.going done.announced tt done.safe done.cause done.faults in
     let rest = subst (λ (v : TableValue). Frees state (mark_of m.self) (lent v a.self a.file m.list.entries) c.free_all.result (lent v n.caches n.file n.list.entries) (mark_of n.self)) c.free_metadata.ensures.table (c.free_all.ensures.frees done.announced) in
-    frees-then state t c.args.caches.now c.args.file.now (mark_of c.args.self.now) c.args.list.now.entries m.caches m.file (mark_of m.self) m.list.entries c.free_all.result n.caches n.file (mark_of n.self) n.list.entries c.in_default.ensures.frees
+    frees-then state t c.args.caches.now c.args.file.now (mark_of c.args.self.now) c.args.list.now.entries m.caches m.file (mark_of m.self) m.list.entries c.free_all.result n.caches n.file (mark_of n.self) n.list.entries c.in_ok-free_metadata.ensures.frees
     (frees-then state t m.caches m.file (mark_of m.self) m.list.entries a.self a.file (mark_of m.self) m.list.entries c.free_all.result n.caches n.file (mark_of n.self) n.list.entries announced rest)
 
-pub returns-in-Err-rb_depends_on_l2-clause-frees : goal.returns-in-Err-rb_depends_on_l2-clause-frees
-returns-in-Err-rb_depends_on_l2-clause-frees g c =
+pub returns-in_err-rb_depends_on_l2-clause-frees : goal.returns-in_err-rb_depends_on_l2-clause-frees
+returns-in_err-rb_depends_on_l2-clause-frees g c = rw (handed-on _ _ c.from_residual-in_err-rb_depends_on_l2.ensures.1) (
     let state = g.S.Storage.state in
     let t = table_of c.args.self.now in
     let m = c.free_metadata.new in
     let a = c.rb_depends_on_l2.new in
-    let done = c.in-Err-rb_depends_on_l2.ensures in
-    let announced = announcing-frees state (lent t m.caches m.file m.list.entries) a.self a.file (mark_of m.self) done.kept done.header done.room (failed c.in-Err-rb_depends_on_l2.fault) done.going tt done.stays tt done.cause done.faults in
-    frees-then state t c.args.caches.now c.args.file.now (mark_of c.args.self.now) c.args.list.now.entries m.caches m.file (mark_of m.self) m.list.entries (failed c.in-Err-rb_depends_on_l2.fault) a.self a.file (mark_of m.self) m.list.entries c.in_default.ensures.frees announced
+    let done = c.in_err-rb_depends_on_l2.ensures in
+    let announced = announcing-frees state (lent t m.caches m.file m.list.entries) a.self a.file (mark_of m.self) done.kept done.header done.room (failed c.in_err-rb_depends_on_l2.field-0.0) done.going tt done.stays tt done.cause done.faults in
+    frees-then state t c.args.caches.now c.args.file.now (mark_of c.args.self.now) c.args.list.now.entries m.caches m.file (mark_of m.self) m.list.entries (failed c.in_err-rb_depends_on_l2.field-0.0) a.self a.file (mark_of m.self) m.list.entries c.in_ok-free_metadata.ensures.frees announced)
 
-pub returns-in-Ok-clause-left : goal.returns-in-Ok-clause-left
-returns-in-Ok-clause-left g c = rest-of-data c.args.list.now.entries c.free_all.new.list.entries (subst (λ (es : List FreeEntry). IsRest es c.free_all.new.list.entries) c.in_default.ensures.ok c.free_all.ensures.left)
+pub returns-clause-left : goal.returns-clause-left
+returns-clause-left g c = rest-of-data c.args.list.now.entries c.free_all.new.list.entries (subst (λ (es : List FreeEntry). IsRest es c.free_all.new.list.entries) c.in_ok-free_metadata.ensures.ok c.free_all.ensures.left)
 
-pub returns-in-Ok-clause-order : goal.returns-in-Ok-clause-order
-returns-in-Ok-clause-order g c =
-    let inside = sym (ap (λ (h : Header). has_external_data h.fields) c.in_default.ensures.frees.header) ∙ sym c.external_data_file.ensures ∙ c.if-external_data_file.false in
-    let some : data_in c.args.list.now.entries ≡ [] → ⊥ = λ none. let yes = c.is_empty.ensures ∙ ap (λ (l : List FreeEntry). length l == 0) (c.in_default.ensures.ok ∙ none) in let no = sym yes ∙ c.if-is_empty.false in cc no in
-    order-announced _ c.args.list.now.entries c.free_all.new.list.entries (order_of c.args.caches.now) c.free_all.result (order_of c.free_all.new.caches) (c.free_all.ensures.order ∙ c.in-Ok.ensures.announced) inside some
-    (rest-without-metadata c.args.list.now.entries c.free_all.new.list.entries (subst (λ (es : List FreeEntry). IsRest es c.free_all.new.list.entries) c.in_default.ensures.ok c.free_all.ensures.left))
+pub returns-clause-order : goal.returns-clause-order
+returns-clause-order g c =
+    let inside = sym (ap (λ (h : Header). has_external_data h.fields) c.in_ok-free_metadata.ensures.frees.header) ∙ sym c.external_data_file.ensures ∙ c.if-external_data_file.false in
+    let some : data_in c.args.list.now.entries ≡ [] → ⊥ = λ none. let yes = c.is_empty.ensures ∙ ap (λ (l : List FreeEntry). length l == 0) (c.in_ok-free_metadata.ensures.ok ∙ none) in let no = sym yes ∙ c.if-is_empty.false in cc no in
+    order-announced _ c.args.list.now.entries c.free_all.new.list.entries (order_of c.args.caches.now) c.free_all.result (order_of c.free_all.new.caches) (c.free_all.ensures.order ∙ c.in_ok-rb_depends_on_l2.ensures.announced) inside some
+    (rest-without-metadata c.args.list.now.entries c.free_all.new.list.entries (subst (λ (es : List FreeEntry). IsRest es c.free_all.new.list.entries) c.in_ok-free_metadata.ensures.ok c.free_all.ensures.left))
 
 pub returns-then-external_data_file-clause-left : goal.returns-then-external_data_file-clause-left
 returns-then-external_data_file-clause-left g c = subst (λ (l : FreeList). IsRestInTurn c.args.list.now.entries l.entries) (sym c.drop_entries.ensures) (rest-none c.args.list.now.entries)
 
-pub returns-in-Err-clause-external : goal.returns-in-Err-clause-external
-returns-in-Err-clause-external g c = λ external none. let never = (c.in-Err.ensures.idle none).0 in cc never
+pub returns-in_err-free_metadata-clause-external : goal.returns-in_err-free_metadata-clause-external
+returns-in_err-free_metadata-clause-external g c = rw (handed-on _ _ c.from_residual.ensures.1) (λ external none. let never = (c.in_err-free_metadata.ensures.idle none).0 in cc never)
 
-pub returns-in-Ok-clause-external : goal.returns-in-Ok-clause-external
-returns-in-Ok-clause-external g c = λ external none.
-    let inside = sym (ap (λ (h : Header). has_external_data h.fields) c.in_default.ensures.frees.header) ∙ sym c.external_data_file.ensures ∙ c.if-external_data_file.false in
+pub returns-clause-external : goal.returns-clause-external
+returns-clause-external g c = λ external none.
+    let inside = sym (ap (λ (h : Header). has_external_data h.fields) c.in_ok-free_metadata.ensures.frees.header) ∙ sym c.external_data_file.ensures ∙ c.if-external_data_file.false in
     let both = sym external ∙ inside in
     cc both
 
-pub returns-in-Err-rb_depends_on_l2-clause-external : goal.returns-in-Err-rb_depends_on_l2-clause-external
-returns-in-Err-rb_depends_on_l2-clause-external g c = λ external none.
-    let inside = sym (ap (λ (h : Header). has_external_data h.fields) c.in_default.ensures.frees.header) ∙ sym c.external_data_file.ensures ∙ c.if-external_data_file.false in
+pub returns-in_err-rb_depends_on_l2-clause-external : goal.returns-in_err-rb_depends_on_l2-clause-external
+returns-in_err-rb_depends_on_l2-clause-external g c = rw (handed-on _ _ c.from_residual-in_err-rb_depends_on_l2.ensures.1) (
+    λ external none.
+    let inside = sym (ap (λ (h : Header). has_external_data h.fields) c.in_ok-free_metadata.ensures.frees.header) ∙ sym c.external_data_file.ensures ∙ c.if-external_data_file.false in
     let both = sym external ∙ inside in
-    cc both
+    cc both)
