@@ -26,8 +26,7 @@ loop-list-preserved g c =
     )
 
 pub returns-in_err-free_entry-clause-frees : goal.returns-in_err-free_entry-clause-frees
-returns-in_err-free_entry-clause-frees g c = rw (handed-on _ _ c.from_residual.ensures.1) (
-    λ first.
+returns-in_err-free_entry-clause-frees g c = rw (handed-on _ _ c.from_residual.ensures.1) (λ first.
     let same = c.loop-list.invariant in
     let l = c.loop-list in
     let n = c.free_entry.new in

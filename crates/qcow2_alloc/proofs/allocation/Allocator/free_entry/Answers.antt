@@ -31,8 +31,7 @@ free_last-requires-clause-some g c =
     omega (arith, left, count, test)
 
 pub returns-in_err-free_last-clause-frees : goal.returns-in_err-free_last-clause-frees
-returns-in_err-free_last-clause-frees g c = rw (handed-on _ _ c.from_residual.ensures.1) (
-    λ may.
+returns-in_err-free_last-clause-frees g c = rw (handed-on _ _ c.from_residual.ensures.1) (λ may.
     let same = c.loop.invariant in
     frees-then g.S.Storage.state (table_of c.args.self.now) c.args.caches.now c.args.file.now (mark_of c.args.self.now) c.args.list.now.entries c.loop.caches c.loop.file (mark_of c.loop.self) c.loop.list.entries (failed c.in_err-free_last.field-0.0) c.free_last.new.caches c.free_last.new.file (mark_of c.free_last.new.self) c.free_last.new.list.entries
     (same.4 may) (subst (λ (t : TableValue). Frees g.S.Storage.state (mark_of c.loop.self) (lent t c.loop.caches c.loop.file c.loop.list.entries) (failed c.in_err-free_last.field-0.0) (lent t c.free_last.new.caches c.free_last.new.file c.free_last.new.list.entries) (mark_of c.free_last.new.self)) same.3

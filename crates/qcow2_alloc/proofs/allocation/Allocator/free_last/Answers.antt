@@ -28,8 +28,7 @@ returns-clause-frees g c = λ may.
     (subst (λ (l : List FreeEntry). Frees state (mark_of c.args.self.now) (lent table c.args.caches.now c.args.file.now es) (Ok tt) (lent table new.caches new.file l) (min (mark_of c.args.self.now) (last es c.args.index c.requires.inside c.requires.some))) (sym (ap (λ (l : FreeList). l.entries) c.shorten.ensures)) all)
 
 pub returns-in_err-free_cluster-clause-frees : goal.returns-in_err-free_cluster-clause-frees
-returns-in_err-free_cluster-clause-frees g c = rw (handed-on _ _ c.from_residual.ensures.1) (
-    λ may.
+returns-in_err-free_cluster-clause-frees g c = rw (handed-on _ _ c.from_residual.ensures.1) (λ may.
     let state = g.S.Storage.state in
     let table = table_of c.args.self.now in
     let es = c.args.list.now.entries in

@@ -58,8 +58,7 @@ returns-clause-left g c =
     rest-with-data c.args.list.now.entries c.loop-index.list.entries (rest-whole c.args.list.now.entries c.loop-index.list.entries same.4) same.3
 
 pub returns-in_err-free_entry-clause-idle : goal.returns-in_err-free_entry-clause-idle
-returns-in_err-free_entry-clause-idle g c = rw (handed-on _ _ c.from_residual.ensures.1) (
-    λ none.
+returns-in_err-free_entry-clause-idle g c = rw (handed-on _ _ c.from_residual.ensures.1) (λ none.
     let l = c.loop-index in
     let found = metadata-found l.list.entries c.in-Some.index (sym c.in-Some.ensures) in
     absurd (none-found l.list.entries c.in-Some.index found.0 found.1 (subst (λ (es : List FreeEntry). metadata_in es ≡ []) (sym (l.invariant.6 none).3) none)))

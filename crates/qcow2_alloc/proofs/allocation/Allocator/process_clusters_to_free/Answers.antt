@@ -60,8 +60,7 @@ returns-clause-external g c = λ external none.
     cc both
 
 pub returns-in_err-rb_depends_on_l2-clause-external : goal.returns-in_err-rb_depends_on_l2-clause-external
-returns-in_err-rb_depends_on_l2-clause-external g c = rw (handed-on _ _ c.from_residual-in_err-rb_depends_on_l2.ensures.1) (
-    λ external none.
+returns-in_err-rb_depends_on_l2-clause-external g c = rw (handed-on _ _ c.from_residual-in_err-rb_depends_on_l2.ensures.1) (λ external none.
     let inside = sym (ap (λ (h : Header). has_external_data h.fields) c.in_ok-free_metadata.ensures.frees.header) ∙ sym c.external_data_file.ensures ∙ c.if-external_data_file.false in
     let both = sym external ∙ inside in
     cc both)
