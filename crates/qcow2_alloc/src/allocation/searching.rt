@@ -79,10 +79,7 @@ impl Allocator {
             len: 0,
         };
         while run.len < count && run.next().rt_index(rb_bits) < self.reftable.entries() {
-            match self.extend_run(file, caches, run, count) {
-                Ok(longer) => run = longer,
-                Err(fault) => return Err(fault),
-            }
+            run = self.extend_run(file, caches, run, count)?;
         }
         Ok(run.first)
     }
@@ -130,13 +127,10 @@ impl Allocator {
         let rb_bits = file.header.rb_bits();
         let mut next = from;
         while next.rt_index(rb_bits) < end {
-            match self.find_in_block(file, caches, next) {
-                Ok(None) => {
-                    next = HostCluster::from_ref_indices(next.rt_index(rb_bits) + 1, 0, rb_bits);
-                }
-                Ok(Some(cluster)) => return Ok(Some(cluster)),
-                Err(fault) => return Err(fault),
+            if let Some(cluster) = self.find_in_block(file, caches, next)? {
+                return Ok(Some(cluster));
             }
+            next = HostCluster::from_ref_indices(next.rt_index(rb_bits) + 1, 0, rb_bits);
         }
         Ok(None)
     }
@@ -160,10 +154,9 @@ impl Allocator {
         let Some(rb_cluster) = self.block_cluster(rt_index) else {
             return Ok(None);
         };
-        match find_zero_in(caches, file, rb_cluster, rb_index) {
-            Ok(Some(index)) => Ok(Some(HostCluster::from_ref_indices(rt_index, index, rb_bits))),
-            Ok(None) => Ok(None),
-            Err(fault) => Err(fault),
+        match find_zero_in(caches, file, rb_cluster, rb_index)? {
+            Some(index) => Ok(Some(HostCluster::from_ref_indices(rt_index, index, rb_bits))),
+            None => Ok(None),
         }
     }
 }
@@ -221,10 +214,8 @@ fn scan_in<S: Storage>(
         ScansSome counters count index run now)) caches.old file.old result caches.new file.new }
 {
     let entries = file.header.rb_entries();
-    match caches.rb_get_or_insert(file, rb_cluster) {
-        Ok(block) => scan_whole(block, entries, index, run, count),
-        Err(fault) => Err(fault),
-    }
+    let block = caches.rb_get_or_insert(file, rb_cluster)?;
+    scan_whole(block, entries, index, run, count)
 }
 
 // The first counter of a block from an index on that is 0.
@@ -256,8 +247,6 @@ fn find_zero_in<S: Storage>(
         caches.new file.new }
 {
     let entries = file.header.rb_entries();
-    match caches.rb_get_or_insert(file, rb_cluster) {
-        Ok(block) => find_zero_whole(block, entries, index),
-        Err(fault) => Err(fault),
-    }
+    let block = caches.rb_get_or_insert(file, rb_cluster)?;
+    find_zero_whole(block, entries, index)
 }

@@ -8,6 +8,7 @@ use Rattle.qcow2_alloc.specs.SearchingClusters.{LooksForFree}
 use Rattle.qcow2_alloc.proofs.Searching.LookingForFree.{FreeSearched, passed-then, passed-refused, passed-found, passed-all}
 use Rattle.qcow2_alloc.proofs.Searching.SearchingRuns.{block-behind, blocks-before}
 use Rattle.qcow2_alloc.proofs.allocation.Allocator.find_counted.Given.{Over}
+use Rattle.qcow2_alloc.proofs.Faults.{handed-on}
 use Rattle.qcow2_alloc.proofs.allocation.Allocator.find_counted.Goals as goal
 use Rattle.qcow2_alloc.proofs.allocation.Allocator.find_counted.Goals.{After-find_in_block, After-from_ref_indices-next}
 
@@ -38,9 +39,9 @@ next-is : (g : Over) (c : After-from_ref_indices-next g) → c.from_ref_indices-
 next-is g c =
     let size = c.rb_bits-rb_bits.ensures.entries in
     let own : ℕ = counters_of_block c.args.file.now.header.fields in
-    let at : c.rt_index-in-Ok-None.result ≡ c.loop-next.next / own = c.rt_index-in-Ok-None.ensures ∙ ap (λ n. c.loop-next.next / n) size in
+    let at : c.rt_index-in-loop-next.result ≡ c.loop-next.next / own = c.rt_index-in-loop-next.ensures ∙ ap (λ n. c.loop-next.next / n) size in
     let start = c.from_ref_indices-next.ensures in
-    let same : (c.rt_index-in-Ok-None.result + 1) * 2 ^ c.rb_bits-rb_bits.result ≡ (c.loop-next.next / own + 1) * own = ap (λ n. (n + 1) * 2 ^ c.rb_bits-rb_bits.result) at ∙ ap (λ n. (c.loop-next.next / own + 1) * n) size in
+    let same : (c.rt_index-in-loop-next.result + 1) * 2 ^ c.rb_bits-rb_bits.result ≡ (c.loop-next.next / own + 1) * own = ap (λ n. (n + 1) * 2 ^ c.rb_bits-rb_bits.result) at ∙ ap (λ n. (c.loop-next.next / own + 1) * n) size in
     omega (arith, start, same)
 
 pub loop-next-smaller : goal.loop-next-smaller
@@ -56,24 +57,24 @@ loop-next-preserved g c =
     let d = (goal.at.loop-next-preserved g c).After-find_in_block in
     let state = g.S.Storage.state in
     let table = table_of c.args.self.now in
-    let found = looks g d (Ok None) (c.in-Ok-None.is ∙ ap (λ (o : Option ℕ). Ok o) c.in-Ok-None.field-0-is) in
+    let found = looks g d (Ok None) (c.in_ok-cluster.was ∙ ap (λ (o : Option ℕ). Ok o) c.in_default.is) in
     let more = (behind g d).0 in (
       found.looked.header ∙ c.loop-next.invariant.0,
       subst (λ n. FreeSearched state table c.args.from c.args.caches.now c.args.file.now n c.find_in_block.new.caches c.find_in_block.new.file) (sym (next-is g c))
           (passed-then state table c.args.from c.args.caches.now c.args.file.now c.loop-next.next c.loop-next.caches c.loop-next.file c.loop-next.invariant.1 (end g d) c.find_in_block.new.caches c.find_in_block.new.file (omega (arith, more)) found),
     )
 
-pub returns-in-Ok-Some : goal.returns-in-Ok-Some
-returns-in-Ok-Some g c =
-    let d = (goal.at.returns-in-Ok-Some g c).After-find_in_block in
+pub returns-in-Some : goal.returns-in-Some
+returns-in-Some g c =
+    let d = (goal.at.returns-in-Some g c).After-find_in_block in
     passed-found g.S.Storage.state (table_of c.args.self.now) c.args.from c.args.caches.now c.args.file.now c.loop-next.next c.loop-next.caches c.loop-next.file c.loop-next.invariant.1 (end g d) c.find_in_block.new.caches c.find_in_block.new.file
-    c.in-Ok-Some.cluster (c.args.end * k g d) (behind g d).1 (looks g d (Ok (Some c.in-Ok-Some.cluster)) (c.in-Ok-Some.is ∙ ap (λ (o : Option ℕ). Ok o) c.in-Ok-Some.field-0-is))
+    c.in-Some.cluster (c.args.end * k g d) (behind g d).1 (looks g d (Ok (Some c.in-Some.cluster)) (c.in_ok-cluster.was ∙ ap (λ (o : Option ℕ). Ok o) c.in-Some.is))
 
-pub returns-in-Err : goal.returns-in-Err
-returns-in-Err g c =
-    let d = (goal.at.returns-in-Err g c).After-find_in_block in
+pub returns-in_err-cluster : goal.returns-in_err-cluster
+returns-in_err-cluster g c = rw (handed-on _ _ c.from_residual.ensures.1) (
+    let d = (goal.at.returns-in_err-cluster g c).After-find_in_block in
     passed-refused g.S.Storage.state (table_of c.args.self.now) c.args.from c.args.caches.now c.args.file.now c.loop-next.next c.loop-next.caches c.loop-next.file c.loop-next.invariant.1 (end g d) c.find_in_block.new.caches c.find_in_block.new.file
-    c.in-Err.fault (c.args.end * k g d) (looks g d (Err c.in-Err.fault) c.in-Err.is)
+    c.in_err-cluster.field-0.0 (c.args.end * k g d) (looks g d (Err c.in_err-cluster.field-0.0) c.in_err-cluster.was))
 
 pub returns : goal.returns
 returns g c =

@@ -8,6 +8,7 @@ use Rattle.qcow2_alloc.specs.SearchingClusters.{LooksForFree}
 use Rattle.qcow2_alloc.proofs.Searching.LookingForFree.{finds-none, finds-some, finds-inside, located}
 use Rattle.qcow2_alloc.proofs.Searching.SearchingRuns.{few-clusters, indices}
 use Rattle.qcow2_alloc.proofs.allocation.Allocator.find_in_block.Given.{Over}
+use Rattle.qcow2_alloc.proofs.Faults.{handed-on}
 use Rattle.qcow2_alloc.proofs.allocation.Allocator.find_in_block.Goals as goal
 use Rattle.qcow2_alloc.proofs.allocation.Allocator.find_in_block.Goals.{After-find_zero_in}
 
@@ -50,7 +51,7 @@ returns-in_default g c =
 
 pub from_ref_indices-requires-clause-in_block : goal.from_ref_indices-requires-clause-in_block
 from_ref_indices-requires-clause-in_block g c =
-    let lt = inside g (goal.at.from_ref_indices-requires-clause-in_block g c).After-find_zero_in c.in-Ok-Some.index (c.in-Ok-Some.is ∙ ap (λ (o : Option ℕ). Ok o) c.in-Ok-Some.field-0-is) in
+    let lt = inside g (goal.at.from_ref_indices-requires-clause-in_block g c).After-find_zero_in c.in-Some-2.index (c.in_ok-index.was ∙ ap (λ (o : Option ℕ). Ok o) c.in-Some-2.is) in
     let size = c.rb_bits-rb_bits.ensures.entries in
     omega (arith, lt, size)
 
@@ -60,20 +61,20 @@ base g c = ap (λ n. n * 2 ^ c.rb_bits-rb_bits.result) (at g c).0 ∙ ap (λ n. 
 pub from_ref_indices-requires-clause-fits : goal.from_ref_indices-requires-clause-fits
 from_ref_indices-requires-clause-fits g c =
     let d = (goal.at.from_ref_indices-requires-clause-fits g c).After-find_zero_in in
-    let lt = inside g d c.in-Ok-Some.index (c.in-Ok-Some.is ∙ ap (λ (o : Option ℕ). Ok o) c.in-Ok-Some.field-0-is) in
+    let lt = inside g d c.in-Some-2.index (c.in_ok-index.was ∙ ap (λ (o : Option ℕ). Ok o) c.in-Some-2.is) in
     let start = base g d in
     let bits = c.rb_bits-rb_bits.ensures in
     let few = few-clusters (c.args.from / k g d) (k g d) (length (table_of c.args.self.now).words) c.rb_bits-rb_bits.result c.requires c.entries-words.ensures.table.long bits.entries bits.bounds.1 in
     omega (arith, lt, start, few)
 
-pub returns-in-Ok-Some : goal.returns-in-Ok-Some
-returns-in-Ok-Some g c =
-    let d = (goal.at.returns-in-Ok-Some g c).After-find_zero_in in
-    let found = looks g d (Ok (Some c.in-Ok-Some.index)) (c.in-Ok-Some.is ∙ ap (λ (o : Option ℕ). Ok o) c.in-Ok-Some.field-0-is) in
-    subst (λ n. Looks g d (Ok (Some n))) (sym (c.from_ref_indices.ensures ∙ ap (λ n. n + c.in-Ok-Some.index) (base g d))) found
+pub returns-in-Some-2 : goal.returns-in-Some-2
+returns-in-Some-2 g c =
+    let d = (goal.at.returns-in-Some-2 g c).After-find_zero_in in
+    let found = looks g d (Ok (Some c.in-Some-2.index)) (c.in_ok-index.was ∙ ap (λ (o : Option ℕ). Ok o) c.in-Some-2.is) in
+    subst (λ n. Looks g d (Ok (Some n))) (sym (c.from_ref_indices.ensures ∙ ap (λ n. n + c.in-Some-2.index) (base g d))) found
 
-pub returns-in-Ok-None : goal.returns-in-Ok-None
-returns-in-Ok-None g c = looks g (goal.at.returns-in-Ok-None g c).After-find_zero_in (Ok None) (c.in-Ok-None.is ∙ ap (λ (o : Option ℕ). Ok o) c.in-Ok-None.field-0-is)
+pub returns-in-None : goal.returns-in-None
+returns-in-None g c = looks g (goal.at.returns-in-None g c).After-find_zero_in (Ok None) (c.in_ok-index.was ∙ ap (λ (o : Option ℕ). Ok o) c.in-None.is)
 
-pub returns-in-Err : goal.returns-in-Err
-returns-in-Err g c = looks g (goal.at.returns-in-Err g c).After-find_zero_in (Err c.in-Err.fault) c.in-Err.is
+pub returns-in_err-index : goal.returns-in_err-index
+returns-in_err-index g c = rw (handed-on _ _ c.from_residual.ensures.1) (looks g (goal.at.returns-in_err-index g c).After-find_zero_in (Err c.in_err-index.field-0.0) c.in_err-index.was)

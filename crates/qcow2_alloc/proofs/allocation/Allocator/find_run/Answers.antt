@@ -7,6 +7,7 @@ use Rattle.qcow2_alloc.specs.Allocators.{table_of}
 use Rattle.qcow2_alloc.specs.Scanning.{next_of, ExtendsRun}
 use Rattle.qcow2_alloc.proofs.Searching.LookingForRuns.{searched-then, searched-refused, searched-long, searched-all}
 use Rattle.qcow2_alloc.proofs.Searching.SearchingRuns.{few-clusters}
+use Rattle.qcow2_alloc.proofs.Faults.{handed-on}
 use Rattle.qcow2_alloc.proofs.allocation.Allocator.find_run.Goals as goal
 use Rattle.qcow2_alloc.proofs.allocation.Allocator.find_run.Goals.{then-loop-run-test+else-rt_index-entries, else-loop-run-test}
 
@@ -14,8 +15,8 @@ pub loop-run-preserved : goal.loop-run-preserved
 loop-run-preserved g c =
     let state = g.S.Storage.state in
     let table = table_of c.args.self.now in
-    let extends : ExtendsRun state table c.args.count c.loop-run.run c.loop-run.caches c.loop-run.file (Ok c.in-Ok.longer) c.extend_run.new.caches c.extend_run.new.file =
-    subst (λ (r : Result Run Fault). ExtendsRun state table c.args.count c.loop-run.run c.loop-run.caches c.loop-run.file r c.extend_run.new.caches c.extend_run.new.file) c.in-Ok.is c.extend_run.ensures in
+    let extends : ExtendsRun state table c.args.count c.loop-run.run c.loop-run.caches c.loop-run.file (Ok c.in_ok-run.run') c.extend_run.new.caches c.extend_run.new.file =
+    subst (λ (r : Result Run Fault). ExtendsRun state table c.args.count c.loop-run.run c.loop-run.caches c.loop-run.file r c.extend_run.new.caches c.extend_run.new.file) c.in_ok-run.was c.extend_run.ensures in
     let k = counters_of_block c.loop-run.file.header.fields in
     let bits = c.rb_bits-rb_bits.ensures in
     let size : 2 ^ c.rb_bits-rb_bits.result ≡ k = bits.entries ∙ ap (λ (h : Header). counters_of_block h.fields) (sym c.loop-run.invariant.1) in
@@ -26,15 +27,15 @@ loop-run-preserved g c =
     let few = few-clusters (next_of c.loop-run.run / k) k (length table.words) c.rb_bits-rb_bits.result (omega (arith, test, words, at)) c.entries.ensures.table.long size bits.bounds.1 in (
       let near = extends.near in omega (arith, near, few),
       extends.looked.header ∙ c.loop-run.invariant.1,
-      searched-then state table c.args.from c.args.count c.args.caches.now c.args.file.now c.loop-run.run c.loop-run.caches c.loop-run.file c.loop-run.invariant.2 inside c.in-Ok.longer c.extend_run.new.caches c.extend_run.new.file extends,
+      searched-then state table c.args.from c.args.count c.args.caches.now c.args.file.now c.loop-run.run c.loop-run.caches c.loop-run.file c.loop-run.invariant.2 inside c.in_ok-run.run' c.extend_run.new.caches c.extend_run.new.file extends,
     )
 
-pub returns-in-Err : goal.returns-in-Err
-returns-in-Err g c =
+pub returns-in_err-run : goal.returns-in_err-run
+returns-in_err-run g c = rw (handed-on _ _ c.from_residual.ensures.1) (
     let state = g.S.Storage.state in
     let table = table_of c.args.self.now in
-    searched-refused state table c.args.from c.args.count c.args.caches.now c.args.file.now c.loop-run.run c.loop-run.caches c.loop-run.file c.loop-run.invariant.2 c.in-Err.fault c.extend_run.new.caches c.extend_run.new.file
-    (subst (λ (r : Result Run Fault). ExtendsRun state table c.args.count c.loop-run.run c.loop-run.caches c.loop-run.file r c.extend_run.new.caches c.extend_run.new.file) c.in-Err.is c.extend_run.ensures)
+    searched-refused state table c.args.from c.args.count c.args.caches.now c.args.file.now c.loop-run.run c.loop-run.caches c.loop-run.file c.loop-run.invariant.2 c.in_err-run.field-0.0 c.extend_run.new.caches c.extend_run.new.file
+    (subst (λ (r : Result Run Fault). ExtendsRun state table c.args.count c.loop-run.run c.loop-run.caches c.loop-run.file r c.extend_run.new.caches c.extend_run.new.file) c.in_err-run.was c.extend_run.ensures))
 
 pub returns : goal.returns
 returns g c =

@@ -5,8 +5,8 @@ use Rattle.qcow2_alloc.specs.Scanning.{FindsZero, Reads}
 use Rattle.qcow2_alloc.proofs.Caching.UsingBlocks.{block-used}
 use Rattle.qcow2_alloc.proofs.allocation.searching.find_zero_in.Goals as goal
 
-pub returns-in-Ok : goal.returns-in-Ok
-returns-in-Ok g c =
+pub returns : goal.returns
+returns g c =
     block-used g.S.Storage.state c.args.rb_cluster (Reads {T = Option ℕ} (counters_of_block c.args.file.now.header.fields) (FindsZero c.args.index))
-    c.args.caches.now c.args.file.now _ c.rb_get_or_insert.new.file c.rb_get_or_insert.result c.in-Ok.block c.find_zero_whole.result c.in-Ok.block.now c.in-Ok.is (c.rb_get_or_insert.follows.holds c.in-Ok.block.now)
-    (subst (λ k. Reads {T = Option ℕ} k (FindsZero c.args.index) c.in-Ok.block.now c.find_zero_whole.result c.in-Ok.block.now) c.rb_entries-entries.ensures.value c.find_zero_whole.ensures)
+    c.args.caches.now c.args.file.now _ c.rb_get_or_insert.new.file c.rb_get_or_insert.result c.in_ok-block.block c.find_zero_whole.result c.in_ok-block.block.now c.in_ok-block.was (c.rb_get_or_insert.follows.holds c.in_ok-block.block.now)
+    (subst (λ k. Reads {T = Option ℕ} k (FindsZero c.args.index) c.in_ok-block.block.now c.find_zero_whole.result c.in_ok-block.block.now) c.rb_entries-entries.ensures.value c.find_zero_whole.ensures)

@@ -6,8 +6,8 @@ use Rattle.qcow2_alloc.specs.Scanning.{ScansSome, Reads}
 use Rattle.qcow2_alloc.proofs.Caching.UsingBlocks.{block-used}
 use Rattle.qcow2_alloc.proofs.allocation.searching.scan_in.Goals as goal
 
-pub returns-in-Ok : goal.returns-in-Ok
-returns-in-Ok g c =
+pub returns : goal.returns
+returns g c =
     block-used g.S.Storage.state c.args.rb_cluster (Reads {T = Run} (counters_of_block c.args.file.now.header.fields) (λ (counters : List ℕ) (now : Run). ScansSome counters c.args.count c.args.index c.args.run now))
-    c.args.caches.now c.args.file.now _ c.rb_get_or_insert.new.file c.rb_get_or_insert.result c.in-Ok.block c.scan_whole.result c.in-Ok.block.now c.in-Ok.is (c.rb_get_or_insert.follows.holds c.in-Ok.block.now)
-    (subst (λ k. Reads {T = Run} k (λ (counters : List ℕ) (now : Run). ScansSome counters c.args.count c.args.index c.args.run now) c.in-Ok.block.now c.scan_whole.result c.in-Ok.block.now) c.rb_entries-entries.ensures.value c.scan_whole.ensures)
+    c.args.caches.now c.args.file.now _ c.rb_get_or_insert.new.file c.rb_get_or_insert.result c.in_ok-block.block c.scan_whole.result c.in_ok-block.block.now c.in_ok-block.was (c.rb_get_or_insert.follows.holds c.in_ok-block.block.now)
+    (subst (λ k. Reads {T = Run} k (λ (counters : List ℕ) (now : Run). ScansSome counters c.args.count c.args.index c.args.run now) c.in_ok-block.block.now c.scan_whole.result c.in_ok-block.block.now) c.rb_entries-entries.ensures.value c.scan_whole.ensures)
