@@ -45,10 +45,7 @@ impl Allocator {
             (lent (table_of self.now) caches.new file.new pending) }
     {
         for index in 0..count {
-            match self.count_cluster(file, caches, HostCluster(first.0 + index)) {
-                Ok(()) => (),
-                Err(fault) => return Err(fault),
-            }
+            self.count_cluster(file, caches, HostCluster(first.0 + index))?;
         }
         Ok(())
     }
@@ -69,10 +66,7 @@ impl Allocator {
         for index in 0..run.len() {
             let cluster = HostCluster(run.first().0 + index);
             if self.block_cluster(cluster.rt_index(rb_bits)).is_some() {
-                match self.count_cluster(file, caches, cluster) {
-                    Ok(()) => (),
-                    Err(fault) => return Err(fault),
-                }
+                self.count_cluster(file, caches, cluster)?;
             }
         }
         Ok(())
@@ -89,10 +83,8 @@ fn raise_counter(block: &mut RefBlock, index: usize) -> Result<(), Fault>
     if !block.is_zero(index) {
         return Err(Fault::Counter);
     }
-    match block.lock_write().increment(index) {
-        Ok(_) => Ok(()),
-        Err(fault) => Err(fault),
-    }
+    let _value = block.lock_write().increment(index)?;
+    Ok(())
 }
 
 // Raises a counter of the block in a cluster from 0 to 1.
@@ -104,8 +96,6 @@ fn raise_in<S: Storage>(
 ) -> Result<(), Fault>
     ensures { UsesBlock S.state rb_cluster (Raises index) caches.old file.old result caches.new file.new }
 {
-    match caches.rb_get_or_insert(file, rb_cluster) {
-        Ok(block) => raise_counter(block, index),
-        Err(fault) => Err(fault),
-    }
+    let block = caches.rb_get_or_insert(file, rb_cluster)?;
+    raise_counter(block, index)
 }

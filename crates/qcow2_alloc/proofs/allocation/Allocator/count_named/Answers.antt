@@ -14,8 +14,9 @@ use Rattle.qcow2_alloc.proofs.Blocks.CountingClusters.{succeeded, cluster-counte
 use Rattle.qcow2_alloc.proofs.Blocks.CountingRuns.{named-run-none, named-run-then, named-run-within, passed-over, counted-named}
 use Rattle.qcow2_alloc.proofs.Freeing.FreeingEntries.{failed}
 use Rattle.qcow2_alloc.proofs.Blocks.NamedWords.{named-some, named-none}
+use Rattle.qcow2_alloc.proofs.Faults.{handed-on}
 use Rattle.qcow2_alloc.proofs.allocation.Allocator.count_named.Goals as goal
-use Rattle.qcow2_alloc.proofs.allocation.Allocator.count_named.Goals.{then-is_some+in-Ok, else-is_some}
+use Rattle.qcow2_alloc.proofs.allocation.Allocator.count_named.Goals.{then-is_some+in_ok-count_cluster, else-is_some}
 
 -- The word that the code looks at is the one for the cluster,
 word-of : (cluster next bits index : ℕ) (h h' : Header) → index ≡ cluster / 2 ^ bits → cluster ≡ next → 2 ^ bits ≡ counters_of_block h.fields → h' ≡ h → index ≡ next / counters_of_block h'.fields
@@ -31,8 +32,8 @@ no-block table index at o is same none = subst (λ n. block_offset (slice_index 
 pub loop-index-init : goal.loop-index-init
 loop-index-init g c = λ pending. named-run-none g.S.Storage.state (table_of c.args.self.now) pending c.args.run.first c.args.caches.now c.args.file.now
 
-pub returns-in-Err : goal.returns-in-Err
-returns-in-Err g c = λ pending.
+pub returns-in_err-count_cluster : goal.returns-in_err-count_cluster
+returns-in_err-count_cluster g c = rw (handed-on _ _ c.from_residual.ensures.1) (λ pending.
     let state = g.S.Storage.state in
     let table = table_of c.args.self.now in
     let l = c.loop-index in
@@ -42,11 +43,11 @@ returns-in-Err g c = λ pending.
     let len = c.len-index-end.ensures in
     let at : c.cluster.inside.0 ≡ run.first = c.cluster.view_is ∙ c.first.ensures in
     let word = word-of (c.cluster.inside.0 + l.index) (run.first + l.index) c.rb_bits-rb_bits.result c.rt_index.result c.args.file.now.header l.file.header c.rt_index.ensures (ap (λ n. n + l.index) at) c.rb_bits-rb_bits.ensures.entries (l.invariant pending).header in
-    named-run-within state table pending run.first (l.index + 1) run.len (omega (arith, inside, len)) c.args.caches.now c.args.file.now c.in-Err.fault new.caches new.file
-    (named-run-then state table pending run.first l.index c.args.caches.now c.args.file.now l.caches l.file (failed c.in-Err.fault) new.caches new.file (l.invariant pending)
-    (counted-named state table pending (run.first + l.index) l.caches l.file (failed c.in-Err.fault) new.caches new.file (some-block table c.rt_index.result _ c.block_cluster.result c.block_cluster.ensures word c.if-is_some.ensures)
-    (cluster-counted state table pending (run.first + l.index) l.caches l.file (failed c.in-Err.fault) new.caches new.file
-    (subst (λ (n : ℕ). RaisesCluster state table (n + l.index) l.caches l.file (failed c.in-Err.fault) new.caches new.file) at c.in-Err.ensures))))
+    named-run-within state table pending run.first (l.index + 1) run.len (omega (arith, inside, len)) c.args.caches.now c.args.file.now c.in_err-count_cluster.field-0.0 new.caches new.file
+    (named-run-then state table pending run.first l.index c.args.caches.now c.args.file.now l.caches l.file (failed c.in_err-count_cluster.field-0.0) new.caches new.file (l.invariant pending)
+    (counted-named state table pending (run.first + l.index) l.caches l.file (failed c.in_err-count_cluster.field-0.0) new.caches new.file (some-block table c.rt_index.result _ c.block_cluster.result c.block_cluster.ensures word c.if-is_some.ensures)
+    (cluster-counted state table pending (run.first + l.index) l.caches l.file (failed c.in_err-count_cluster.field-0.0) new.caches new.file
+    (subst (λ (n : ℕ). RaisesCluster state table (n + l.index) l.caches l.file (failed c.in_err-count_cluster.field-0.0) new.caches new.file) at c.in_err-count_cluster.ensures)))))
 
 pub loop-index-preserved : goal.loop-index-preserved
 loop-index-preserved g c = λ pending.
@@ -62,12 +63,12 @@ loop-index-preserved g c = λ pending.
     (subst (λ (x : ImageFile g.row.S.Denot). CountsNamed state run.first (l.index + 1) (lent table c.args.caches.now c.args.file.now pending) succeeded (lent table new x pending)) (sym file)
     (named-run-then state table pending run.first l.index c.args.caches.now c.args.file.now l.caches l.file succeeded new after (l.invariant pending) one)) in
     elim c.if-is_some.branch [
-      | then-is_some+in-Ok w ↦
+      | then-is_some+in_ok-count_cluster w ↦
           let new = w.count_cluster.new in
           then new.caches new.file w.caches-is w.file-is
           (counted-named state table pending (run.first + l.index) l.caches l.file succeeded new.caches new.file (some-block table c.rt_index.result _ c.block_cluster.result c.block_cluster.ensures word w.if-is_some.ensures)
           (cluster-counted state table pending (run.first + l.index) l.caches l.file succeeded new.caches new.file
-          (subst (λ (n : ℕ). RaisesCluster state table (n + l.index) l.caches l.file succeeded new.caches new.file) at w.in-Ok.ensures)))
+          (subst (λ (n : ℕ). RaisesCluster state table (n + l.index) l.caches l.file succeeded new.caches new.file) at w.in_ok-count_cluster.ensures)))
       | else-is_some w ↦ then l.caches l.file w.caches-is w.file-is
           (passed-over state table pending (run.first + l.index) l.caches l.file (no-block table c.rt_index.result _ c.block_cluster.result c.block_cluster.ensures word w.if-is_some.ensures))
     ]

@@ -2,6 +2,6 @@ use Rattle.qcow2_alloc.specs.Allocating.{Raises}
 use Rattle.qcow2_alloc.proofs.Caching.UsingBlocks.{block-used}
 use Rattle.qcow2_alloc.proofs.allocation.counting.raise_in.Goals as goal
 
-pub returns-in-Ok : goal.returns-in-Ok
-returns-in-Ok g c =
-    block-used g.S.Storage.state c.args.rb_cluster (Raises c.args.index) c.args.caches.now c.args.file.now _ c.rb_get_or_insert.new.file c.rb_get_or_insert.result c.in-Ok.block c.raise_counter.result c.raise_counter.new.block c.in-Ok.is (c.rb_get_or_insert.follows.holds c.raise_counter.new.block) c.raise_counter.ensures
+pub returns : goal.returns
+returns g c =
+    block-used g.S.Storage.state c.args.rb_cluster (Raises c.args.index) c.args.caches.now c.args.file.now _ c.rb_get_or_insert.new.file c.rb_get_or_insert.result c.in_ok-block.block c.raise_counter.result c.raise_counter.new.block c.in_ok-block.was (c.rb_get_or_insert.follows.holds c.raise_counter.new.block) c.raise_counter.ensures
