@@ -54,10 +54,9 @@ impl Allocator {
             (metadata_of S.state file.new caches.new (table_of self.new) pending)) }
         ensures mark { mark_of self.new ≡ mark_of self.old }
     {
-        match self.find_counted(file, caches, self.first_free_cluster, index) {
-            Ok(Some(place)) => self.make_counted_block(file, caches, index, place),
-            Ok(None) => self.make_own_block(file, caches, index),
-            Err(fault) => Err(fault),
+        match self.find_counted(file, caches, self.first_free_cluster, index)? {
+            Some(place) => self.make_counted_block(file, caches, index, place),
+            None => self.make_own_block(file, caches, index),
         }
     }
 
@@ -112,18 +111,14 @@ impl Allocator {
         ensures header { file.new.header ≡ file.old.header }
         ensures mark { mark_of self.new ≡ mark_of self.old }
     {
-        match block.write(self.alloc, &mut file.image) {
-            Ok(()) => {
-                let pending = match taken {
-                    Some(cluster) => Some(pending_cluster(cluster)),
-                    None => None,
-                };
-                self.reftable.enter_refblock(index, &block, pending);
-                self.reftable
-                    .write_entry(self.alloc, &mut file.image, index)
-            }
-            Err(fault) => Err(fault),
-        }
+        block.write(self.alloc, &mut file.image)?;
+        let pending = match taken {
+            Some(cluster) => Some(pending_cluster(cluster)),
+            None => None,
+        };
+        self.reftable.enter_refblock(index, &block, pending);
+        self.reftable
+            .write_entry(self.alloc, &mut file.image, index)
     }
 
     // Makes a block in the first cluster that it counts.
@@ -144,18 +139,11 @@ impl Allocator {
         ensures mark { mark_of self.new ≡ mark_of self.old }
     {
         let place = self.own_place(index, &file.header);
-        if let Err(fault) = self.check_place(file.header.cluster_bits(), place) {
-            return Err(fault);
-        }
-        let block = match own_block(self.alloc, &file.header, place) {
-            Ok(block) => block,
-            Err(fault) => return Err(fault),
-        };
+        self.check_place(file.header.cluster_bits(), place)?;
+        let block = own_block(self.alloc, &file.header, place)?;
         // What is cached of this cluster was another block.
-        match caches.rb_forget(place) {
-            Ok(()) => self.write_block(file, index, block, None),
-            Err(fault) => Err(fault),
-        }
+        caches.rb_forget(place)?;
+        self.write_block(file, index, block, None)
     }
 
     // Makes a block in a cluster that another block counts, where that isn't counted yet: it is, and is written so before a word names it.
@@ -178,24 +166,13 @@ impl Allocator {
         if place.0 >= self.own_place(index, &file.header).0 {
             return Err(Fault::DamagedTable);
         }
-        if let Err(fault) = self.check_place(file.header.cluster_bits(), place) {
-            return Err(fault);
-        }
-        let block = match cleared_block(self.alloc, &file.header, place) {
-            Ok(block) => block,
-            Err(fault) => return Err(fault),
-        };
+        self.check_place(file.header.cluster_bits(), place)?;
+        let block = cleared_block(self.alloc, &file.header, place)?;
         // What is cached of this cluster was another block.
-        if let Err(fault) = caches.rb_forget(place) {
-            return Err(fault);
-        }
-        if let Err(fault) = self.count_cluster(file, caches, place) {
-            return Err(fault);
-        }
-        match caches.flush_rb(file) {
-            Ok(()) => self.write_block(file, index, block, Some(place)),
-            Err(fault) => Err(fault),
-        }
+        caches.rb_forget(place)?;
+        self.count_cluster(file, caches, place)?;
+        caches.flush_rb(file)?;
+        self.write_block(file, index, block, Some(place))
     }
 
     // Writes the blocks that are lacking for a run to its first clusters, in the order of their indices. Nothing names them yet.
@@ -219,10 +196,8 @@ impl Allocator {
         while HostCluster::from_ref_indices(index, 0, rb_bits).0 < end {
             if self.block_cluster(index).is_none() {
                 let place = HostCluster(first + written);
-                match self.write_new_block(file, index, run, place) {
-                    Ok(()) => written += 1,
-                    Err(fault) => return Err(fault),
-                }
+                self.write_new_block(file, index, run, place)?;
+                written += 1;
             }
             index += 1;
         }
@@ -243,13 +218,9 @@ impl Allocator {
         ensures writes { WritesBlockTo file.old.header index run place (S.state file.old.image) result (S.state file.new.image) }
         ensures header { file.new.header ≡ file.old.header }
     {
-        match new_block(self.alloc, &file.header, index, run) {
-            Ok(mut block) => {
-                block.set_cluster(place);
-                block.write(self.alloc, &mut file.image)
-            }
-            Err(fault) => Err(fault),
-        }
+        let mut block = new_block(self.alloc, &file.header, index, run)?;
+        block.set_cluster(place);
+        block.write(self.alloc, &mut file.image)
     }
 }
 
@@ -259,13 +230,9 @@ fn cleared_block(alloc: Global, header: &Header, place: HostCluster) -> Result<R
         (replicate (counters_of_block header.now.fields) 0) (Some place) true) }
     ensures err { IsOkUnless result Fault.Memory }
 {
-    match RefBlock::new_cleared(alloc, header) {
-        Ok(mut block) => {
-            block.set_cluster(place);
-            Ok(block)
-        }
-        Err(fault) => Err(fault),
-    }
+    let mut block = RefBlock::new_cleared(alloc, header)?;
+    block.set_cluster(place);
+    Ok(block)
 }
 
 // A block that is to stand in a cluster, and counts this alone.
@@ -275,12 +242,10 @@ fn own_block(alloc: Global, header: &Header, place: HostCluster) -> Result<RefBl
     ensures err { IsOkUnless result Fault.Memory }
 {
     let (_, rb_index) = place.rt_rb_indices(header.rb_bits());
-    match cleared_block(alloc, header, place) {
-        Ok(mut block) => match block.lock_write().increment(rb_index) {
-            Ok(_) => Ok(block),
-            Err(_) => unreachable!(),
-        },
-        Err(fault) => Err(fault),
+    let mut block = cleared_block(alloc, header, place)?;
+    match block.lock_write().increment(rb_index) {
+        Ok(_) => Ok(block),
+        Err(_) => unreachable!(),
     }
 }
 
@@ -300,13 +265,9 @@ fn new_block(alloc: Global, header: &Header, index: usize, run: Run) -> Result<R
     let end = own + header.rb_entries() as u64;
     let from = run.first().0.max(own).min(end);
     let to = run.next().0.max(own).min(end);
-    match RefBlock::new_cleared(alloc, header) {
-        Ok(mut block) => {
-            count_row(&mut block, (from - own) as usize, (to - own) as usize);
-            Ok(block)
-        }
-        Err(fault) => Err(fault),
-    }
+    let mut block = RefBlock::new_cleared(alloc, header)?;
+    count_row(&mut block, (from - own) as usize, (to - own) as usize);
+    Ok(block)
 }
 
 // Raises the counters from one index to another, of a block that counts nothing.

@@ -13,81 +13,82 @@ use Rattle.qcow2_alloc.proofs.Searching.FreeClusters.{uncounted-free}
 use Rattle.qcow2_alloc.proofs.Freeing.FreeingEntries.{failed}
 use Rattle.qcow2_alloc.proofs.Blocks.MadeBlocks.{first-counted, namable, unmade-memory, unmade-place, unforgotten}
 use Rattle.qcow2_alloc.proofs.Blocks.TakenBlocks.{uncounted-made, unwritten-made, taken-made-so}
+use Rattle.qcow2_alloc.proofs.Faults.{handed-on}
 use Rattle.qcow2_alloc.proofs.allocation.Allocator.make_counted_block.Goals as goal
 use Rattle.qcow2_alloc.proofs.Blocks.PlacedBlocks.{written-on-ok}
 
-pub returns-in-Err-clause-makes : goal.returns-in-Err-clause-makes
-returns-in-Err-clause-makes g c = λ pending first f begun free.
+pub returns-in_err-check_place-clause-makes : goal.returns-in_err-check_place-clause-makes
+returns-in_err-check_place-clause-makes g c = rw (handed-on _ _ c.from_residual.ensures.1) (λ pending first f begun free.
     let state = g.S.Storage.state in
     let table = table_of c.args.self.now in
     let m = metadata_of state c.args.file.now c.args.caches.now table pending in
     let own = c.own_place.ensures.first in
     let below = c.if-place-own_place.false in
-    unmade-place state c.args.index (lent table first f pending) c.args.caches.now c.args.file.now begun c.args.place c.in-Err.fault (omega (arith, own, below))
+    unmade-place state c.args.index (lent table first f pending) c.args.caches.now c.args.file.now begun c.args.place c.in_err-check_place.field-0.0 (omega (arith, own, below))
     (λ holds none.
     let zero : counted m c.args.place ≡ 0 = (free holds.1 holds.0 holds.2).uncounted in
     let at : counted m 0 ≡ 0 = subst (λ n. counted m n ≡ 0) none zero in
     let some = first-counted m ((begun.quiet holds.1).holds holds.0 holds.2 tt).0 in
     omega (arith, at, some))
-    (subst (λ b. WhyNotNamed table b c.args.place c.in-Err.fault) c.cluster_bits.ensures.value c.in-Err.ensures.err)
+    (subst (λ b. WhyNotNamed table b c.args.place c.in_err-check_place.field-0.0) c.cluster_bits.ensures.value c.in_err-check_place.ensures.err))
 
-pub returns-in-Err-cleared_block-clause-makes : goal.returns-in-Err-cleared_block-clause-makes
-returns-in-Err-cleared_block-clause-makes g c = λ pending first f begun free.
-    unmade-memory g.S.Storage.state c.args.index (lent (table_of c.args.self.now) first f pending) c.args.caches.now c.args.file.now begun c.in-Err-cleared_block.fault c.in-Err-cleared_block.ensures.err
+pub returns-in_err-block-clause-makes : goal.returns-in_err-block-clause-makes
+returns-in_err-block-clause-makes g c = rw (handed-on _ _ c.from_residual-in_err-block.ensures.1) (λ pending first f begun free.
+    unmade-memory g.S.Storage.state c.args.index (lent (table_of c.args.self.now) first f pending) c.args.caches.now c.args.file.now begun c.in_err-block.field-0.0 c.in_err-block.ensures.err)
 
-pub returns-in-Err-rb_forget-clause-makes : goal.returns-in-Err-rb_forget-clause-makes
-returns-in-Err-rb_forget-clause-makes g c = λ pending first f begun free.
+pub returns-in_err-rb_forget-clause-makes : goal.returns-in_err-rb_forget-clause-makes
+returns-in_err-rb_forget-clause-makes g c = rw (handed-on _ _ c.from_residual-in_err-rb_forget.ensures.1) (λ pending first f begun free.
     let state = g.S.Storage.state in
     let table = table_of c.args.self.now in
     let m = metadata_of state c.args.file.now c.args.caches.now table pending in
-    unforgotten state c.args.index (lent table first f pending) c.args.caches.now c.args.file.now begun c.args.place c.in-Err-rb_forget.fault c.rb_forget.new.self
-    (λ holds. (uncounted-free m ((begun.quiet holds.1).holds holds.0 holds.2 tt).0 (begun.order ∙ holds.1) c.args.place (free holds.1 holds.0 holds.2).uncounted).0) c.in-Err-rb_forget.ensures.err
+    unforgotten state c.args.index (lent table first f pending) c.args.caches.now c.args.file.now begun c.args.place c.in_err-rb_forget.field-0.0 c.rb_forget.new.self
+    (λ holds. (uncounted-free m ((begun.quiet holds.1).holds holds.0 holds.2 tt).0 (begun.order ∙ holds.1) c.args.place (free holds.1 holds.0 holds.2).uncounted).0) c.in_err-rb_forget.ensures.err)
 
-pub returns-in-Err-count_cluster-clause-makes : goal.returns-in-Err-count_cluster-clause-makes
-returns-in-Err-count_cluster-clause-makes g c = λ pending first f begun free.
+pub returns-in_err-count_cluster-clause-makes : goal.returns-in_err-count_cluster-clause-makes
+returns-in_err-count_cluster-clause-makes g c = rw (handed-on _ _ c.from_residual-in_err-count_cluster.ensures.1) (λ pending first f begun free.
     let state = g.S.Storage.state in
     let table = table_of c.args.self.now in
     let new = c.count_cluster.new in
-    uncounted-made state (lent table first f pending) c.args.index c.args.place c.args.caches.now c.args.file.now begun free c.in-Err-count_cluster.fault new.caches new.file
-    (subst (λ (m : MetadataCaches _). RaisesCluster state table c.args.place m c.args.file.now (failed c.in-Err-count_cluster.fault) new.caches new.file) c.in_default-rb_forget.ensures.ok c.in-Err-count_cluster.ensures)
+    uncounted-made state (lent table first f pending) c.args.index c.args.place c.args.caches.now c.args.file.now begun free c.in_err-count_cluster.field-0.0 new.caches new.file
+    (subst (λ (m : MetadataCaches _). RaisesCluster state table c.args.place m c.args.file.now (failed c.in_err-count_cluster.field-0.0) new.caches new.file) c.in_ok-rb_forget.ensures.ok c.in_err-count_cluster.ensures))
 
 pub write_block-requires-clause-namable : goal.write_block-requires-clause-namable
 write_block-requires-clause-namable g c =
-    let named = c.in_default.ensures.ok in
-    namable (table_of c.args.self.now) c.cluster_bits.result c.args.place named.0 named.1 c.in-Ok.block.cluster (ap (λ (b : Block). b.cluster) c.in-Ok.ensures.ok)
+    let named = c.in_ok-check_place.ensures.ok in
+    namable (table_of c.args.self.now) c.cluster_bits.result c.args.place named.0 named.1 c.in_ok-block.block.cluster (ap (λ (b : Block). b.cluster) c.in_ok-block.ensures.ok)
 
-pub returns-in-Ok-flush_rb-clause-makes : goal.returns-in-Ok-flush_rb-clause-makes
-returns-in-Ok-flush_rb-clause-makes g c = λ pending first f begun free.
+pub returns-clause-makes : goal.returns-clause-makes
+returns-clause-makes g c = λ pending first f begun free.
     let state = g.S.Storage.state in
     let table = table_of c.args.self.now in
     let mid = c.count_cluster.new in
     let flushed = c.flush_rb.new in
     let new = c.write_block.new in
-    let done = c.in-Ok-flush_rb.ensures in
-    let named = c.in_default.ensures.ok in
+    let done = c.in_ok-flush_rb.ensures in
+    let named = c.in_ok-check_place.ensures.ok in
     let reach : IsInReach c.args.file.now.header.fields.cluster_bits c.args.place = subst (λ b. IsInReach b c.args.place) c.cluster_bits.ensures.value named.1 in
     let own = c.own_place.ensures.first in
     let ge = c.if-place-own_place.false in
     let below : c.args.place < c.args.index * counters_of_block c.args.file.now.header.fields = omega (arith, own, ge) in
-    let raises = subst (λ (m : MetadataCaches _). RaisesCluster state table c.args.place m c.args.file.now succeeded mid.caches mid.file) c.in_default-rb_forget.ensures.ok c.in_default-count_cluster.ensures in
+    let raises = subst (λ (m : MetadataCaches _). RaisesCluster state table c.args.place m c.args.file.now succeeded mid.caches mid.file) c.in_ok-rb_forget.ensures.ok c.in_ok-count_cluster.ensures in
     taken-made-so state (lent table first f pending) c.args.index c.args.place c.args.caches.now c.args.file.now begun free mid.caches mid.file raises flushed.self flushed.file done.going done.kept done.others done.room done.cause done.clean
-    c.requires.inside c.requires.empty c.cluster_bits.ensures.shaped.low named.0.some reach below c.in-Ok.block c.in-Ok.ensures.ok c.write_block.result (table_of new.self) new.file c.write_block.ensures.header c.write_block.ensures.names
+    c.requires.inside c.requires.empty c.cluster_bits.ensures.shaped.low named.0.some reach below c.in_ok-block.block c.in_ok-block.ensures.ok c.write_block.result (table_of new.self) new.file c.write_block.ensures.header c.write_block.ensures.names
 
-pub returns-in-Err-flush_rb-clause-makes : goal.returns-in-Err-flush_rb-clause-makes
-returns-in-Err-flush_rb-clause-makes g c = λ pending first f begun free.
+pub returns-in_err-flush_rb-clause-makes : goal.returns-in_err-flush_rb-clause-makes
+returns-in_err-flush_rb-clause-makes g c = rw (handed-on _ _ c.from_residual-in_err-flush_rb.ensures.1) (λ pending first f begun free.
     let state = g.S.Storage.state in
     let table = table_of c.args.self.now in
     let mid = c.count_cluster.new in
     let flushed = c.flush_rb.new in
-    let done = c.in-Err-flush_rb.ensures in
-    let raises = subst (λ (m : MetadataCaches _). RaisesCluster state table c.args.place m c.args.file.now succeeded mid.caches mid.file) c.in_default-rb_forget.ensures.ok c.in_default-count_cluster.ensures in
-    unwritten-made state (lent table first f pending) c.args.index c.args.place c.args.caches.now c.args.file.now begun free mid.caches mid.file raises c.in-Err-flush_rb.fault flushed.self flushed.file done.going done.kept done.others done.room done.cause done.faults
+    let done = c.in_err-flush_rb.ensures in
+    let raises = subst (λ (m : MetadataCaches _). RaisesCluster state table c.args.place m c.args.file.now succeeded mid.caches mid.file) c.in_ok-rb_forget.ensures.ok c.in_ok-count_cluster.ensures in
+    unwritten-made state (lent table first f pending) c.args.index c.args.place c.args.caches.now c.args.file.now begun free mid.caches mid.file raises c.in_err-flush_rb.field-0.0 flushed.self flushed.file done.going done.kept done.others done.room done.cause done.faults)
 
-pub returns-in-Ok-flush_rb-clause-at : goal.returns-in-Ok-flush_rb-clause-at
-returns-in-Ok-flush_rb-clause-at g c =
+pub returns-clause-at : goal.returns-clause-at
+returns-clause-at g c =
     let table = table_of c.args.self.now in
     let h = c.args.file.now.header.fields in
-    let named = c.in_default.ensures.ok in
+    let named = c.in_ok-check_place.ensures.ok in
     let reach : IsInReach h.cluster_bits c.args.place = subst (λ b. IsInReach b c.args.place) c.cluster_bits.ensures.value named.1 in
-    written-on-ok table c.args.index c.args.place h.cluster_bits c.in-Ok.block _ _ (table_of c.write_block.new.self) c.write_block.result c.requires.inside c.cluster_bits.ensures.shaped.low reach
-    (ap (λ (b : Block). b.cluster_bits) c.in-Ok.ensures.ok) (ap (λ (b : Block). b.cluster) c.in-Ok.ensures.ok) named.0.some c.write_block.ensures.names
+    written-on-ok table c.args.index c.args.place h.cluster_bits c.in_ok-block.block _ _ (table_of c.write_block.new.self) c.write_block.result c.requires.inside c.cluster_bits.ensures.shaped.low reach
+    (ap (λ (b : Block). b.cluster_bits) c.in_ok-block.ensures.ok) (ap (λ (b : Block). b.cluster) c.in_ok-block.ensures.ok) named.0.some c.write_block.ensures.names

@@ -18,8 +18,9 @@ use Rattle.qcow2_alloc.specs.NewBlocks.{WritesLacking}
 use Rattle.qcow2_alloc.proofs.Growth.FindingRoom.{lacking-before, lacking-there, lacking-here, index-near}
 use Rattle.qcow2_alloc.proofs.Blocks.NamedWords.{named-some, named-none}
 use Rattle.qcow2_alloc.proofs.Blocks.WritingNewBlocks.{lack, WritesBefore, before-none, before-over, before-then-at, before-few, before-all, room-for, all-before, run-fits}
+use Rattle.qcow2_alloc.proofs.Faults.{handed-on}
 use Rattle.qcow2_alloc.proofs.allocation.Allocator.write_new_blocks.Goals as goal
-use Rattle.qcow2_alloc.proofs.allocation.Allocator.write_new_blocks.Goals.{then-is_none+in-Ok, else-is_none}
+use Rattle.qcow2_alloc.proofs.allocation.Allocator.write_new_blocks.Goals.{then-is_none+in_ok-write_new_block, else-is_none}
 
 -- A block has some counters, and not many.
 some-of : (r k : ℕ) → 2 ^ r ≡ k → 0 < k
@@ -104,8 +105,8 @@ overflow_add-written g c =
     let fits = run-fits c.args.file.now.header.fields.cluster_bits c.args.run.first c.args.run.len c.requires.reach in
     omega (arith, room, fits)
 
-pub returns-in-Err-clause-writes : goal.returns-in-Err-clause-writes
-returns-in-Err-clause-writes g c =
+pub returns-in_err-write_new_block-clause-writes : goal.returns-in_err-write_new_block-clause-writes
+returns-in_err-write_new_block-clause-writes g c = rw (handed-on _ _ c.from_residual.ensures.1) (
     let h = c.args.file.now.header in
     let t = table_of c.args.self.now in
     let run = c.args.run in
@@ -119,9 +120,9 @@ returns-in-Err-clause-writes g c =
     let few : rank (lack h t run) (c.loop-run.index + 1) ≤ run.len =
     (let up : rank (lack h t run) (c.loop-run.index + 1) ≡ rank (lack h t run) (suc c.loop-run.index) = ap (rank (lack h t run)) (omega arith) in
     let more = room.0 in let last = room.1 in let is = c.loop-run.invariant.2 in omega (arith, up, more, last, is)) in
-    subst (λ (r : Result Unit Fault). WritesLacking h t run (g.S.Storage.state c.args.file.now.image) r (g.S.Storage.state c.write_new_block.new.file.image)) c.in-Err.is
+    subst (λ (r : Result Unit Fault). WritesLacking h t run (g.S.Storage.state c.args.file.now.image) r (g.S.Storage.state c.write_new_block.new.file.image)) c.in_err-write_new_block.was
     (before-all h t run (c.loop-run.index + 1) (g.S.Storage.state c.args.file.now.image) c.write_new_block.result (g.S.Storage.state c.write_new_block.new.file.image) few
-    (λ done i is. let no : Err c.in-Err.fault ≡ Ok tt = sym c.in-Err.is ∙ done in absurd (cc no)) before)
+    (λ done i is. let no : Err c.in_err-write_new_block.field-0.0 ≡ Ok tt = sym c.in_err-write_new_block.was ∙ done in absurd (cc no)) before))
 
 pub loop-run-smaller : goal.loop-run-smaller
 loop-run-smaller g c =
@@ -144,7 +145,7 @@ loop-run-preserved g c =
     let from = c.loop-run.invariant.3 in
     let is = c.loop-run.invariant.2 in
     elim c.if-is_none.branch [
-      | then-is_none+in-Ok w ↦
+      | then-is_none+in_ok-write_new_block w ↦
           let none = named-none t c.loop-run.index (ap (λ (o : Option ℕ). is_some o) (sym c.block_cluster.ensures) ∙ w.if-is_none.ensures) in
           let room = room-here h t run c.rb_bits-rb_bits.result c.loop-run.index c.loop-run.written c.from_ref_indices-in-loop-run.inside.0 c.end.inside.0 c.rb_bits-rb_bits.ensures.entries c.requires.room c.loop-run.invariant.2
           c.loop-run.invariant.3 (c.from_ref_indices-in-loop-run.view_is ∙ c.from_ref_indices.ensures) (c.end.view_is ∙ c.next.ensures) c.loop-run-test.true none in
@@ -155,7 +156,7 @@ loop-run-preserved g c =
           let now = w.written-is in (
             ap (λ (f : ImageFile _). f.header) w.file-is ∙ w.write_new_block.ensures.header ∙ c.loop-run.invariant.0,
             subst (λ (f : ImageFile _). WritesBefore h t run (c.loop-run.index + 1) (g.S.Storage.state c.args.file.now.image) (Ok tt) (g.S.Storage.state f.image)) (sym w.file-is)
-                (subst (λ (r : Result Unit Fault). WritesBefore h t run (c.loop-run.index + 1) (g.S.Storage.state c.args.file.now.image) r (g.S.Storage.state w.write_new_block.new.file.image)) w.in-Ok.is before),
+                (subst (λ (r : Result Unit Fault). WritesBefore h t run (c.loop-run.index + 1) (g.S.Storage.state c.args.file.now.image) r (g.S.Storage.state w.write_new_block.new.file.image)) w.in_ok-write_new_block.was before),
             omega (arith, now, is, up, more),
             omega (arith, from),
             omega (arith, first, end, test, next),
