@@ -54,20 +54,14 @@ impl Allocator {
     {
         let _words = self.reftable.entries();
         let rb_bits = file.header.rb_bits();
-        let first = match self.find_run(file, caches, from, clusters) {
-            Ok(first) => first,
-            Err(fault) => return Err(fault),
-        };
+        let first = self.find_run(file, caches, from, clusters)?;
         let mut room = Run {
             first,
             len: clusters,
         };
         let mut needed = clusters + self.lacking_for(room, rb_bits);
         while room.len() < needed {
-            match self.grow_room(file, caches, room, needed, clusters) {
-                Ok(next) => room = next,
-                Err(fault) => return Err(fault),
-            }
+            room = self.grow_room(file, caches, room, needed, clusters)?;
             needed = clusters + self.lacking_for(room, rb_bits);
         }
         Ok(room)
@@ -86,20 +80,15 @@ impl Allocator {
         ensures { GrowsRoom S.state (table_of self.now) clusters needed room caches.old file.old result caches.new file.new }
     {
         let start = room.first();
-        let first = match self.find_run(file, caches, start, needed) {
-            Ok(first) => first,
-            Err(fault) => return Err(fault),
-        };
+        let first = self.find_run(file, caches, start, needed)?;
         if first == start {
             return Ok(Run { first, len: needed });
         }
-        match self.find_run(file, caches, HostCluster(start.0 + 1), clusters) {
-            Ok(first) => Ok(Run {
-                first,
-                len: clusters,
-            }),
-            Err(fault) => Err(fault),
-        }
+        let first = self.find_run(file, caches, HostCluster(start.0 + 1), clusters)?;
+        Ok(Run {
+            first,
+            len: clusters,
+        })
     }
 
     // Lets the refcount table grow until it holds an index.
@@ -120,13 +109,8 @@ impl Allocator {
         ensures mark { mark_of self.new ≡ mark_of self.old }
         ensures held { list.new.held ≡ list.old.held }
     {
-        let copy = match self.grown_copy(&file.header, at) {
-            Ok(copy) => copy,
-            Err(fault) => return Err(fault),
-        };
-        if let Err(fault) = list.hold() {
-            return Err(fault);
-        }
+        let copy = self.grown_copy(&file.header, at)?;
+        list.hold()?;
         self.place_grown(file, caches, list, copy)
     }
 
@@ -241,20 +225,14 @@ impl Allocator {
             return Err(Fault::DamagedTable);
         }
         let last = first + (room.len() - 1);
-        if let Err(fault) = self.check_place(header.cluster_bits(), HostCluster(last)) {
-            return Err(fault);
-        }
+        self.check_place(header.cluster_bits(), HostCluster(last))?;
         if last >= HostCluster::from_ref_indices(copy.entries(), 0, rb_bits).0 {
             return Err(Fault::Limit(last));
         }
         copy.set_cluster(HostCluster(first + self.lacking_for(room, rb_bits)));
-        match self.name_new_blocks(copy, header, room) {
-            Ok(()) => {
-                // Each of its words is sound.
-                let _words = copy.entries();
-                Ok(())
-            }
-            Err(fault) => Err(fault),
-        }
+        self.name_new_blocks(copy, header, room)?;
+        // Each of its words is sound.
+        let _words = copy.entries();
+        Ok(())
     }
 }

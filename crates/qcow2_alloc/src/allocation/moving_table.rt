@@ -37,10 +37,8 @@ impl Allocator {
             (lent (table_of self.new) caches.new file.new (waiting_then result file.old.header.fields pending)) }
         ensures mark { mark_of self.new ≡ mark_of self.old }
     {
-        match self.take_room(file, caches, room) {
-            Ok(()) => self.move_table(file, table),
-            Err(fault) => Err(fault),
-        }
+        self.take_room(file, caches, room)?;
+        self.move_table(file, table)
     }
 
     // Counts a run of clusters that aren't counted, and writes the blocks that are lacking for that to its first ones. Those that old blocks
@@ -57,18 +55,12 @@ impl Allocator {
             → TakesRoom S.state room (lent (table_of self.now) caches.old file.old pending) result
             (lent (table_of self.now) caches.new file.new pending) }
     {
-        if let Err(fault) = self.count_named(file, caches, room) {
-            return Err(fault);
-        }
-        if let Err(fault) = caches.flush_rb(file) {
-            return Err(fault);
-        }
+        self.count_named(file, caches, room)?;
+        caches.flush_rb(file)?;
         // What is cached of these clusters was other blocks.
         let blocks = self.lacking_for(room, file.header.rb_bits());
-        match forget_run(caches, room.first(), blocks) {
-            Ok(()) => self.write_new_blocks(file, room),
-            Err(fault) => Err(fault),
-        }
+        forget_run(caches, room.first(), blocks)?;
+        self.write_new_blocks(file, room)
     }
 
     // Writes a table to its place, and then lets the header name it in place of the refcount table.
@@ -84,9 +76,7 @@ impl Allocator {
         ensures moves { MovesTable S.state table (table_of self.old) file.old result (table_of self.new) file.new }
         ensures mark { mark_of self.new ≡ mark_of self.old }
     {
-        if let Err(fault) = table.write(self.alloc, &mut file.image) {
-            return Err(fault);
-        }
+        table.write(self.alloc, &mut file.image)?;
         file.header.set_reftable(&table);
         match file
             .header
@@ -120,10 +110,7 @@ impl Allocator {
         ensures err { IsOkUnless result Fault.Memory }
     {
         // It lends its place to each word.
-        let mut block = match RefBlock::new_cleared(self.alloc, header) {
-            Ok(block) => block,
-            Err(fault) => return Err(fault),
-        };
+        let mut block = RefBlock::new_cleared(self.alloc, header)?;
         let rb_bits = header.rb_bits();
         let HostCluster(end) = run.next();
         let HostCluster(mut place) = run.first();
@@ -154,10 +141,7 @@ fn forget_run<S: Storage>(
     ensures err { IfErr result (λ fault. (fault ≡ Fault.CacheFull) × IsPinnedWithin first count caches.old) }
 {
     for index in 0..count {
-        match caches.rb_forget(HostCluster(first.0 + index)) {
-            Ok(()) => (),
-            Err(fault) => return Err(fault),
-        }
+        caches.rb_forget(HostCluster(first.0 + index))?;
     }
     Ok(())
 }

@@ -10,6 +10,7 @@ use Rattle.qcow2_alloc.specs.MovingTables.{IsPlan, WasSound}
 use Rattle.qcow2_alloc.specs.State.{lent}
 use Rattle.qcow2_alloc.proofs.Growth.FilledRooms.{room-filled}
 use Rattle.qcow2_alloc.proofs.Growth.UnfilledRooms.{not-filled}
+use Rattle.qcow2_alloc.proofs.Faults.{handed-on}
 use Rattle.qcow2_alloc.proofs.allocation.Allocator.fill_room.Goals as goal
 
 pub move_table-requires-clause-placed : goal.move_table-requires-clause-placed
@@ -25,18 +26,18 @@ move_table-requires-clause-placed g c =
     subst (λ (l : Layout). IsPlaced l.cluster_bits c.args.table.cluster) (sym p.grown.layout) (subst (λ (o : Option ℕ). IsPlaced h.cluster_bits o) (sym p.grown.placed) there)
 
 pub move_table-requires-clause-bits : goal.move_table-requires-clause-bits
-move_table-requires-clause-bits g c = ap (λ (l : Layout). l.cluster_bits) c.requires.grown.layout ∙ sym (ap (λ (h : Header). h.fields.cluster_bits) (c.in-Ok.ensures []).counts.header)
+move_table-requires-clause-bits g c = ap (λ (l : Layout). l.cluster_bits) c.requires.grown.layout ∙ sym (ap (λ (h : Header). h.fields.cluster_bits) (c.in_ok-take_room.ensures []).counts.header)
 
 pub move_table-requires-clause-old_bits : goal.move_table-requires-clause-old_bits
-move_table-requires-clause-old_bits g c = c.requires.bits ∙ sym (ap (λ (h : Header). h.fields.cluster_bits) (c.in-Ok.ensures []).counts.header)
+move_table-requires-clause-old_bits g c = c.requires.bits ∙ sym (ap (λ (h : Header). h.fields.cluster_bits) (c.in_ok-take_room.ensures []).counts.header)
 
-pub returns-in-Ok-clause-fills : goal.returns-in-Ok-clause-fills
-returns-in-Ok-clause-fills g c = λ pending first file free.
+pub returns-clause-fills : goal.returns-clause-fills
+returns-clause-fills g c = λ pending first file free.
     let table = table_of c.args.self.now in
-    let takes = c.in-Ok.ensures pending in
+    let takes = c.in_ok-take_room.ensures pending in
     room-filled g.S.Storage.state (lent table c.args.caches.now c.args.file.now pending) c.args.room c.args.table (WasSound g.S.Storage.state (lent (table_of c.args.self.now) first file pending)) free c.take_room.new.caches c.take_room.new.file takes
     (subst (λ (h : Header). IsPlan h.fields table c.args.room c.args.table) (sym takes.counts.header) c.requires) c.move_table.result (table_of c.move_table.new.self) c.move_table.new.file c.move_table.ensures.moves
 
-pub returns-in-Err-clause-fills : goal.returns-in-Err-clause-fills
-returns-in-Err-clause-fills g c = λ pending first file free.
-    not-filled g.S.Storage.state (lent (table_of c.args.self.now) c.args.caches.now c.args.file.now pending) c.args.room c.args.table (WasSound g.S.Storage.state (lent (table_of c.args.self.now) first file pending)) free c.in-Err.fault c.take_room.new.caches c.take_room.new.file (c.in-Err.ensures pending).counts
+pub returns-in_err-take_room-clause-fills : goal.returns-in_err-take_room-clause-fills
+returns-in_err-take_room-clause-fills g c = rw (handed-on _ _ c.from_residual.ensures.1) (λ pending first file free.
+    not-filled g.S.Storage.state (lent (table_of c.args.self.now) c.args.caches.now c.args.file.now pending) c.args.room c.args.table (WasSound g.S.Storage.state (lent (table_of c.args.self.now) first file pending)) free c.in_err-take_room.field-0.0 c.take_room.new.caches c.take_room.new.file (c.in_err-take_room.ensures pending).counts)

@@ -7,6 +7,7 @@ use Rattle.qcow2_alloc.specs.Allocators.{table_of}
 use Rattle.qcow2_alloc.specs.Growing.{lacking, needed_for, GrowsRoom}
 use Rattle.qcow2_alloc.proofs.Growth.FindingRoom.{needed-few}
 use Rattle.qcow2_alloc.proofs.Growth.SearchingRooms.{rooms-first, rooms-found, rooms-not-grown, rooms-then, rooms-fewer}
+use Rattle.qcow2_alloc.proofs.Faults.{handed-on}
 use Rattle.qcow2_alloc.proofs.allocation.Allocator.find_room.Goals as goal
 
 -- A block has at least 64 counters, and at most 2^24.
@@ -25,7 +26,7 @@ overflow_add-needed g c =
     let table = table_of c.args.self.now in
     let k = counters_of_block c.args.file.now.header.fields in
     let bits = c.rb_bits-rb_bits.ensures in
-    let run : Run = record { first = c.in-Ok.first; len = c.args.clusters } in
+    let run : Run = record { first = c.in_ok-first.first; len = c.args.clusters } in
     let is = as-needed table c.rb_bits-rb_bits.result k c.args.clusters c.lacking_for.result run bits.entries c.lacking_for.ensures in
     let few = needed-few table k (wide c.rb_bits-rb_bits.result k bits.entries bits.bounds.0) c.args.clusters run (omega arith) in
     let most = c.requires.few in
@@ -35,18 +36,18 @@ pub loop-needed-init : goal.loop-needed-init
 loop-needed-init g c =
     let table = table_of c.args.self.now in
     let k = counters_of_block c.args.file.now.header.fields in
-    let run : Run = record { first = c.in-Ok.first; len = c.args.clusters } in (
-      rooms-first g.S.Storage.state table c.args.from c.args.clusters c.args.caches.now c.args.file.now c.requires.near c.in-Ok.first c.find_run.new.caches c.find_run.new.file c.in-Ok.ensures,
+    let run : Run = record { first = c.in_ok-first.first; len = c.args.clusters } in (
+      rooms-first g.S.Storage.state table c.args.from c.args.clusters c.args.caches.now c.args.file.now c.requires.near c.in_ok-first.first c.find_run.new.caches c.find_run.new.file c.in_ok-first.ensures,
       as-needed table c.rb_bits-rb_bits.result k c.args.clusters c.lacking_for.result run c.rb_bits-rb_bits.ensures.entries c.lacking_for.ensures,
     )
 
-pub returns-in-Err-grow_room-clause-looks : goal.returns-in-Err-grow_room-clause-looks
-returns-in-Err-grow_room-clause-looks g c =
+pub returns-in_err-room-clause-looks : goal.returns-in_err-room-clause-looks
+returns-in_err-room-clause-looks g c = rw (handed-on _ _ c.from_residual-in_err-room.ensures.1) (
     let state = g.S.Storage.state in
     let table = table_of c.args.self.now in
     let l = c.loop-needed in
-    rooms-not-grown state table c.args.from c.args.clusters c.args.caches.now c.args.file.now l.room l.caches l.file l.invariant.0 c.in-Err-grow_room.fault c.grow_room.new.caches c.grow_room.new.file
-    (subst (λ (m : ℕ). GrowsRoom state table c.args.clusters m l.room l.caches l.file (Err c.in-Err-grow_room.fault) c.grow_room.new.caches c.grow_room.new.file) l.invariant.1 c.in-Err-grow_room.ensures)
+    rooms-not-grown state table c.args.from c.args.clusters c.args.caches.now c.args.file.now l.room l.caches l.file l.invariant.0 c.in_err-room.field-0.0 c.grow_room.new.caches c.grow_room.new.file
+    (subst (λ (m : ℕ). GrowsRoom state table c.args.clusters m l.room l.caches l.file (Err c.in_err-room.field-0.0) c.grow_room.new.caches c.grow_room.new.file) l.invariant.1 c.in_err-room.ensures))
 
 pub lacking_for-requires-in-loop-needed-clause-fits : goal.lacking_for-requires-in-loop-needed-clause-fits
 lacking_for-requires-in-loop-needed-clause-fits g c =
@@ -54,12 +55,12 @@ lacking_for-requires-in-loop-needed-clause-fits g c =
     let k = counters_of_block c.args.file.now.header.fields in
     let bits = c.rb_bits-rb_bits.ensures in
     let l = c.loop-needed in
-    let now = c.in-Ok-grow_room.next in
+    let now = c.in_ok-room.room in
     let len = c.len.ensures in
     let test = c.loop-needed-test.true in
     let is = l.invariant.1 in
     let searched = rooms-then g.S.Storage.state table c.args.from c.args.clusters c.args.caches.now c.args.file.now l.room l.caches l.file l.invariant.0 (wide c.rb_bits-rb_bits.result k bits.entries bits.bounds.0) now c.grow_room.new.caches c.grow_room.new.file
-    (omega (arith, len, test, is)) (subst (λ (m : ℕ). GrowsRoom g.S.Storage.state table c.args.clusters m l.room l.caches l.file (Ok now) c.grow_room.new.caches c.grow_room.new.file) l.invariant.1 c.in-Ok-grow_room.ensures) in
+    (omega (arith, len, test, is)) (subst (λ (m : ℕ). GrowsRoom g.S.Storage.state table c.args.clusters m l.room l.caches l.file (Ok now) c.grow_room.new.caches c.grow_room.new.file) l.invariant.1 c.in_ok-room.ensures) in
     let within = searched.within in
     let few = searched.few in
     let most = c.requires.few in
@@ -72,12 +73,12 @@ overflow_add-needed-in-loop-needed g c =
     let k = counters_of_block c.args.file.now.header.fields in
     let bits = c.rb_bits-rb_bits.ensures in
     let l = c.loop-needed in
-    let now = c.in-Ok-grow_room.next in
+    let now = c.in_ok-room.room in
     let len = c.len.ensures in
     let test = c.loop-needed-test.true in
     let at = l.invariant.1 in
     let searched = rooms-then g.S.Storage.state table c.args.from c.args.clusters c.args.caches.now c.args.file.now l.room l.caches l.file l.invariant.0 (wide c.rb_bits-rb_bits.result k bits.entries bits.bounds.0) now c.grow_room.new.caches c.grow_room.new.file
-    (omega (arith, len, test, at)) (subst (λ (m : ℕ). GrowsRoom g.S.Storage.state table c.args.clusters m l.room l.caches l.file (Ok now) c.grow_room.new.caches c.grow_room.new.file) l.invariant.1 c.in-Ok-grow_room.ensures) in
+    (omega (arith, len, test, at)) (subst (λ (m : ℕ). GrowsRoom g.S.Storage.state table c.args.clusters m l.room l.caches l.file (Ok now) c.grow_room.new.caches c.grow_room.new.file) l.invariant.1 c.in_ok-room.ensures) in
     let is = as-needed table c.rb_bits-rb_bits.result k c.args.clusters c.lacking_for-in-loop-needed.result now bits.entries c.lacking_for-in-loop-needed.ensures in
     let few = needed-few table k (wide c.rb_bits-rb_bits.result k bits.entries bits.bounds.0) c.args.clusters now searched.few in
     let most = c.requires.few in
@@ -89,12 +90,12 @@ loop-needed-smaller g c =
     let k = counters_of_block c.args.file.now.header.fields in
     let bits = c.rb_bits-rb_bits.ensures in
     let l = c.loop-needed in
-    let now = c.in-Ok-grow_room.next in
+    let now = c.in_ok-room.room in
     let len = c.len.ensures in
     let test = c.loop-needed-test.true in
     let is = l.invariant.1 in
     rooms-fewer g.S.Storage.state table c.args.from c.args.clusters c.args.caches.now c.args.file.now l.room l.caches l.file l.invariant.0 (wide c.rb_bits-rb_bits.result k bits.entries bits.bounds.0) now c.grow_room.new.caches c.grow_room.new.file
-    (omega (arith, len, test, is)) (subst (λ (m : ℕ). GrowsRoom g.S.Storage.state table c.args.clusters m l.room l.caches l.file (Ok now) c.grow_room.new.caches c.grow_room.new.file) l.invariant.1 c.in-Ok-grow_room.ensures)
+    (omega (arith, len, test, is)) (subst (λ (m : ℕ). GrowsRoom g.S.Storage.state table c.args.clusters m l.room l.caches l.file (Ok now) c.grow_room.new.caches c.grow_room.new.file) l.invariant.1 c.in_ok-room.ensures)
 
 pub loop-needed-preserved : goal.loop-needed-preserved
 loop-needed-preserved g c =
@@ -102,12 +103,12 @@ loop-needed-preserved g c =
     let k = counters_of_block c.args.file.now.header.fields in
     let bits = c.rb_bits-rb_bits.ensures in
     let l = c.loop-needed in
-    let now = c.in-Ok-grow_room.next in
+    let now = c.in_ok-room.room in
     let len = c.len.ensures in
     let test = c.loop-needed-test.true in
     let is = l.invariant.1 in (
       rooms-then g.S.Storage.state table c.args.from c.args.clusters c.args.caches.now c.args.file.now l.room l.caches l.file l.invariant.0 (wide c.rb_bits-rb_bits.result k bits.entries bits.bounds.0) now c.grow_room.new.caches c.grow_room.new.file
-          (omega (arith, len, test, is)) (subst (λ (m : ℕ). GrowsRoom g.S.Storage.state table c.args.clusters m l.room l.caches l.file (Ok now) c.grow_room.new.caches c.grow_room.new.file) l.invariant.1 c.in-Ok-grow_room.ensures),
+          (omega (arith, len, test, is)) (subst (λ (m : ℕ). GrowsRoom g.S.Storage.state table c.args.clusters m l.room l.caches l.file (Ok now) c.grow_room.new.caches c.grow_room.new.file) l.invariant.1 c.in_ok-room.ensures),
       as-needed table c.rb_bits-rb_bits.result k c.args.clusters c.lacking_for-in-loop-needed.result now bits.entries c.lacking_for-in-loop-needed.ensures,
     )
 

@@ -3,43 +3,44 @@ use Rattle.std.proofs.lemmas.Bool.{eqb-true, eqb-false}
 use Rattle.qcow2_alloc.specs.Allocators.{table_of}
 use Rattle.qcow2_alloc.specs.SearchingClusters.{LooksForRun}
 use Rattle.qcow2_alloc.proofs.Growth.GrowingRooms.{room-here, room-refused, room-next, room-not-next}
+use Rattle.qcow2_alloc.proofs.Faults.{handed-on}
 use Rattle.qcow2_alloc.proofs.allocation.Allocator.grow_room.Goals as goal
 
-pub returns-in-Err : goal.returns-in-Err
-returns-in-Err g c =
+pub returns-in_err-first : goal.returns-in_err-first
+returns-in_err-first g c = rw (handed-on _ _ c.from_residual.ensures.1) (
     let state = g.S.Storage.state in
     let table = table_of c.args.self.now in
     let at : c.start.inside.0 ≡ c.args.room.first = c.start.view_is ∙ c.first.ensures in
-    room-refused state table c.args.clusters c.args.needed c.args.room c.args.caches.now c.args.file.now c.in-Err.fault c.find_run.new.caches c.find_run.new.file
-    (subst (λ (n : ℕ). LooksForRun state table n c.args.needed c.args.caches.now c.args.file.now (Err c.in-Err.fault) c.find_run.new.caches c.find_run.new.file) at c.in-Err.ensures)
+    room-refused state table c.args.clusters c.args.needed c.args.room c.args.caches.now c.args.file.now c.in_err-first.field-0.0 c.find_run.new.caches c.find_run.new.file
+    (subst (λ (n : ℕ). LooksForRun state table n c.args.needed c.args.caches.now c.args.file.now (Err c.in_err-first.field-0.0) c.find_run.new.caches c.find_run.new.file) at c.in_err-first.ensures))
 
 pub returns-then-eq : goal.returns-then-eq
 returns-then-eq g c =
     let state = g.S.Storage.state in
     let table = table_of c.args.self.now in
     let at : c.start.inside.0 ≡ c.args.room.first = c.start.view_is ∙ c.first.ensures in
-    room-here state table c.args.clusters c.args.needed c.args.room c.args.caches.now c.args.file.now c.in-Ok.first c.find_run.new.caches c.find_run.new.file
-    (subst (λ (n : ℕ). LooksForRun state table n c.args.needed c.args.caches.now c.args.file.now (Ok c.in-Ok.first) c.find_run.new.caches c.find_run.new.file) at c.in-Ok.ensures)
-    (eqb-true c.in-Ok.first c.start.inside.0 (sym c.eq.ensures ∙ c.if-eq.true) ∙ at)
+    room-here state table c.args.clusters c.args.needed c.args.room c.args.caches.now c.args.file.now c.in_ok-first.first c.find_run.new.caches c.find_run.new.file
+    (subst (λ (n : ℕ). LooksForRun state table n c.args.needed c.args.caches.now c.args.file.now (Ok c.in_ok-first.first) c.find_run.new.caches c.find_run.new.file) at c.in_ok-first.ensures)
+    (eqb-true c.in_ok-first.first c.start.inside.0 (sym c.eq.ensures ∙ c.if-eq.true) ∙ at)
 
-pub returns-in-Ok-find_run : goal.returns-in-Ok-find_run
-returns-in-Ok-find_run g c =
+pub returns : goal.returns
+returns g c =
     let state = g.S.Storage.state in
     let table = table_of c.args.self.now in
     let at : c.start.inside.0 ≡ c.args.room.first = c.start.view_is ∙ c.first.ensures in
     let again = c.find_run-2.new in
-    room-next state table c.args.clusters c.args.needed c.args.room c.args.caches.now c.args.file.now c.in-Ok.first c.find_run.new.caches c.find_run.new.file
-    (subst (λ (n : ℕ). LooksForRun state table n c.args.needed c.args.caches.now c.args.file.now (Ok c.in-Ok.first) c.find_run.new.caches c.find_run.new.file) at c.in-Ok.ensures)
-    (λ same. eqb-false c.in-Ok.first c.start.inside.0 (sym c.eq.ensures ∙ c.if-eq.false) (same ∙ sym at)) c.in-Ok-find_run.first again.caches again.file
-    (subst (λ (n : ℕ). LooksForRun state table (n + 1) c.args.clusters c.find_run.new.caches c.find_run.new.file (Ok c.in-Ok-find_run.first) again.caches again.file) at c.in-Ok-find_run.ensures)
+    room-next state table c.args.clusters c.args.needed c.args.room c.args.caches.now c.args.file.now c.in_ok-first.first c.find_run.new.caches c.find_run.new.file
+    (subst (λ (n : ℕ). LooksForRun state table n c.args.needed c.args.caches.now c.args.file.now (Ok c.in_ok-first.first) c.find_run.new.caches c.find_run.new.file) at c.in_ok-first.ensures)
+    (λ same. eqb-false c.in_ok-first.first c.start.inside.0 (sym c.eq.ensures ∙ c.if-eq.false) (same ∙ sym at)) c.in_ok-first-2.first again.caches again.file
+    (subst (λ (n : ℕ). LooksForRun state table (n + 1) c.args.clusters c.find_run.new.caches c.find_run.new.file (Ok c.in_ok-first-2.first) again.caches again.file) at c.in_ok-first-2.ensures)
 
-pub returns-in-Err-find_run : goal.returns-in-Err-find_run
-returns-in-Err-find_run g c =
+pub returns-in_err-first-2 : goal.returns-in_err-first-2
+returns-in_err-first-2 g c = rw (handed-on _ _ c.from_residual-in_err-first-2.ensures.1) (
     let state = g.S.Storage.state in
     let table = table_of c.args.self.now in
     let at : c.start.inside.0 ≡ c.args.room.first = c.start.view_is ∙ c.first.ensures in
     let again = c.find_run-2.new in
-    room-not-next state table c.args.clusters c.args.needed c.args.room c.args.caches.now c.args.file.now c.in-Ok.first c.find_run.new.caches c.find_run.new.file
-    (subst (λ (n : ℕ). LooksForRun state table n c.args.needed c.args.caches.now c.args.file.now (Ok c.in-Ok.first) c.find_run.new.caches c.find_run.new.file) at c.in-Ok.ensures)
-    (λ same. eqb-false c.in-Ok.first c.start.inside.0 (sym c.eq.ensures ∙ c.if-eq.false) (same ∙ sym at)) c.in-Err-find_run.fault again.caches again.file
-    (subst (λ (n : ℕ). LooksForRun state table (n + 1) c.args.clusters c.find_run.new.caches c.find_run.new.file (Err c.in-Err-find_run.fault) again.caches again.file) at c.in-Err-find_run.ensures)
+    room-not-next state table c.args.clusters c.args.needed c.args.room c.args.caches.now c.args.file.now c.in_ok-first.first c.find_run.new.caches c.find_run.new.file
+    (subst (λ (n : ℕ). LooksForRun state table n c.args.needed c.args.caches.now c.args.file.now (Ok c.in_ok-first.first) c.find_run.new.caches c.find_run.new.file) at c.in_ok-first.ensures)
+    (λ same. eqb-false c.in_ok-first.first c.start.inside.0 (sym c.eq.ensures ∙ c.if-eq.false) (same ∙ sym at)) c.in_err-first-2.field-0.0 again.caches again.file
+    (subst (λ (n : ℕ). LooksForRun state table (n + 1) c.args.clusters c.find_run.new.caches c.find_run.new.file (Err c.in_err-first-2.field-0.0) again.caches again.file) at c.in_err-first-2.ensures))

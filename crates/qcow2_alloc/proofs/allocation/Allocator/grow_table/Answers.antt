@@ -7,26 +7,27 @@ use Rattle.qcow2_alloc.specs.GrowingTables.{GrowsTable}
 use Rattle.qcow2_alloc.specs.State.{lent, seen}
 use Rattle.qcow2_alloc.proofs.Freeing.FreeingEntries.{failed}
 use Rattle.qcow2_alloc.proofs.Growth.GrowingTables.{no-copy}
+use Rattle.qcow2_alloc.proofs.Faults.{handed-on}
 use Rattle.qcow2_alloc.proofs.allocation.Allocator.grow_table.Goals as goal
 
-pub returns-in-Err-clause-grows : goal.returns-in-Err-clause-grows
-returns-in-Err-clause-grows g c =
-    no-copy g.S.Storage.state (mark_of c.args.self.now) c.args.at (seen c.args.self.now c.args.caches.now c.args.file.now c.args.list.now) c.in-Err.fault c.in-Err.ensures.err
+pub returns-in_err-copy-clause-grows : goal.returns-in_err-copy-clause-grows
+returns-in_err-copy-clause-grows g c = rw (handed-on _ _ c.from_residual.ensures.1) (
+    no-copy g.S.Storage.state (mark_of c.args.self.now) c.args.at (seen c.args.self.now c.args.caches.now c.args.file.now c.args.list.now) c.in_err-copy.field-0.0 c.in_err-copy.ensures.err)
 
-pub returns-in-Err-hold-clause-grows : goal.returns-in-Err-hold-clause-grows
-returns-in-Err-hold-clause-grows g c =
+pub returns-in_err-hold-clause-grows : goal.returns-in_err-hold-clause-grows
+returns-in_err-hold-clause-grows g c = rw (handed-on _ _ c.from_residual-in_err-hold.ensures.1) (
     let state = g.S.Storage.state in
     let t = table_of c.args.self.now in
-    let refused = c.in-Err-hold.ensures.err in
-    subst (λ (l : FreeList). GrowsTable state (mark_of c.args.self.now) c.args.at (lent t c.args.caches.now c.args.file.now c.args.list.now.entries) (failed c.in-Err-hold.fault) (lent t c.args.caches.now c.args.file.now l.entries)) (sym refused.1)
+    let refused = c.in_err-hold.ensures.err in
+    subst (λ (l : FreeList). GrowsTable state (mark_of c.args.self.now) c.args.at (lent t c.args.caches.now c.args.file.now c.args.list.now.entries) (failed c.in_err-hold.field-0.0) (lent t c.args.caches.now c.args.file.now l.entries)) (sym refused.1)
     (subst (λ (f : Fault). GrowsTable state (mark_of c.args.self.now) c.args.at (lent t c.args.caches.now c.args.file.now c.args.list.now.entries) (failed f) (lent t c.args.caches.now c.args.file.now c.args.list.now.entries)) (sym refused.0)
-    (no-copy state (mark_of c.args.self.now) c.args.at (lent t c.args.caches.now c.args.file.now c.args.list.now.entries) Memory tt))
+    (no-copy state (mark_of c.args.self.now) c.args.at (lent t c.args.caches.now c.args.file.now c.args.list.now.entries) Memory tt)))
 
 pub place_grown-requires-clause-grown : goal.place_grown-requires-clause-grown
-place_grown-requires-clause-grown g c = (c.args.at, c.requires.past, c.in-Ok.ensures.ok)
+place_grown-requires-clause-grown g c = (c.args.at, c.requires.past, c.in_ok-copy.ensures.ok)
 
 pub returns-clause-grows : goal.returns-clause-grows
 returns-clause-grows g c =
     let new = c.place_grown.new in
     subst (λ (l : FreeList). GrowsTable g.S.Storage.state (mark_of c.args.self.now) c.args.at (seen c.args.self.now c.args.caches.now c.args.file.now l) c.place_grown.result (seen new.self new.caches new.file new.list))
-    c.in_default.ensures.ok (c.place_grown.ensures.grows c.args.at c.in-Ok.ensures.ok)
+    c.in_ok-hold.ensures.ok (c.place_grown.ensures.grows c.args.at c.in_ok-copy.ensures.ok)

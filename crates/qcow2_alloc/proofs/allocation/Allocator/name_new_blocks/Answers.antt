@@ -42,7 +42,7 @@ loop-block-init c =
       omega (arith, place, none),
       omega (arith, at),
       omega (arith, le, same, some),
-      ap (λ (b : Block). b.cluster_bits) c.in-Ok.ensures.ok,
+      ap (λ (b : Block). b.cluster_bits) c.in_ok-block.ensures.ok,
     )
 
 pub from_ref_indices-requires-clause-fits : goal.from_ref_indices-requires-clause-fits
@@ -167,3 +167,6 @@ returns-clause-ok c =
     let end : c.end.inside.0 ≡ run.first + run.len = c.end.view_is ∙ c.next.ensures in
     let past = c.loop-block-test.false in
     named-all h t run c.loop-block.index c.args.table.now c.loop-block.table (λ i is. lack-inside h t run c.loop-block.index i (omega (arith, first, end, past)) is) c.loop-block.invariant.0
+
+pub next-requires : goal.next-requires
+next-requires c = let fits = run-fits c.args.header.now.fields.cluster_bits c.args.run.first c.args.run.len c.requires.reach in omega (arith, fits)
