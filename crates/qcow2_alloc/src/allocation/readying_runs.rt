@@ -44,10 +44,8 @@ impl Allocator {
         let mut made = false;
         for index in first..end {
             if self.block_cluster(index).is_none() {
-                match self.make_block(file, caches, index) {
-                    Ok(()) => made = true,
-                    Err(fault) => return Err(fault),
-                }
+                self.make_block(file, caches, index)?;
+                made = true;
             }
         }
         Ok(made)
@@ -72,22 +70,14 @@ impl Allocator {
     {
         let entries = self.reftable.entries();
         loop {
-            let first = match self.find_run(file, caches, self.first_free_cluster, count) {
-                Ok(first) => first,
-                Err(fault) => return Err(fault),
-            };
-            let last_index = match last_index(first, count, &file.header) {
-                Ok(index) => index,
-                Err(fault) => return Err(fault),
-            };
+            let first = self.find_run(file, caches, self.first_free_cluster, count)?;
+            let last_index = last_index(first, count, &file.header)?;
             if self.has_grown_short_of(entries, last_index) {
                 return Err(Fault::Limit(first.0.saturating_add(count - 1)));
             }
             let first_index = first.rt_index(file.header.rb_bits());
-            match self.ready_blocks(file, caches, list, first_index, last_index, count) {
-                Ok(true) => (),
-                Ok(false) => return Ok(first),
-                Err(fault) => return Err(fault),
+            if !self.ready_blocks(file, caches, list, first_index, last_index, count)? {
+                return Ok(first);
             }
         }
     }
@@ -124,10 +114,8 @@ impl Allocator {
             return self.ensure_blocks(file, caches, first, last + 1);
         }
         let spare = count / file.header.rb_entries() as u64 + 2;
-        match self.grow_table(file, caches, list, last + spare as usize) {
-            Ok(()) => Ok(true),
-            Err(fault) => Err(fault),
-        }
+        self.grow_table(file, caches, list, last + spare as usize)?;
+        Ok(true)
     }
 }
 

@@ -17,8 +17,9 @@ use Rattle.qcow2_alloc.proofs.Blocks.EnsuringBlocks.{so, blocks-none, blocks-the
 use Rattle.qcow2_alloc.proofs.Freeing.FreeingEntries.{failed}
 use Rattle.qcow2_alloc.proofs.Blocks.NamedWords.{named-some, named-none}
 use Rattle.qcow2_alloc.proofs.Blocks.CountingClusters.{succeeded}
+use Rattle.qcow2_alloc.proofs.Faults.{handed-on}
 use Rattle.qcow2_alloc.proofs.allocation.Allocator.ensure_blocks.Goals as goal
-use Rattle.qcow2_alloc.proofs.allocation.Allocator.ensure_blocks.Goals.{then-is_none+in-Ok, else-is_none}
+use Rattle.qcow2_alloc.proofs.allocation.Allocator.ensure_blocks.Goals.{then-is_none+in_ok-make_block, else-is_none}
 
 pub loop-index-init : goal.loop-index-init
 loop-index-init g c = (
@@ -34,32 +35,32 @@ make_block-requires-clause-inside g c =
     let test = c.loop-index-test.true in
     omega (arith, long, inside, test)
 
-pub returns-in-Err-clause-makes : goal.returns-in-Err-clause-makes
-returns-in-Err-clause-makes g c = λ pending.
+pub returns-in_err-make_block-clause-makes : goal.returns-in_err-make_block-clause-makes
+returns-in_err-make_block-clause-makes g c = rw (handed-on _ _ c.from_residual.ensures.1) (λ pending.
     let l = c.loop-index in
     let new = c.make_block.new in
     let inside = c.requires.inside in
     let test = c.loop-index-test.true in
-    blocks-within g.S.Storage.state pending c.args.first (l.index + 1) c.args.end (omega (arith, test)) (table_of c.args.self.now) c.args.caches.now c.args.file.now c.in-Err.fault (table_of new.self) new.caches new.file
+    blocks-within g.S.Storage.state pending c.args.first (l.index + 1) c.args.end (omega (arith, test)) (table_of c.args.self.now) c.args.caches.now c.args.file.now c.in_err-make_block.field-0.0 (table_of new.self) new.caches new.file
     (blocks-then g.S.Storage.state pending c.args.first l.index (table_of c.args.self.now) c.args.caches.now c.args.file.now l.made (table_of l.self) l.caches l.file (l.invariant.0 pending) (omega (arith, inside, test))
-    (named-none (table_of l.self) l.index (ap (λ (o : Option ℕ). is_some o) (sym c.block_cluster.ensures) ∙ c.if-is_none.ensures)) l.auto.index (failed c.in-Err.fault) (table_of new.self) new.caches new.file (c.in-Err.ensures.makes pending))
+    (named-none (table_of l.self) l.index (ap (λ (o : Option ℕ). is_some o) (sym c.block_cluster.ensures) ∙ c.if-is_none.ensures)) l.auto.index (failed c.in_err-make_block.field-0.0) (table_of new.self) new.caches new.file (c.in_err-make_block.ensures.makes pending)))
 
 pub loop-index-preserved : goal.loop-index-preserved
 loop-index-preserved g c = elim c.if-is_none.branch [
-  | then-is_none+in-Ok w ↦
+  | then-is_none+in_ok-make_block w ↦
       let l = c.loop-index in
       let new = w.make_block.new in
       let inside = c.requires.inside in
       let test = c.loop-index-test.true in
       so_still true new.self new.caches new.file w.made-is w.self-is w.caches-is w.file-is (
         (λ pending. blocks-then g.S.Storage.state pending c.args.first l.index (table_of c.args.self.now) c.args.caches.now c.args.file.now l.made (table_of l.self) l.caches l.file (l.invariant.0 pending) (omega (arith, inside, test))
-            (named-none (table_of l.self) l.index (ap (λ (o : Option ℕ). is_some o) (sym c.block_cluster.ensures) ∙ w.if-is_none.ensures)) l.auto.index succeeded (table_of new.self) new.caches new.file (w.in-Ok.ensures.makes pending)),
-        w.in-Ok.ensures.mark ∙ l.invariant.1,
+            (named-none (table_of l.self) l.index (ap (λ (o : Option ℕ). is_some o) (sym c.block_cluster.ensures) ∙ w.if-is_none.ensures)) l.auto.index succeeded (table_of new.self) new.caches new.file (w.in_ok-make_block.ensures.makes pending)),
+        w.in_ok-make_block.ensures.mark ∙ l.invariant.1,
         λ pending order keeps sound.
             turn-fills g.S.Storage.state (mark_of c.args.self.now) (lent (table_of c.args.self.now) c.args.caches.now c.args.file.now pending) c.args.first l.index l.made (table_of l.self) l.caches l.file (l.invariant.0 pending)
-            (named-none (table_of l.self) l.index (ap (λ (o : Option ℕ). is_some o) (sym c.block_cluster.ensures) ∙ w.if-is_none.ensures)) l.auto.index (table_of new.self) new.caches new.file (w.in-Ok.ensures.makes pending)
+            (named-none (table_of l.self) l.index (ap (λ (o : Option ℕ). is_some o) (sym c.block_cluster.ensures) ∙ w.if-is_none.ensures)) l.auto.index (table_of new.self) new.caches new.file (w.in_ok-make_block.ensures.makes pending)
             (subst (λ (m : ℕ). order_of l.caches ≡ L2DependsOnRb → IsTrue (g.S.Storage.state l.file.image).shape.keeps → IsSound (metadata_of g.S.Storage.state l.file l.caches (table_of l.self) pending)
-            → IsBlockPlaced m l.index (metadata_of g.S.Storage.state l.file l.caches (table_of l.self) pending) (metadata_of g.S.Storage.state new.file new.caches (table_of new.self) pending)) l.invariant.1 (w.in-Ok.ensures.placed pending))
+            → IsBlockPlaced m l.index (metadata_of g.S.Storage.state l.file l.caches (table_of l.self) pending) (metadata_of g.S.Storage.state new.file new.caches (table_of new.self) pending)) l.invariant.1 (w.in_ok-make_block.ensures.placed pending))
             order keeps sound (l.invariant.2 pending order keeps sound),
       )
   | else-is_none w ↦

@@ -6,6 +6,7 @@ use Rattle.qcow2_alloc.specs.State.{seen}
 use Rattle.qcow2_alloc.proofs.Blocks.CountingClusters.{succeeded}
 use Rattle.qcow2_alloc.proofs.Freeing.FreeingEntries.{failed}
 use Rattle.qcow2_alloc.proofs.Blocks.ReadyingBlocks.{blocks-ready, table-ready, table-not-ready}
+use Rattle.qcow2_alloc.proofs.Faults.{handed-on}
 use Rattle.qcow2_alloc.proofs.allocation.Allocator.ready_blocks.Goals as goal
 
 pub returns-then-last-entries-clause-readies : goal.returns-then-last-entries-clause-readies
@@ -16,19 +17,19 @@ returns-then-last-entries-clause-readies g c =
     blocks-ready g.S.Storage.state (mark_of c.args.self.now) (c.args.last + (c.args.count / counters_of_block c.args.file.now.header.fields + 2)) c.args.first c.args.last (seen c.args.self.now c.args.caches.now c.args.file.now c.args.list.now) (omega (arith, inside, long)) c.ensure_blocks.result (table_of new.self) new.caches new.file
     (c.ensure_blocks.ensures.makes c.args.list.now.entries) (c.ensure_blocks.ensures.fills c.args.list.now.entries)
 
-pub returns-in-Err-clause-readies : goal.returns-in-Err-clause-readies
-returns-in-Err-clause-readies g c =
+pub returns-in_err-grow_table-clause-readies : goal.returns-in_err-grow_table-clause-readies
+returns-in_err-grow_table-clause-readies g c = rw (handed-on _ _ c.from_residual.ensures.1) (
     let s = seen c.args.self.now c.args.caches.now c.args.file.now c.args.list.now in
     let new = c.grow_table.new in
     let s' = seen new.self new.caches new.file new.list in
     let past = c.if-last-entries.false in
     let long = c.entries.ensures.value in
     table-not-ready g.S.Storage.state (mark_of c.args.self.now) (c.args.last + (c.args.count / counters_of_block c.args.file.now.header.fields + 2)) c.args.first c.args.last s (omega (arith, past, long))
-    s' c.in-Err.fault
-    (subst (λ (x : ℕ). GrowsTable g.S.Storage.state (mark_of c.args.self.now) (c.args.last + (c.args.count / x + 2)) s (failed c.in-Err.fault) s') c.rb_entries.ensures.value c.in-Err.ensures.grows)
+    s' c.in_err-grow_table.field-0.0
+    (subst (λ (x : ℕ). GrowsTable g.S.Storage.state (mark_of c.args.self.now) (c.args.last + (c.args.count / x + 2)) s (failed c.in_err-grow_table.field-0.0) s') c.rb_entries.ensures.value c.in_err-grow_table.ensures.grows))
 
-pub returns-in-Ok-clause-readies : goal.returns-in-Ok-clause-readies
-returns-in-Ok-clause-readies g c =
+pub returns-clause-readies : goal.returns-clause-readies
+returns-clause-readies g c =
     let s = seen c.args.self.now c.args.caches.now c.args.file.now c.args.list.now in
     let new = c.grow_table.new in
     let s' = seen new.self new.caches new.file new.list in
@@ -36,4 +37,4 @@ returns-in-Ok-clause-readies g c =
     let long = c.entries.ensures.value in
     table-ready g.S.Storage.state (mark_of c.args.self.now) (c.args.last + (c.args.count / counters_of_block c.args.file.now.header.fields + 2)) c.args.first c.args.last s (omega (arith, past, long))
     s' (omega arith)
-    (subst (λ (x : ℕ). GrowsTable g.S.Storage.state (mark_of c.args.self.now) (c.args.last + (c.args.count / x + 2)) s succeeded s') c.rb_entries.ensures.value c.in-Ok.ensures.grows)
+    (subst (λ (x : ℕ). GrowsTable g.S.Storage.state (mark_of c.args.self.now) (c.args.last + (c.args.count / x + 2)) s succeeded s') c.rb_entries.ensures.value c.in_ok-grow_table.ensures.grows)

@@ -7,31 +7,32 @@ use Rattle.qcow2_alloc.specs.ReadyingBlocks.{ReadiesBlocks, last_number}
 use Rattle.qcow2_alloc.specs.ReadyingRuns.{ReadiesRun}
 use Rattle.qcow2_alloc.specs.State.{seen}
 use Rattle.qcow2_alloc.proofs.Handing.ReadyingRuns.{Stays, stays-none, stays-found, stays-on, found-run, readying-none, readying-searched, readying-made, search-refused, making-refused, unfit-refused, grown-refused, run-ready, turns-fewer}
+use Rattle.qcow2_alloc.proofs.Faults.{handed-on}
 use Rattle.qcow2_alloc.proofs.allocation.Allocator.ready_run.Goals as goal
 
 pub loop-first-init : goal.loop-first-init
 loop-first-init g c = (readying-none g.S.Storage.state (seen c.args.self.now c.args.caches.now c.args.file.now c.args.list.now), refl, refl, c.entries-entries.ensures.value, stays-none g.S.Storage.state (seen c.args.self.now c.args.caches.now c.args.file.now c.args.list.now) (mark_of c.args.self.now) c.args.count c.requires.some)
 
-pub returns-in-Err-clause-readies : goal.returns-in-Err-clause-readies
-returns-in-Err-clause-readies g c =
+pub returns-in_err-first-clause-readies : goal.returns-in_err-first-clause-readies
+returns-in_err-first-clause-readies g c = rw (handed-on _ _ c.from_residual.ensures.1) (
     let s = seen c.args.self.now c.args.caches.now c.args.file.now c.args.list.now in
     let state = g.S.Storage.state in
     let l = c.loop-first in
     let new = c.find_run.new in
-    subst (λ (m : ℕ). ReadiesRun state m c.args.count s (Err c.in-Err.fault) (seen l.self new.caches new.file l.list)) l.invariant.1
-    (search-refused state s (seen l.self l.caches l.file l.list) l.invariant.0 (mark_of l.self) c.args.count c.in-Err.fault new.caches new.file c.in-Err.ensures)
+    subst (λ (m : ℕ). ReadiesRun state m c.args.count s (Err c.in_err-first.field-0.0) (seen l.self new.caches new.file l.list)) l.invariant.1
+    (search-refused state s (seen l.self l.caches l.file l.list) l.invariant.0 (mark_of l.self) c.args.count c.in_err-first.field-0.0 new.caches new.file c.in_err-first.ensures))
 
-pub returns-in-Err-last_index-clause-readies : goal.returns-in-Err-last_index-clause-readies
-returns-in-Err-last_index-clause-readies g c =
+pub returns-in_err-last_index-clause-readies : goal.returns-in_err-last_index-clause-readies
+returns-in_err-last_index-clause-readies g c = rw (handed-on _ _ c.from_residual-in_err-last_index.ensures.1) (
     let s = seen c.args.self.now c.args.caches.now c.args.file.now c.args.list.now in
     let state = g.S.Storage.state in
     let l = c.loop-first in
     let so_far = seen l.self l.caches l.file l.list in
     let new = c.find_run.new in
-    subst (λ (m : ℕ). ReadiesRun state m c.args.count s (Err c.in-Err-last_index.fault) (seen l.self new.caches new.file l.list)) l.invariant.1
-    (unfit-refused state s so_far l.invariant.0 (mark_of l.self) c.args.count c.in-Ok.first c.requires.some new.caches new.file c.in-Ok.ensures
-    c.in-Err-last_index.fault c.in-Err-last_index.ensures.err
-    (subst (λ (m : ℕ). Stays state s m c.args.count so_far) (sym l.invariant.1) l.invariant.4))
+    subst (λ (m : ℕ). ReadiesRun state m c.args.count s (Err c.in_err-last_index.field-0.0) (seen l.self new.caches new.file l.list)) l.invariant.1
+    (unfit-refused state s so_far l.invariant.0 (mark_of l.self) c.args.count c.in_ok-first.first c.requires.some new.caches new.file c.in_ok-first.ensures
+    c.in_err-last_index.field-0.0 c.in_err-last_index.ensures.err
+    (subst (λ (m : ℕ). Stays state s m c.args.count so_far) (sym l.invariant.1) l.invariant.4)))
 
 yes-true : (b : Bool) → b ≡ true → IsTrue b
 yes-true true is = refl
@@ -52,9 +53,9 @@ returns-then-has_grown_short_of-clause-readies g c =
     let short = c.has_grown_short_of.ensures.0 (yes-true c.has_grown_short_of.result c.if-has_grown_short_of.true) in
     let more = short.0 in
     let less = short.1 in
-    let index = c.in-Ok-last_index.ensures.index in
+    let index = c.in_ok-last_index.ensures.index in
     subst (λ (m : ℕ). ReadiesRun state m c.args.count s (Err (Limit c.saturating_add.result)) (seen l.self new.caches new.file l.list)) l.invariant.1
-    (grown-refused state s so_far l.invariant.0 (mark_of l.self) c.args.count c.in-Ok.first c.requires.some new.caches new.file c.in-Ok.ensures
+    (grown-refused state s so_far l.invariant.0 (mark_of l.self) c.args.count c.in_ok-first.first c.requires.some new.caches new.file c.in_ok-first.ensures
     c.saturating_add.result (subst (λ (z : ℕ). c.saturating_add.result ≡ last_number z c.args.count) c.first.view_is c.saturating_add.ensures) (omega (arith, long, more)) (omega (arith, less, index))
     (subst (λ (m : ℕ). Stays state s m c.args.count so_far) (sym l.invariant.1) l.invariant.4))
 
@@ -68,8 +69,8 @@ covers entries now last first short not said is longer = elim (cases_lt last now
 pub loop-first-smaller : goal.loop-first-smaller
 loop-first-smaller g c =
     let l = c.loop-first in
-    let made = c.in-Ok-true.ensures in
-    turns-fewer (table_of l.self) (table_of c.ready_blocks.new.self) made.short (made.readies.further c.in-Ok-true.field-0-test)
+    let made = c.in_ok-ready_blocks.ensures in
+    turns-fewer (table_of l.self) (table_of c.ready_blocks.new.self) made.short (made.readies.further c.if-not-branch.false)
 
 pub loop-first-preserved : goal.loop-first-preserved
 loop-first-preserved g c =
@@ -80,29 +81,29 @@ loop-first-preserved g c =
     let searched = c.find_run.new in
     let new = c.ready_blocks.new in
     let s' = seen new.self new.caches new.file new.list in
-    let made = c.in-Ok-true.ensures in
+    let made = c.in_ok-ready_blocks.ensures in
     let bits = c.rb_bits.ensures in
     let k = counters_of_block searched.file.header.fields in
-    let at = c.in-Ok-last_index.index + (c.args.count / k + 2) in
-    let found = readying-searched state s so_far l.invariant.0 (mark_of l.self) c.args.count c.in-Ok.first searched.caches searched.file c.in-Ok.ensures in
-    let kept = stays-found state s so_far l.invariant.0 (mark_of l.self) c.args.count c.in-Ok.first c.requires.some searched.caches searched.file c.in-Ok.ensures
+    let at = c.in_ok-last_index.last_index + (c.args.count / k + 2) in
+    let found = readying-searched state s so_far l.invariant.0 (mark_of l.self) c.args.count c.in_ok-first.first searched.caches searched.file c.in_ok-first.ensures in
+    let kept = stays-found state s so_far l.invariant.0 (mark_of l.self) c.args.count c.in_ok-first.first c.requires.some searched.caches searched.file c.in_ok-first.ensures
     (subst (λ (m : ℕ). Stays state s m c.args.count so_far) (sym l.invariant.1) l.invariant.4) in
-    let index : c.rt_index-first_index.result ≡ c.in-Ok.first / k = c.rt_index-first_index.ensures ∙ ap (λ (m : ℕ). c.in-Ok.first / m) bits.entries in
-    let readies = subst (λ (b : Bool). ReadiesBlocks state (mark_of l.self) at c.rt_index-first_index.result c.in-Ok-last_index.index (seen l.self searched.caches searched.file l.list) (Ok b) s') c.in-Ok-true.field-0-test made.readies in (
+    let index : c.rt_index-first_index.result ≡ c.in_ok-first.first / k = c.rt_index-first_index.ensures ∙ ap (λ (m : ℕ). c.in_ok-first.first / m) bits.entries in
+    let readies = subst (λ (b : Bool). ReadiesBlocks state (mark_of l.self) at c.rt_index-first_index.result c.in_ok-last_index.last_index (seen l.self searched.caches searched.file l.list) (Ok b) s') c.if-not-branch.false made.readies in (
       readying-made state s (seen l.self searched.caches searched.file l.list) found
-          (mark_of l.self) at c.rt_index-first_index.result c.in-Ok-last_index.index true s' readies
-          (covers _ (length (table_of l.self).words) c.in-Ok-last_index.index (length (table_of c.args.self.now).words) c.has_grown_short_of.result c.if-has_grown_short_of.false (λ a b. c.has_grown_short_of.ensures.1 (a, b)) l.invariant.3),
+          (mark_of l.self) at c.rt_index-first_index.result c.in_ok-last_index.last_index true s' readies
+          (covers _ (length (table_of l.self).words) c.in_ok-last_index.last_index (length (table_of c.args.self.now).words) c.has_grown_short_of.result c.if-has_grown_short_of.false (λ a b. c.has_grown_short_of.ensures.1 (a, b)) l.invariant.3),
       made.mark ∙ l.invariant.1,
       made.held ∙ l.invariant.2,
       l.invariant.3,
       subst (λ (m : ℕ). Stays state s m c.args.count s') l.invariant.1
-          (stays-on state s (seen l.self searched.caches searched.file l.list) found (mark_of l.self) c.args.count c.in-Ok.first c.rt_index-first_index.result c.in-Ok-last_index.index c.requires.some
-          (found-run state s so_far l.invariant.0 (mark_of l.self) c.args.count c.in-Ok.first c.requires.some searched.caches searched.file c.in-Ok.ensures)
-          index c.in-Ok-last_index.ensures.index kept s' readies),
+          (stays-on state s (seen l.self searched.caches searched.file l.list) found (mark_of l.self) c.args.count c.in_ok-first.first c.rt_index-first_index.result c.in_ok-last_index.last_index c.requires.some
+          (found-run state s so_far l.invariant.0 (mark_of l.self) c.args.count c.in_ok-first.first c.requires.some searched.caches searched.file c.in_ok-first.ensures)
+          index c.in_ok-last_index.ensures.index kept s' readies),
     )
 
-pub returns-in-Ok-false-clause-readies : goal.returns-in-Ok-false-clause-readies
-returns-in-Ok-false-clause-readies g c =
+pub returns-then-not-branch-clause-readies : goal.returns-then-not-branch-clause-readies
+returns-then-not-branch-clause-readies g c =
     let s = seen c.args.self.now c.args.caches.now c.args.file.now c.args.list.now in
     let state = g.S.Storage.state in
     let l = c.loop-first in
@@ -111,30 +112,30 @@ returns-in-Ok-false-clause-readies g c =
     let new = c.ready_blocks.new in
     let s' = seen new.self new.caches new.file new.list in
     let k = counters_of_block searched.file.header.fields in
-    let at = c.in-Ok-last_index.index + (c.args.count / k + 2) in
+    let at = c.in_ok-last_index.last_index + (c.args.count / k + 2) in
     let bits = c.rb_bits.ensures in
-    let index : c.rt_index-first_index.result ≡ c.in-Ok.first / k = c.rt_index-first_index.ensures ∙ ap (λ (m : ℕ). c.in-Ok.first / m) bits.entries in
-    let last = c.in-Ok-last_index.ensures in
-    let made = c.in-Ok-false.ensures in
-    let found = readying-searched state s so_far l.invariant.0 (mark_of l.self) c.args.count c.in-Ok.first searched.caches searched.file
-    c.in-Ok.ensures in
+    let index : c.rt_index-first_index.result ≡ c.in_ok-first.first / k = c.rt_index-first_index.ensures ∙ ap (λ (m : ℕ). c.in_ok-first.first / m) bits.entries in
+    let last = c.in_ok-last_index.ensures in
+    let made = c.in_ok-ready_blocks.ensures in
+    let found = readying-searched state s so_far l.invariant.0 (mark_of l.self) c.args.count c.in_ok-first.first searched.caches searched.file
+    c.in_ok-first.ensures in
     let done = readying-made state s (seen l.self searched.caches searched.file l.list) found
-    (mark_of l.self) at c.rt_index-first_index.result c.in-Ok-last_index.index c.in-Ok-false.field-0 s' made.readies
-    (covers _ (length (table_of l.self).words) c.in-Ok-last_index.index (length (table_of c.args.self.now).words) c.has_grown_short_of.result c.if-has_grown_short_of.false (λ a b. c.has_grown_short_of.ensures.1 (a, b)) l.invariant.3) in
-    let none : ReadiesBlocks state (mark_of l.self) at (c.in-Ok.first / k) c.in-Ok-last_index.index (seen l.self searched.caches searched.file l.list) (Ok false) s' =
-    subst (λ (m : ℕ). ReadiesBlocks state (mark_of l.self) at m c.in-Ok-last_index.index (seen l.self searched.caches searched.file l.list) (Ok false) s') index
-    (subst (λ (b : Bool). ReadiesBlocks state (mark_of l.self) at c.rt_index-first_index.result c.in-Ok-last_index.index (seen l.self searched.caches searched.file l.list) (Ok b) s') c.in-Ok-false.field-0-test made.readies) in
-    subst (λ (m : ℕ). ReadiesRun state m c.args.count s (Ok c.in-Ok.first) s') l.invariant.1
-    (run-ready state s so_far l.invariant.0 (mark_of l.self) c.args.count c.in-Ok.first c.requires.some searched.caches searched.file c.in-Ok.ensures
-    s' k c.in-Ok-last_index.index refl at none done
+    (mark_of l.self) at c.rt_index-first_index.result c.in_ok-last_index.last_index c.in_ok-ready_blocks.field-0 s' made.readies
+    (covers _ (length (table_of l.self).words) c.in_ok-last_index.last_index (length (table_of c.args.self.now).words) c.has_grown_short_of.result c.if-has_grown_short_of.false (λ a b. c.has_grown_short_of.ensures.1 (a, b)) l.invariant.3) in
+    let none : ReadiesBlocks state (mark_of l.self) at (c.in_ok-first.first / k) c.in_ok-last_index.last_index (seen l.self searched.caches searched.file l.list) (Ok false) s' =
+    subst (λ (m : ℕ). ReadiesBlocks state (mark_of l.self) at m c.in_ok-last_index.last_index (seen l.self searched.caches searched.file l.list) (Ok false) s') index
+    (subst (λ (b : Bool). ReadiesBlocks state (mark_of l.self) at c.rt_index-first_index.result c.in_ok-last_index.last_index (seen l.self searched.caches searched.file l.list) (Ok b) s') c.if-not-branch.true made.readies) in
+    subst (λ (m : ℕ). ReadiesRun state m c.args.count s (Ok c.in_ok-first.first) s') l.invariant.1
+    (run-ready state s so_far l.invariant.0 (mark_of l.self) c.args.count c.in_ok-first.first c.requires.some searched.caches searched.file c.in_ok-first.ensures
+    s' k c.in_ok-last_index.last_index refl at none done
     (subst (λ (m : ℕ). Stays state s m c.args.count so_far) (sym l.invariant.1) l.invariant.4)
     (wide c.rb_bits.result k bits.entries) last.start last.reach last.index)
   where
     wide : (bits k : ℕ) → 2 ^ bits ≡ k → 0 < k
     wide bits k size = let some = pow_pos bits in omega (arith, some, size)
 
-pub returns-in-Err-ready_blocks-clause-readies : goal.returns-in-Err-ready_blocks-clause-readies
-returns-in-Err-ready_blocks-clause-readies g c =
+pub returns-in_err-ready_blocks-clause-readies : goal.returns-in_err-ready_blocks-clause-readies
+returns-in_err-ready_blocks-clause-readies g c = rw (handed-on _ _ c.from_residual-in_err-ready_blocks.ensures.1) (
     let s = seen c.args.self.now c.args.caches.now c.args.file.now c.args.list.now in
     let state = g.S.Storage.state in
     let l = c.loop-first in
@@ -144,13 +145,13 @@ returns-in-Err-ready_blocks-clause-readies g c =
     let s' = seen new.self new.caches new.file new.list in
     let bits = c.rb_bits.ensures in
     let k = counters_of_block searched.file.header.fields in
-    let index : c.rt_index-first_index.result ≡ c.in-Ok.first / k = c.rt_index-first_index.ensures ∙ ap (λ (m : ℕ). c.in-Ok.first / m) bits.entries in
-    let kept = stays-found state s so_far l.invariant.0 (mark_of l.self) c.args.count c.in-Ok.first c.requires.some searched.caches searched.file c.in-Ok.ensures
+    let index : c.rt_index-first_index.result ≡ c.in_ok-first.first / k = c.rt_index-first_index.ensures ∙ ap (λ (m : ℕ). c.in_ok-first.first / m) bits.entries in
+    let kept = stays-found state s so_far l.invariant.0 (mark_of l.self) c.args.count c.in_ok-first.first c.requires.some searched.caches searched.file c.in_ok-first.ensures
     (subst (λ (m : ℕ). Stays state s m c.args.count so_far) (sym l.invariant.1) l.invariant.4) in
-    subst (λ (m : ℕ). ReadiesRun state m c.args.count s (Err c.in-Err-ready_blocks.fault) s') l.invariant.1
+    subst (λ (m : ℕ). ReadiesRun state m c.args.count s (Err c.in_err-ready_blocks.field-0.0) s') l.invariant.1
     (making-refused state s (seen l.self searched.caches searched.file l.list)
-    (readying-searched state s so_far l.invariant.0 (mark_of l.self) c.args.count c.in-Ok.first searched.caches searched.file c.in-Ok.ensures)
-    (mark_of l.self) c.args.count c.in-Ok.first c.rt_index-first_index.result c.in-Ok-last_index.index c.requires.some
-    (found-run state s so_far l.invariant.0 (mark_of l.self) c.args.count c.in-Ok.first c.requires.some searched.caches searched.file c.in-Ok.ensures)
-    index c.in-Ok-last_index.ensures.index c.in-Ok-last_index.ensures.reach kept c.in-Err-ready_blocks.fault s' c.in-Err-ready_blocks.ensures.readies
-    (covers _ (length (table_of l.self).words) c.in-Ok-last_index.index (length (table_of c.args.self.now).words) c.has_grown_short_of.result c.if-has_grown_short_of.false (λ a b. c.has_grown_short_of.ensures.1 (a, b)) l.invariant.3))
+    (readying-searched state s so_far l.invariant.0 (mark_of l.self) c.args.count c.in_ok-first.first searched.caches searched.file c.in_ok-first.ensures)
+    (mark_of l.self) c.args.count c.in_ok-first.first c.rt_index-first_index.result c.in_ok-last_index.last_index c.requires.some
+    (found-run state s so_far l.invariant.0 (mark_of l.self) c.args.count c.in_ok-first.first c.requires.some searched.caches searched.file c.in_ok-first.ensures)
+    index c.in_ok-last_index.ensures.index c.in_ok-last_index.ensures.reach kept c.in_err-ready_blocks.field-0.0 s' c.in_err-ready_blocks.ensures.readies
+    (covers _ (length (table_of l.self).words) c.in_ok-last_index.last_index (length (table_of c.args.self.now).words) c.has_grown_short_of.result c.if-has_grown_short_of.false (λ a b. c.has_grown_short_of.ensures.1 (a, b)) l.invariant.3)))
