@@ -37,18 +37,11 @@ impl Allocator {
         if count == ClusterCount(0) {
             return Ok(pending_run(self.first_free_cluster, count, metadata));
         }
-        let first = match self.ready_run(file, caches, list, count.0) {
-            Ok(first) => first,
-            Err(fault) => return Err(fault),
-        };
-        match self.count_run(file, caches, first, count.0) {
-            Ok(()) => {
-                self.first_free_cluster = next_mark(self.first_free_cluster, first, count);
-                Ok(pending_run(first, count, metadata))
-            }
-            // What was counted of the run leaks.
-            Err(fault) => Err(fault),
-        }
+        let first = self.ready_run(file, caches, list, count.0)?;
+        // Where this refuses, what was counted of the run leaks.
+        self.count_run(file, caches, first, count.0)?;
+        self.first_free_cluster = next_mark(self.first_free_cluster, first, count);
+        Ok(pending_run(first, count, metadata))
     }
 
     /// Hands out so many clusters in a row, for metadata or for the guest's data: first what waits on the list is freed, by
@@ -80,9 +73,7 @@ impl Allocator {
             (seen self.old caches.old file.old list.old) result (seen self.new caches.new file.new list.new) (mark_of self.new) }
         ensures held { list.new.held ≡ held_by result list.old.held }
     {
-        if let Err(fault) = list.hold() {
-            return Err(fault);
-        }
+        list.hold()?;
         match self.free_and_allocate(file, caches, list, count, metadata) {
             Ok(pending) => Ok(pending),
             Err(fault) => {
@@ -114,9 +105,7 @@ impl Allocator {
             (seen self.old caches.old file.old list.old) result (seen self.new caches.new file.new list.new) (mark_of self.new) }
         ensures held { list.new.held ≡ held_at result list.old.held }
     {
-        if let Err(fault) = list.hold() {
-            return Err(fault);
-        }
+        list.hold()?;
         match self.announce_and_allocate_at(file, caches, list, cluster) {
             Ok(Some(pending)) => Ok(Some(pending)),
             Ok(None) => {
@@ -157,13 +146,8 @@ impl Allocator {
         ensures mark { mark_of self.new ≡ mark_of self.old }
         ensures held { list.new.held ≡ list.old.held }
     {
-        let copy = match self.grown_copy(&file.header, index) {
-            Ok(copy) => copy,
-            Err(fault) => return Err(fault),
-        };
-        if let Err(fault) = list.hold() {
-            return Err(fault);
-        }
+        let copy = self.grown_copy(&file.header, index)?;
+        list.hold()?;
         match caches.l2_depends_on_rb(file) {
             Ok(()) => self.place_grown(file, caches, list, copy),
             Err(fault) => {
@@ -186,13 +170,9 @@ impl Allocator {
             (seen self.old caches.old file.old list.old) result (seen self.new caches.new file.new list.new) (mark_of self.new) }
         ensures held { list.new.held ≡ list.old.held }
     {
-        if let Err(fault) = self.process_clusters_to_free(file, caches, list) {
-            return Err(fault);
-        }
-        match caches.l2_depends_on_rb(file) {
-            Ok(()) => self.allocate(file, caches, list, count, metadata),
-            Err(fault) => Err(fault),
-        }
+        self.process_clusters_to_free(file, caches, list)?;
+        caches.l2_depends_on_rb(file)?;
+        self.allocate(file, caches, list, count, metadata)
     }
 
     // Announces the order, and hands out a cluster where it is free. The list holds room for its entry already.
@@ -207,10 +187,8 @@ impl Allocator {
             (seen self.old caches.old file.old list.old) result (seen self.new caches.new file.new list.new) (mark_of self.new) }
         ensures held { list.new.held ≡ list.old.held }
     {
-        match caches.l2_depends_on_rb(file) {
-            Ok(()) => self.allocate_at(file, caches, list, cluster),
-            Err(fault) => Err(fault),
-        }
+        caches.l2_depends_on_rb(file)?;
+        self.allocate_at(file, caches, list, cluster)
     }
 
     // Hands out a cluster where it is free, while blocks are written before tables.
@@ -228,11 +206,10 @@ impl Allocator {
         if !is_in_reach(cluster, file.header.cluster_bits()) {
             return Ok(None);
         }
-        match self.ensure_counter(file, caches, list, cluster) {
-            Ok(true) => self.allocate_one(file, caches, cluster),
-            Ok(false) => Ok(None),
-            Err(fault) => Err(fault),
+        if !self.ensure_counter(file, caches, list, cluster)? {
+            return Ok(None);
         }
+        self.allocate_one(file, caches, cluster)
     }
 
     // Lets the refcount table grow until it has a word for a cluster. It answers whether there is one: none is where there is no place
@@ -280,17 +257,12 @@ impl Allocator {
         ensures mark { mark_of self.new ≡ mark_of self.old }
         ensures held { list.new.held ≡ list.old.held }
     {
-        match self.ensure_word(file, caches, list, cluster) {
-            Ok(true) => {
-                let index = cluster.rt_index(file.header.rb_bits());
-                match self.ensure_blocks(file, caches, index, index + 1) {
-                    Ok(_made) => Ok(true),
-                    Err(fault) => Err(fault),
-                }
-            }
-            Ok(false) => Ok(false),
-            Err(fault) => Err(fault),
+        if !self.ensure_word(file, caches, list, cluster)? {
+            return Ok(false);
         }
+        let index = cluster.rt_index(file.header.rb_bits());
+        let _made = self.ensure_blocks(file, caches, index, index + 1)?;
+        Ok(true)
     }
 
     // Hands out a cluster that a block counts, where it is free.
@@ -307,10 +279,7 @@ impl Allocator {
             (lent (table_of self.old) caches.new file.new pending) (mark_of self.new) }
         ensures table { table_of self.new ≡ table_of self.old }
     {
-        let found = match self.find_in_block(file, caches, cluster) {
-            Ok(found) => found,
-            Err(fault) => return Err(fault),
-        };
+        let found = self.find_in_block(file, caches, cluster)?;
         if found != Some(cluster) {
             return Ok(None);
         }
@@ -335,16 +304,12 @@ impl Allocator {
         if cluster == HostCluster(0) {
             return Err(Fault::DamagedTable);
         }
-        match self.count_cluster(file, caches, cluster) {
-            Ok(()) => {
-                if cluster == self.first_free_cluster {
-                    self.first_free_cluster = HostCluster(cluster.0 + 1);
-                }
-                let entry = ClustersToFreeEntry::data(cluster, ClusterCount(1));
-                Ok(Some(PendingClusters::new(entry)))
-            }
-            Err(fault) => Err(fault),
+        self.count_cluster(file, caches, cluster)?;
+        if cluster == self.first_free_cluster {
+            self.first_free_cluster = HostCluster(cluster.0 + 1);
         }
+        let entry = ClustersToFreeEntry::data(cluster, ClusterCount(1));
+        Ok(Some(PendingClusters::new(entry)))
     }
 }
 

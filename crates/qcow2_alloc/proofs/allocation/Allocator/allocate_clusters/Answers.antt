@@ -6,32 +6,33 @@ use Rattle.qcow2_alloc.specs.FreeList.{FreeList}
 use Rattle.qcow2_alloc.specs.HandingOut.{AllocatesClusters}
 use Rattle.qcow2_alloc.specs.State.{lent, seen}
 use Rattle.qcow2_alloc.proofs.Handing.HandingOut.{refused_run, run_so, run-not-held}
+use Rattle.qcow2_alloc.proofs.Faults.{handed-on}
 use Rattle.qcow2_alloc.proofs.allocation.Allocator.allocate_clusters.Goals as goal
 
-pub returns-in-Err-clause-allocates : goal.returns-in-Err-clause-allocates
-returns-in-Err-clause-allocates g c =
+pub returns-in_err-hold-clause-allocates : goal.returns-in_err-hold-clause-allocates
+returns-in_err-hold-clause-allocates g c = rw (handed-on _ _ c.from_residual.ensures.1) (
     let state = g.S.Storage.state in
     let mark = mark_of c.args.self.now in
     let t = table_of c.args.self.now in
     let entries = c.args.list.now.entries in
-    let refused = c.in-Err.ensures.err in
-    subst (λ (l : FreeList). AllocatesClusters state mark c.args.count c.args.metadata (lent t c.args.caches.now c.args.file.now entries) (refused_run c.in-Err.fault) (lent t c.args.caches.now c.args.file.now l.entries) mark) (sym refused.1)
+    let refused = c.in_err-hold.ensures.err in
+    subst (λ (l : FreeList). AllocatesClusters state mark c.args.count c.args.metadata (lent t c.args.caches.now c.args.file.now entries) (refused_run c.in_err-hold.field-0.0) (lent t c.args.caches.now c.args.file.now l.entries) mark) (sym refused.1)
     (subst (λ (f : Fault). AllocatesClusters state mark c.args.count c.args.metadata (lent t c.args.caches.now c.args.file.now entries) (refused_run f) (lent t c.args.caches.now c.args.file.now entries) mark) (sym refused.0)
-    (run-not-held state mark c.args.count c.args.metadata (lent t c.args.caches.now c.args.file.now entries)))
+    (run-not-held state mark c.args.count c.args.metadata (lent t c.args.caches.now c.args.file.now entries))))
 
 pub returns-in-Ok-clause-allocates : goal.returns-in-Ok-clause-allocates
 returns-in-Ok-clause-allocates g c =
     let state = g.S.Storage.state in
     let new = c.free_and_allocate.new in
     subst (λ (l : FreeList). AllocatesClusters state (mark_of c.args.self.now) c.args.count c.args.metadata (seen c.args.self.now c.args.caches.now c.args.file.now l) (run_so c.in-Ok.pending) (seen new.self new.caches new.file new.list) (mark_of new.self))
-    c.in_default.ensures.ok c.in-Ok.ensures.allocates
+    c.in_ok-hold.ensures.ok c.in-Ok.ensures.allocates
 
-pub returns-in-Err-free_and_allocate-clause-allocates : goal.returns-in-Err-free_and_allocate-clause-allocates
-returns-in-Err-free_and_allocate-clause-allocates g c =
+pub returns-in-Err-clause-allocates : goal.returns-in-Err-clause-allocates
+returns-in-Err-clause-allocates g c =
     let state = g.S.Storage.state in
     let new = c.free_and_allocate.new in
-    let fault = c.in-Err-free_and_allocate.fault in
+    let fault = c.in-Err.fault in
     let still : c.release.new.self.entries ≡ new.list.entries = ap (λ (l : FreeList). l.entries) c.release.ensures in
     subst (λ (es : List FreeEntry). AllocatesClusters state (mark_of c.args.self.now) c.args.count c.args.metadata (seen c.args.self.now c.args.caches.now c.args.file.now c.args.list.now) (refused_run fault) (lent (table_of new.self) new.caches new.file es) (mark_of new.self)) (sym still)
     (subst (λ (l : FreeList). AllocatesClusters state (mark_of c.args.self.now) c.args.count c.args.metadata (seen c.args.self.now c.args.caches.now c.args.file.now l) (refused_run fault) (seen new.self new.caches new.file new.list) (mark_of new.self))
-    c.in_default.ensures.ok c.in-Err-free_and_allocate.ensures.allocates)
+    c.in_ok-hold.ensures.ok c.in-Err.ensures.allocates)

@@ -4,25 +4,26 @@ use Rattle.qcow2_alloc.proofs.Handing.AnnouncedOrders.{announced}
 use Rattle.qcow2_alloc.proofs.Blocks.CountingClusters.{succeeded}
 use Rattle.qcow2_alloc.proofs.Freeing.FreeingEntries.{failed}
 use Rattle.qcow2_alloc.proofs.Handing.HandingOut.{at-not-announced, at-announced}
+use Rattle.qcow2_alloc.proofs.Faults.{handed-on}
 use Rattle.qcow2_alloc.proofs.allocation.Allocator.announce_and_allocate_at.Goals as goal
 
-pub returns-in-Ok-clause-allocates : goal.returns-in-Ok-clause-allocates
-returns-in-Ok-clause-allocates g c =
+pub returns-clause-allocates : goal.returns-clause-allocates
+returns-clause-allocates g c =
     let state = g.S.Storage.state in
     let t = table_of c.args.self.now in
     let entries = c.args.list.now.entries in
     let a = c.l2_depends_on_rb.new in
     let new = c.allocate_at.new in
-    let done = c.in-Ok.ensures in
+    let done = c.in_ok-l2_depends_on_rb.ensures in
     let first = announced state (lent t c.args.caches.now c.args.file.now entries) a.self a.file done.kept done.blocks done.header done.room succeeded done.going done.announced done.safe done.cause done.faults in
     at-announced state (mark_of c.args.self.now) c.args.cluster (lent t c.args.caches.now c.args.file.now entries) a.self a.file first c.allocate_at.result (seen new.self new.caches new.file new.list) (mark_of new.self) c.allocate_at.ensures.allocates
 
-pub returns-in-Err-clause-allocates : goal.returns-in-Err-clause-allocates
-returns-in-Err-clause-allocates g c =
+pub returns-in_err-l2_depends_on_rb-clause-allocates : goal.returns-in_err-l2_depends_on_rb-clause-allocates
+returns-in_err-l2_depends_on_rb-clause-allocates g c = rw (handed-on _ _ c.from_residual.ensures.1) (
     let state = g.S.Storage.state in
     let t = table_of c.args.self.now in
     let entries = c.args.list.now.entries in
     let a = c.l2_depends_on_rb.new in
-    let done = c.in-Err.ensures in
-    at-not-announced state (mark_of c.args.self.now) c.args.cluster (lent t c.args.caches.now c.args.file.now entries) a.self a.file c.in-Err.fault
-    (announced state (lent t c.args.caches.now c.args.file.now entries) a.self a.file done.kept done.blocks done.header done.room (failed c.in-Err.fault) done.going tt tt done.cause done.faults)
+    let done = c.in_err-l2_depends_on_rb.ensures in
+    at-not-announced state (mark_of c.args.self.now) c.args.cluster (lent t c.args.caches.now c.args.file.now entries) a.self a.file c.in_err-l2_depends_on_rb.field-0.0
+    (announced state (lent t c.args.caches.now c.args.file.now entries) a.self a.file done.kept done.blocks done.header done.room (failed c.in_err-l2_depends_on_rb.field-0.0) done.going tt tt done.cause done.faults))

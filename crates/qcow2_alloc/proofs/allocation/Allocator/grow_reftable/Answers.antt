@@ -13,47 +13,48 @@ use Rattle.qcow2_alloc.proofs.Handing.AnnouncedOrders.{announced}
 use Rattle.qcow2_alloc.proofs.Blocks.CountingClusters.{succeeded}
 use Rattle.qcow2_alloc.proofs.Freeing.FreeingEntries.{failed}
 use Rattle.qcow2_alloc.proofs.Growth.GrowingReftables.{not-copied, not-announced, announced-grows}
+use Rattle.qcow2_alloc.proofs.Faults.{handed-on}
 use Rattle.qcow2_alloc.proofs.allocation.Allocator.grow_reftable.Goals as goal
 
-pub returns-in-Err-clause-grows : goal.returns-in-Err-clause-grows
-returns-in-Err-clause-grows g c =
-    not-copied g.S.Storage.state (mark_of c.args.self.now) c.args.index (seen c.args.self.now c.args.caches.now c.args.file.now c.args.list.now) c.args.caches.now c.args.file.now c.in-Err.fault c.in-Err.ensures.err
+pub returns-in_err-copy-clause-grows : goal.returns-in_err-copy-clause-grows
+returns-in_err-copy-clause-grows g c = rw (handed-on _ _ c.from_residual.ensures.1) (
+    not-copied g.S.Storage.state (mark_of c.args.self.now) c.args.index (seen c.args.self.now c.args.caches.now c.args.file.now c.args.list.now) c.args.caches.now c.args.file.now c.in_err-copy.field-0.0 c.in_err-copy.ensures.err)
 
-pub returns-in-Err-hold-clause-grows : goal.returns-in-Err-hold-clause-grows
-returns-in-Err-hold-clause-grows g c =
+pub returns-in_err-hold-clause-grows : goal.returns-in_err-hold-clause-grows
+returns-in_err-hold-clause-grows g c = rw (handed-on _ _ c.from_residual-in_err-hold.ensures.1) (
     let state = g.S.Storage.state in
     let t = table_of c.args.self.now in
     let entries = c.args.list.now.entries in
-    let refused = c.in-Err-hold.ensures.err in
-    subst (λ (l : FreeList). GrowsReftable state (mark_of c.args.self.now) c.args.index (lent t c.args.caches.now c.args.file.now entries) (failed c.in-Err-hold.fault) (lent t c.args.caches.now c.args.file.now l.entries)) (sym refused.1)
+    let refused = c.in_err-hold.ensures.err in
+    subst (λ (l : FreeList). GrowsReftable state (mark_of c.args.self.now) c.args.index (lent t c.args.caches.now c.args.file.now entries) (failed c.in_err-hold.field-0.0) (lent t c.args.caches.now c.args.file.now l.entries)) (sym refused.1)
     (subst (λ (f : Fault). GrowsReftable state (mark_of c.args.self.now) c.args.index (lent t c.args.caches.now c.args.file.now entries) (failed f) (lent t c.args.caches.now c.args.file.now entries)) (sym refused.0)
-    (not-copied state (mark_of c.args.self.now) c.args.index (lent t c.args.caches.now c.args.file.now entries) c.args.caches.now c.args.file.now Memory tt))
+    (not-copied state (mark_of c.args.self.now) c.args.index (lent t c.args.caches.now c.args.file.now entries) c.args.caches.now c.args.file.now Memory tt)))
 
 pub place_grown-requires-clause-grown : goal.place_grown-requires-clause-grown
-place_grown-requires-clause-grown g c = (c.args.index, c.requires.past, subst (λ (H : Header). IsGrownFor H.fields (table_of c.args.self.now) c.args.index c.in-Ok.copy) (sym c.in-Ok-l2_depends_on_rb.ensures.header) c.in-Ok.ensures.ok)
+place_grown-requires-clause-grown g c = (c.args.index, c.requires.past, subst (λ (H : Header). IsGrownFor H.fields (table_of c.args.self.now) c.args.index c.in_ok-copy.copy) (sym c.in-Ok.ensures.header) c.in_ok-copy.ensures.ok)
 
-pub returns-in-Ok-l2_depends_on_rb-clause-grows : goal.returns-in-Ok-l2_depends_on_rb-clause-grows
-returns-in-Ok-l2_depends_on_rb-clause-grows g c =
+pub returns-in-Ok-clause-grows : goal.returns-in-Ok-clause-grows
+returns-in-Ok-clause-grows g c =
     let state = g.S.Storage.state in
     let t = table_of c.args.self.now in
     let entries = c.args.list.now.entries in
     let a = c.l2_depends_on_rb.new in
     let new = c.place_grown.new in
     let s' = seen new.self new.caches new.file new.list in
-    let done = c.in-Ok-l2_depends_on_rb.ensures in
+    let done = c.in-Ok.ensures in
     let first = announced state (lent t c.args.caches.now c.args.file.now entries) a.self a.file done.kept done.blocks done.header done.room succeeded done.going done.announced done.safe done.cause done.faults in
-    let grown = subst (λ (H : Header). IsGrownFor H.fields t c.args.index c.in-Ok.copy) (sym done.header) c.in-Ok.ensures.ok in
-    let grows = subst (λ (l : FreeList). GrowsTable state (mark_of c.args.self.now) c.args.index (lent t a.self a.file l.entries) c.place_grown.result s') c.in_default.ensures.ok (c.place_grown.ensures.grows c.args.index grown) in
+    let grown = subst (λ (H : Header). IsGrownFor H.fields t c.args.index c.in_ok-copy.copy) (sym done.header) c.in_ok-copy.ensures.ok in
+    let grows = subst (λ (l : FreeList). GrowsTable state (mark_of c.args.self.now) c.args.index (lent t a.self a.file l.entries) c.place_grown.result s') c.in_ok-hold.ensures.ok (c.place_grown.ensures.grows c.args.index grown) in
     announced-grows state (mark_of c.args.self.now) c.args.index (lent t c.args.caches.now c.args.file.now entries) a.self a.file first c.place_grown.result s' grows
 
-pub returns-in-Err-l2_depends_on_rb-clause-grows : goal.returns-in-Err-l2_depends_on_rb-clause-grows
-returns-in-Err-l2_depends_on_rb-clause-grows g c =
+pub returns-in-Err-clause-grows : goal.returns-in-Err-clause-grows
+returns-in-Err-clause-grows g c =
     let state = g.S.Storage.state in
     let t = table_of c.args.self.now in
     let entries = c.args.list.now.entries in
     let a = c.l2_depends_on_rb.new in
-    let done = c.in-Err-l2_depends_on_rb.ensures in
-    let still = ap (λ (l : FreeList). l.entries) c.release.ensures ∙ ap (λ (l : FreeList). l.entries) c.in_default.ensures.ok in
-    subst (λ (es : List FreeEntry). GrowsReftable state (mark_of c.args.self.now) c.args.index (lent t c.args.caches.now c.args.file.now entries) (failed c.in-Err-l2_depends_on_rb.fault) (lent t a.self a.file es)) (sym still)
-    (not-announced state (mark_of c.args.self.now) c.args.index (lent t c.args.caches.now c.args.file.now entries) a.self a.file c.in-Err-l2_depends_on_rb.fault
-    (announced state (lent t c.args.caches.now c.args.file.now entries) a.self a.file done.kept done.blocks done.header done.room (failed c.in-Err-l2_depends_on_rb.fault) done.going tt tt done.cause done.faults))
+    let done = c.in-Err.ensures in
+    let still = ap (λ (l : FreeList). l.entries) c.release.ensures ∙ ap (λ (l : FreeList). l.entries) c.in_ok-hold.ensures.ok in
+    subst (λ (es : List FreeEntry). GrowsReftable state (mark_of c.args.self.now) c.args.index (lent t c.args.caches.now c.args.file.now entries) (failed c.in-Err.fault) (lent t a.self a.file es)) (sym still)
+    (not-announced state (mark_of c.args.self.now) c.args.index (lent t c.args.caches.now c.args.file.now entries) a.self a.file c.in-Err.fault
+    (announced state (lent t c.args.caches.now c.args.file.now entries) a.self a.file done.kept done.blocks done.header done.room (failed c.in-Err.fault) done.going tt tt done.cause done.faults))
