@@ -174,13 +174,9 @@ impl<K: Copy + Eq + Hash, V: Drop, B: AsyncLruCacheBackend<Key = K, Value = V>> 
         ensures evicted { Evicted K.eq B.flushes key device.old self.old.slots.entries result device.new self.new.slots.entries }
         ensures others { self.new ≡ with_entries self.old self.new.slots.entries }
     {
-        match self.flush_at(device, key) {
-            Ok(()) => {
-                self.slots.pop(&key);
-                Ok(true)
-            }
-            Err(fault) => Err(fault),
-        }
+        self.flush_at(device, key)?;
+        self.slots.pop(&key);
+        Ok(true)
     }
 
     // Puts a value in front, where its key is new and there is room.
@@ -203,12 +199,10 @@ impl<K: Copy + Eq + Hash, V: Drop, B: AsyncLruCacheBackend<Key = K, Value = V>> 
         ensures loaded { Loaded B.loads key device.old self.old.slots.entries result device.new self.new.slots.entries }
         ensures others { self.new ≡ with_entries self.old self.new.slots.entries }
     {
-        match self.backend.load(device, key) {
-            Ok(value) => match self.put_new(key, value) {
-                Ok(()) => Ok(true),
-                Err((fault, _)) => Err(fault),
-            },
-            Err(fault) => Err(fault),
+        let value = self.backend.load(device, key)?;
+        match self.put_new(key, value) {
+            Ok(()) => Ok(true),
+            Err((fault, _)) => Err(fault),
         }
     }
 
@@ -226,11 +220,10 @@ impl<K: Copy + Eq + Hash, V: Drop, B: AsyncLruCacheBackend<Key = K, Value = V>> 
         if self.slots.contains(&key) {
             return Ok(true);
         }
-        match self.make_room(device, may_flush) {
-            Ok(true) => self.load_at(device, key),
-            Ok(false) => Ok(false),
-            Err(fault) => Err(fault),
+        if !self.make_room(device, may_flush)? {
+            return Ok(false);
         }
+        self.load_at(device, key)
     }
 
     // Replaces the value at a key that is there, whose entry goes first.
