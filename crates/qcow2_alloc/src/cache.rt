@@ -45,14 +45,10 @@ impl<S: Storage> AsyncLruCacheBackend for L2CacheBackend<S> {
             return Err(Fault::DamagedTable);
         }
         let entries = device.header.l2_entries();
-        match L2Table::load(self.alloc, &mut device.image, &device.header, key, entries) {
-            Ok(table) => {
-                // Its words are those of a table.
-                let _entries = table.entries();
-                Ok(table)
-            }
-            Err(fault) => Err(fault),
-        }
+        let table = L2Table::load(self.alloc, &mut device.image, &device.header, key, entries)?;
+        // Its words are those of a table.
+        let _entries = table.entries();
+        Ok(table)
     }
 
     fn flush(
@@ -104,14 +100,10 @@ impl<S: Storage> AsyncLruCacheBackend for RefBlockCacheBackend<S> {
         if !is_in_reach(key, device.header.cluster_bits()) {
             return Err(Fault::DamagedTable);
         }
-        match RefBlock::load(self.alloc, &mut device.image, &device.header, key) {
-            Ok(block) => {
-                // Its counters fit their width.
-                let _entries = block.entries();
-                Ok(block)
-            }
-            Err(fault) => Err(fault),
-        }
+        let block = RefBlock::load(self.alloc, &mut device.image, &device.header, key)?;
+        // Its counters fit their width.
+        let _entries = block.entries();
+        Ok(block)
     }
 
     fn flush(
@@ -284,10 +276,8 @@ impl<S: Storage> MetadataCaches<S> {
             → InTurn WritesTables WritesBlocks (S.state file.old.image) (cached_in self.old) result (S.state file.new.image)
             (cached_in self.new) }
     {
-        match self.before_blocks(file) {
-            Ok(()) => self.flush_blocks(file),
-            Err(fault) => Err(fault),
-        }
+        self.before_blocks(file)?;
+        self.flush_blocks(file)
     }
 
     // Writes all modified L2 tables, and before them the modified refcount blocks where these come first.
@@ -308,10 +298,8 @@ impl<S: Storage> MetadataCaches<S> {
             → InTurn WritesBlocks WritesTables (S.state file.old.image) (cached_in self.old) result (S.state file.new.image)
             (cached_in self.new) }
     {
-        match self.before_tables(file) {
-            Ok(()) => self.flush_l2(file),
-            Err(fault) => Err(fault),
-        }
+        self.before_tables(file)?;
+        self.flush_l2(file)
     }
 
     /// Writes all modified L2 tables and refcount blocks, in the announced order, and else the tables first.
@@ -337,15 +325,11 @@ impl<S: Storage> MetadataCaches<S> {
             (cached_in self.new) }
     {
         if self.order == CacheDependency::L2DependsOnRb {
-            return match self.flush_rb(file) {
-                Ok(()) => self.flush_l2(file),
-                Err(fault) => Err(fault),
-            };
+            self.flush_rb(file)?;
+            return self.flush_l2(file);
         }
-        match self.flush_tables(file) {
-            Ok(()) => self.flush_blocks(file),
-            Err(fault) => Err(fault),
-        }
+        self.flush_tables(file)?;
+        self.flush_blocks(file)
     }
 
     /// Announces that clusters will be allocated: from now on blocks are written before tables.
@@ -372,9 +356,7 @@ impl<S: Storage> MetadataCaches<S> {
         ensures written { order_of self.old ≡ RbDependsOnL2
             → WritesTables (S.state file.old.image) (cached_in self.old) result (S.state file.new.image) (cached_in self.new) }
     {
-        if let Err(fault) = self.before_blocks(file) {
-            return Err(fault);
-        }
+        self.before_blocks(file)?;
         self.order = CacheDependency::L2DependsOnRb;
         Ok(())
     }
@@ -403,9 +385,7 @@ impl<S: Storage> MetadataCaches<S> {
         ensures written { order_of self.old ≡ L2DependsOnRb
             → WritesBlocks (S.state file.old.image) (cached_in self.old) result (S.state file.new.image) (cached_in self.new) }
     {
-        if let Err(fault) = self.before_tables(file) {
-            return Err(fault);
-        }
+        self.before_tables(file)?;
         self.order = CacheDependency::RbDependsOnL2;
         Ok(())
     }
@@ -426,25 +406,19 @@ impl<S: Storage> MetadataCaches<S> {
         requires full { self.old.l2.slots.cap ≤ length self.old.l2.slots.entries }
         ensures { TableFound S.state cluster self.old file.old result self.new file.new }
     {
-        let written = self.before_tables(file);
-        match written {
-            Ok(()) => match self.l2.ready(file, cluster, true) {
-                Ok(_) => Ok(()),
-                Err(fault) => Err(fault),
-            },
-            Err(fault) => Err(fault),
-        }
+        self.before_tables(file)?;
+        self.l2.ready(file, cluster, true)?;
+        Ok(())
     }
 
     // Finds or loads the L2 table in a cluster.
     fn l2_ready(&mut self, file: &mut ImageFile<S>, cluster: HostCluster) -> Result<(), Fault>
         ensures { TableFound S.state cluster self.old file.old result self.new file.new }
     {
-        match self.l2_find(file, cluster) {
-            Ok(true) => Ok(()),
-            Ok(false) => self.l2_load(file, cluster),
-            Err(fault) => Err(fault),
+        if self.l2_find(file, cluster)? {
+            return Ok(());
         }
+        self.l2_load(file, cluster)
     }
 
     /// The L2 table in a cluster, found or loaded, whose entry goes first. What is written to it is written to the file later, by a flush or
@@ -489,25 +463,19 @@ impl<S: Storage> MetadataCaches<S> {
         requires full { self.old.rb.slots.cap ≤ length self.old.rb.slots.entries }
         ensures { BlockFound S.state cluster self.old file.old result self.new file.new }
     {
-        let written = self.before_blocks(file);
-        match written {
-            Ok(()) => match self.rb.ready(file, cluster, true) {
-                Ok(_) => Ok(()),
-                Err(fault) => Err(fault),
-            },
-            Err(fault) => Err(fault),
-        }
+        self.before_blocks(file)?;
+        self.rb.ready(file, cluster, true)?;
+        Ok(())
     }
 
     // Finds or loads the refcount block in a cluster.
     fn rb_ready(&mut self, file: &mut ImageFile<S>, cluster: HostCluster) -> Result<(), Fault>
         ensures { BlockFound S.state cluster self.old file.old result self.new file.new }
     {
-        match self.rb_find(file, cluster) {
-            Ok(true) => Ok(()),
-            Ok(false) => self.rb_load(file, cluster),
-            Err(fault) => Err(fault),
+        if self.rb_find(file, cluster)? {
+            return Ok(());
         }
+        self.rb_load(file, cluster)
     }
 
     /// The refcount block in a cluster, found or loaded, whose entry goes first. What is written to it is written to the file later, by a flush

@@ -5,46 +5,47 @@ use Rattle.qcow2_alloc.specs.Caches.{cached_in, order_of}
 use Rattle.qcow2_alloc.specs.Going.{Going, ReadyTables, ReadyBlocks, WritesTables, WritesBlocks}
 use Rattle.qcow2_alloc.proofs.Flushing.Faultless.{faultless-then}
 use Rattle.qcow2_alloc.proofs.Flushing.Going.{going-ready, in-turn-both, in-turn-halted}
+use Rattle.qcow2_alloc.proofs.Faults.{handed-on}
 use Rattle.qcow2_alloc.proofs.cache.MetadataCaches.flush_all.Goals as goal
 
-pub returns-in-Ok-clause-going : goal.returns-in-Ok-clause-going
-returns-in-Ok-clause-going g c =
+pub returns-then-eq-clause-going : goal.returns-then-eq-clause-going
+returns-then-eq-clause-going g c =
     let H = c.args.file.now.header in
     let order = order_of c.args.self.now in
     let state = g.S.Storage.state in
     let mid = c.flush_rb.new.self in
-    let same : order_of mid ≡ order = c.in-Ok.ensures.others.0 in
-    let header : c.flush_rb.new.file.header ≡ H = c.in-Ok.ensures.others.1 in
-    going-ready H order (ReadyTables order) (Ok tt ≡ Ok tt) (c.flush_l2.result ≡ Ok tt) _ _ _ _ _ _ refl (λ first. c.in-Ok.ensures.clean) c.in-Ok.ensures.going
+    let same : order_of mid ≡ order = c.in_ok-flush_rb.ensures.others.0 in
+    let header : c.flush_rb.new.file.header ≡ H = c.in_ok-flush_rb.ensures.others.1 in
+    going-ready H order (ReadyTables order) (Ok tt ≡ Ok tt) (c.flush_l2.result ≡ Ok tt) _ _ _ _ _ _ refl (λ first. c.in_ok-flush_rb.ensures.clean) c.in_ok-flush_rb.ensures.going
     (subst (λ (h : Header). Going h order (ReadyTables order) (c.flush_l2.result ≡ Ok tt) (state c.flush_rb.new.file.image) (cached_in mid) (state c.flush_l2.new.file.image) (cached_in c.flush_l2.new.self)) header
     (subst (λ (o : CacheDependency). Going c.flush_rb.new.file.header o (ReadyTables o) (c.flush_l2.result ≡ Ok tt) (state c.flush_rb.new.file.image) (cached_in mid) (state c.flush_l2.new.file.image) (cached_in c.flush_l2.new.self)) same c.flush_l2.ensures.going))
 
-pub returns-in-Ok-flush_tables-clause-going : goal.returns-in-Ok-flush_tables-clause-going
-returns-in-Ok-flush_tables-clause-going g c =
+pub returns-clause-going : goal.returns-clause-going
+returns-clause-going g c =
     let H = c.args.file.now.header in
     let order = order_of c.args.self.now in
     let state = g.S.Storage.state in
     let mid = c.flush_tables.new.self in
-    let same : order_of mid ≡ order = c.in-Ok-flush_tables.ensures.others.0 in
-    let header : c.flush_tables.new.file.header ≡ H = c.in-Ok-flush_tables.ensures.others.1 in
-    going-ready H order (ReadyBlocks order) (Ok tt ≡ Ok tt) (c.flush_blocks.result ≡ Ok tt) _ _ _ _ _ _ refl (λ first. c.in-Ok-flush_tables.ensures.clean) c.in-Ok-flush_tables.ensures.going
+    let same : order_of mid ≡ order = c.in_ok-flush_tables.ensures.others.0 in
+    let header : c.flush_tables.new.file.header ≡ H = c.in_ok-flush_tables.ensures.others.1 in
+    going-ready H order (ReadyBlocks order) (Ok tt ≡ Ok tt) (c.flush_blocks.result ≡ Ok tt) _ _ _ _ _ _ refl (λ first. c.in_ok-flush_tables.ensures.clean) c.in_ok-flush_tables.ensures.going
     (subst (λ (h : Header). Going h order (ReadyBlocks order) (c.flush_blocks.result ≡ Ok tt) (state c.flush_tables.new.file.image) (cached_in mid) (state c.flush_blocks.new.file.image) (cached_in c.flush_blocks.new.self)) header
     (subst (λ (o : CacheDependency). Going c.flush_tables.new.file.header o (ReadyBlocks o) (c.flush_blocks.result ≡ Ok tt) (state c.flush_tables.new.file.image) (cached_in mid) (state c.flush_blocks.new.file.image) (cached_in c.flush_blocks.new.self)) same c.flush_blocks.ensures.going))
 
-pub returns-in-Ok-clause-blocks_first : goal.returns-in-Ok-clause-blocks_first
-returns-in-Ok-clause-blocks_first g c = λ order. in-turn-both WritesBlocks WritesTables _ _ _ _ _ _ _ (c.in-Ok.ensures.alone (λ other. let both = sym order ∙ other in cc)) c.flush_l2.ensures.written
+pub returns-then-eq-clause-blocks_first : goal.returns-then-eq-clause-blocks_first
+returns-then-eq-clause-blocks_first g c = λ order. in-turn-both WritesBlocks WritesTables _ _ _ _ _ _ _ (c.in_ok-flush_rb.ensures.alone (λ other. let both = sym order ∙ other in cc)) c.flush_l2.ensures.written
 
-pub returns-in-Err-clause-blocks_first : goal.returns-in-Err-clause-blocks_first
-returns-in-Err-clause-blocks_first g c = λ order. in-turn-halted WritesBlocks WritesTables _ _ _ _ c.in-Err.fault (c.in-Err.ensures.alone (λ other. let both = sym order ∙ other in cc))
+pub returns-in_err-flush_rb-clause-blocks_first : goal.returns-in_err-flush_rb-clause-blocks_first
+returns-in_err-flush_rb-clause-blocks_first g c = rw (handed-on _ _ c.from_residual.ensures.1) (λ order. in-turn-halted WritesBlocks WritesTables _ _ _ _ c.in_err-flush_rb.field-0.0 (c.in_err-flush_rb.ensures.alone (λ other. let both = sym order ∙ other in cc)))
 
-pub returns-in-Ok-flush_tables-clause-tables_first : goal.returns-in-Ok-flush_tables-clause-tables_first
-returns-in-Ok-flush_tables-clause-tables_first g c = λ order. in-turn-both WritesTables WritesBlocks _ _ _ _ _ _ _ (c.in-Ok-flush_tables.ensures.alone order) c.flush_blocks.ensures.written
+pub returns-clause-tables_first : goal.returns-clause-tables_first
+returns-clause-tables_first g c = λ order. in-turn-both WritesTables WritesBlocks _ _ _ _ _ _ _ (c.in_ok-flush_tables.ensures.alone order) c.flush_blocks.ensures.written
 
-pub returns-in-Err-flush_tables-clause-tables_first : goal.returns-in-Err-flush_tables-clause-tables_first
-returns-in-Err-flush_tables-clause-tables_first g c = λ order. in-turn-halted WritesTables WritesBlocks _ _ _ _ c.in-Err-flush_tables.fault (c.in-Err-flush_tables.ensures.alone order)
+pub returns-in_err-flush_tables-clause-tables_first : goal.returns-in_err-flush_tables-clause-tables_first
+returns-in_err-flush_tables-clause-tables_first g c = rw (handed-on _ _ c.from_residual-in_err-flush_tables.ensures.1) (λ order. in-turn-halted WritesTables WritesBlocks _ _ _ _ c.in_err-flush_tables.field-0.0 (c.in_err-flush_tables.ensures.alone order))
 
-pub returns-in-Ok-clause-faults : goal.returns-in-Ok-clause-faults
-returns-in-Ok-clause-faults g c = λ whole. faultless-then (c.in-Ok.ensures.faults tt) (c.flush_l2.ensures.faults whole)
+pub returns-then-eq-clause-faults : goal.returns-then-eq-clause-faults
+returns-then-eq-clause-faults g c = λ whole. faultless-then (c.in_ok-flush_rb.ensures.faults tt) (c.flush_l2.ensures.faults whole)
 
-pub returns-in-Ok-flush_tables-clause-faults : goal.returns-in-Ok-flush_tables-clause-faults
-returns-in-Ok-flush_tables-clause-faults g c = λ whole. faultless-then (c.in-Ok-flush_tables.ensures.faults tt) (c.flush_blocks.ensures.faults whole)
+pub returns-clause-faults : goal.returns-clause-faults
+returns-clause-faults g c = λ whole. faultless-then (c.in_ok-flush_tables.ensures.faults tt) (c.flush_blocks.ensures.faults whole)

@@ -8,4 +8,4 @@ use Rattle.qcow2_alloc.proofs.cache.MetadataCaches.l2_depends_on_rb.Goals as goa
 pub returns-clause-safe : goal.returns-clause-safe
 returns-clause-safe g c = λ f H safe.
     let mid = c.before_blocks.new.self in
-    blocks-come-first f H (cached_in mid) (order_of c.args.self.now) (subst (λ (o : CacheDependency). ReadyBlocks o (cached_in mid)) c.in_default.ensures.others.1 c.in_default.ensures.ready) safe
+    blocks-come-first f H (cached_in mid) (order_of c.args.self.now) (subst (λ (o : CacheDependency). ReadyBlocks o (cached_in mid)) c.in_ok-before_blocks.ensures.others.1 c.in_ok-before_blocks.ensures.ready) safe

@@ -6,20 +6,21 @@ use Rattle.qcow2_alloc.specs.Cache.{Readied}
 use Rattle.qcow2_alloc.specs.CachesLending.{table_loads, table_flushes}
 use Rattle.qcow2_alloc.specs.Finding.{TableFound}
 use Rattle.qcow2_alloc.proofs.Caching.SearchingTables.{table-found-now, table-stuck}
+use Rattle.qcow2_alloc.proofs.Faults.{handed-on}
 use Rattle.qcow2_alloc.proofs.cache.MetadataCaches.l2_ready.Goals as goal
 
-pub returns-in-Ok-true : goal.returns-in-Ok-true
-returns-in-Ok-true g c = table-found-now g.S.Storage.state c.args.cluster c.args.self.now c.l2_find.new.self c.args.file.now c.l2_find.new.file c.l2_find.ensures.others (Ok c.in-Ok-true.field-0) (λ no. let t = c.in-Ok-true.field-0-test in cc) c.in-Ok-true.ensures.readied
+pub returns-then-branch : goal.returns-then-branch
+returns-then-branch g c = table-found-now g.S.Storage.state c.args.cluster c.args.self.now c.l2_find.new.self c.args.file.now c.l2_find.new.file c.l2_find.ensures.others (Ok c.in_ok-l2_find.field-0) (λ no. let t = c.if-branch.true in cc) c.in_ok-l2_find.ensures.readied
 
-pub returns-in-Ok-false : goal.returns-in-Ok-false
-returns-in-Ok-false g c =
+pub returns : goal.returns
+returns g c =
     let state = g.S.Storage.state in
     let now = c.l2_find.new.self in
-    let readied = c.in-Ok-false.ensures.readied in
-    let full = subst (λ (b : Bool). Readied nat_eq (table_loads state) (table_flushes state) c.args.self.now.l2.slots.cap false c.args.cluster c.args.file.now c.args.self.now.l2.slots.entries (Ok b) c.l2_find.new.file now.l2.slots.entries) c.in-Ok-false.field-0-test readied in
+    let readied = c.in_ok-l2_find.ensures.readied in
+    let full = subst (λ (b : Bool). Readied nat_eq (table_loads state) (table_flushes state) c.args.self.now.l2.slots.cap false c.args.cluster c.args.file.now c.args.self.now.l2.slots.entries (Ok b) c.l2_find.new.file now.l2.slots.entries) c.if-branch.false readied in
     let stuck = table-stuck state c.args.cluster c.args.self.now now c.args.file.now c.l2_find.new.file c.l2_find.ensures.others full in
     subst (λ (m : MetadataCaches g.row.S.Denot). TableFound state c.args.cluster m c.args.file.now c.l2_load.result c.l2_load.new.self c.l2_load.new.file) stuck.caches
     (subst (λ (f : ImageFile g.row.S.Denot). TableFound state c.args.cluster now f c.l2_load.result c.l2_load.new.self c.l2_load.new.file) stuck.file c.l2_load.ensures)
 
-pub returns-in-Err : goal.returns-in-Err
-returns-in-Err g c = table-found-now g.S.Storage.state c.args.cluster c.args.self.now c.l2_find.new.self c.args.file.now c.l2_find.new.file c.l2_find.ensures.others (Err c.in-Err.fault) (λ no. cc) c.in-Err.ensures.readied
+pub returns-in_err-l2_find : goal.returns-in_err-l2_find
+returns-in_err-l2_find g c = rw (handed-on _ _ c.from_residual.ensures.1) (table-found-now g.S.Storage.state c.args.cluster c.args.self.now c.l2_find.new.self c.args.file.now c.l2_find.new.file c.l2_find.ensures.others (Err c.in_err-l2_find.field-0.0) (λ no. cc) c.in_err-l2_find.ensures.readied)

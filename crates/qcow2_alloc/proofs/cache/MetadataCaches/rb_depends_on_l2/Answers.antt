@@ -8,4 +8,4 @@ use Rattle.qcow2_alloc.proofs.cache.MetadataCaches.rb_depends_on_l2.Goals as goa
 pub returns-clause-safe : goal.returns-clause-safe
 returns-clause-safe g c = λ f H safe.
     let mid = c.before_tables.new.self in
-    tables-come-first f H (cached_in mid) (order_of c.args.self.now) (subst (λ (o : CacheDependency). ReadyTables o (cached_in mid)) c.in_default.ensures.others.1 c.in_default.ensures.ready) safe
+    tables-come-first f H (cached_in mid) (order_of c.args.self.now) (subst (λ (o : CacheDependency). ReadyTables o (cached_in mid)) c.in_ok-before_tables.ensures.others.1 c.in_ok-before_tables.ensures.ready) safe
