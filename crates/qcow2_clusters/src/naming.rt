@@ -130,7 +130,9 @@ fn name_in_table<S: Storage>(
 /// kept for its zeroes. The bytes of the host clusters stay what they are. Nothing may be cached before, and nothing is then.
 ///
 /// It refuses with `Fault::Memory` and `Fault::Storage`, and with `Fault::DamagedTable` where the table has a word without meaning, or is
-/// out of reach, which no sound image has.
+/// out of reach, which no sound image has. A refusal leaves a file in which each place shows what it did or, in these guest clusters, the
+/// bytes of the host clusters. Room that was held stays held. Which words name them, and what waits to be freed, is open then, so that
+/// nothing may be changed before the image is opened anew.
 pub fn name_run<S: Storage>(
     file: &mut ImageFile<S>,
     caches: &mut MetadataCaches<S>,
@@ -160,7 +162,8 @@ pub fn name_run<S: Storage>(
     settle(file, caches, named)
 }
 
-/// Has a guest cluster name a host cluster as its data, as copied, as `name_run` does of one, and refuses as that does.
+/// Has a guest cluster name a host cluster as its data, as copied, as `name_run` does of one. It refuses as that does, and leaves what that
+/// leaves.
 pub fn name<S: Storage>(
     file: &mut ImageFile<S>,
     caches: &mut MetadataCaches<S>,

@@ -91,8 +91,8 @@ pub(crate) fn settle_stored<S: Storage>(
 }
 
 /// Stores the content of a guest cluster in the first of host clusters in a row that were free, which nothing names yet. What stands in the
-/// others is what did. Room is held for them then on the list of clusters to free, as `ClustersToFreeList::hold` does. Nothing may be cached
-/// before, and nothing is then.
+/// others is left open. Room is held for them then on the list of clusters to free, as `ClustersToFreeList::hold` does. Nothing may be
+/// cached before, and nothing is then.
 ///
 /// It refuses with `Fault::Limit` only where a sixteenth of the space and three times as many clusters weren't free in a row as the call
 /// began, and tells why the first such run that is free by then can't be taken, as `Allocator::allocate_clusters` does; with `Fault::Memory`
