@@ -16,7 +16,7 @@ use Rattle.qcow2_alloc.specs.Quiet.{Metadata, counted}
 use Rattle.qcow2_alloc.specs.ReadyingRuns.{IsRunCounted, IsRunTold, mark_behind}
 use Rattle.qcow2_alloc.specs.SearchingClusters.{IsFirstRun}
 use Rattle.qcow2_alloc.proofs.Handing.AnnouncedOrders.{no-place-as}
-use Rattle.qcow2_clusters.specs.Room.{HasRoom, IsFull, LeavesRoom}
+use Rattle.qcow2_clusters.specs.Room.{HasFreeClusters, IsFull, LeavesRoom}
 use Rattle.qcow2_clusters.specs.Storing.{WhyNotAllocated}
 
 -- A cause stays one where less is ready, and what tells that there is no place may be said otherwise.
@@ -32,7 +32,7 @@ why-as ready less full full' from before after _ told why = absurd why
 
 -- As much is free where as much is counted.
 pub room-as : (m m' : Metadata) (mark total : ℕ) → space m'.header.fields ≡ space m.header.fields → ((c : ℕ) → counted m' c ≡ counted m c)
-    → HasRoom m mark total → HasRoom m' mark total
+    → HasFreeClusters m mark total → HasFreeClusters m' mark total
 room-as m m' mark total large same room = record {
   first = room.first;
   behind = room.behind;
@@ -83,7 +83,7 @@ module _ (m0 m mid : Metadata) (mark mark1 n : ℕ) (begins : m.header ≡ m0.he
   header-is = freed.header ∙ begins
 
   -- there is room where there was,
-  roomy-there : (total : ℕ) → room_for m0.header.fields n ≤ total → HasRoom m0 mark total → IsRoomy mid mark1 n
+  roomy-there : (total : ℕ) → room_for m0.header.fields n ≤ total → HasFreeClusters m0 mark total → IsRoomy mid mark1 n
   roomy-there total enough room = record {
     first = room.first;
     total = total;
@@ -109,7 +109,7 @@ module _ (m0 m mid : Metadata) (mark mark1 n : ℕ) (begins : m.header ≡ m0.he
   -- What is taken is little.
   module _ (m' : Metadata) (mark' : ℕ) (entry : FreeEntry) (large : space m'.header.fields ≡ space m0.header.fields)
       (little : TakesLittle mark1 n mid m') (taken : IsRunCounted mark1 n m' entry) (moved : mark' ≡ mark_behind mark1 n entry.first) where
-    module _ (total : ℕ) (some : 0 < total) (room : HasRoom m0 mark (room_for m0.header.fields n + total)) where
+    module _ (total : ℕ) (some : 0 < total) (room : HasFreeClusters m0 mark (room_for m0.header.fields n + total)) where
       abbrev need : ℕ
       need = room_for m0.header.fields n
 
@@ -161,7 +161,7 @@ module _ (m0 m mid : Metadata) (mark mark1 n : ℕ) (begins : m.header ≡ m0.he
         ]
       ]
 
-      room-left : HasRoom m' mark' total
+      room-left : HasFreeClusters m' mark' total
       room-left = record {
         first = room.first + need;
         behind = mark-there;

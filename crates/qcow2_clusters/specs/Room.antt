@@ -18,15 +18,15 @@ pub record HasFree (counts : ℕ → ℕ) (mark end total : ℕ) : Type 0 where
   pub free : (c : ℕ) → first ≤ c → c < first + total → counts c ≡ 0
 
 -- So many aren't in an image, of all that a file of its kind can have.
-abbrev pub HasRoom : Metadata → (mark total : ℕ) → Type 0
-HasRoom m mark total = HasFree (counted m) mark (space m.header.fields) total
+abbrev pub HasFreeClusters : Metadata → (mark total : ℕ) → Type 0
+HasFreeClusters m mark total = HasFree (counted m) mark (space m.header.fields) total
 
 -- Of clusters in a row that are free it has left all but so many.
 pub record LeavesRoom (taken : ℕ) (m : Metadata) (mark : ℕ) (m' : Metadata) (mark' : ℕ) : Type 0 where
   pub as_large : space m'.header.fields ≡ space m.header.fields
-  pub left : (total : ℕ) → 0 < total → HasRoom m mark (taken + total) → HasRoom m' mark' total
+  pub left : (total : ℕ) → 0 < total → HasFreeClusters m mark (taken + total) → HasFreeClusters m' mark' total
 
--- It had no room for n clusters in a row, and a number tells why the first run of n that it has by now can't be taken.
+-- It had no room for n clusters in a row, and a number tells why the first free run of n that there is behind the call can't be taken.
 pub record IsFull (n : ℕ) (m : Metadata) (mark : ℕ) (m' : Metadata) (mark' number : ℕ) : Type 0 where
   pub crowded : IsCrowded m mark n
   pub told : IsRunTold m' mark' n number

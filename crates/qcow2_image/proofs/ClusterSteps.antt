@@ -49,7 +49,7 @@ use Rattle.qcow2_image.specs.Holding.{Holding, IsOwnAs}
 use Rattle.qcow2_image.specs.KeepsDisk.{KeepsDisk, KeepsDiskWhere}
 use Rattle.qcow2_image.specs.Leaking.{KeepsLeaks, KeepsLeaksBut}
 use Rattle.qcow2_clusters.proofs.LengtheningL1.{padded-long}
-use Rattle.qcow2_image.specs.FreeSpace.{HasNoPlace, IsFull, LeavesFree, enough_for_one, enough_for_table, enough_for_word, searched_from}
+use Rattle.qcow2_image.specs.FreeSpace.{HasNoPlace, LacksFreeRun, LeavesFree, enough_for_one, enough_for_table, enough_for_word, searched_from}
 use Rattle.qcow2_image.proofs.FreeRuns.{few-longer, full-behind, full-in-run, full-more, leaves-in-run, leaves-more, leaves-none, leaves-then, run-fewer, run-same, safe-short, some-enough, why-full}
 use Rattle.qcow2_image.specs.Looking.{place_of_table}
 use Rattle.qcow2_image.specs.Rooms.{IsSafe, rest_of}
@@ -332,10 +332,10 @@ module _ {S : Type 0} (g : Ghosts S) (old : Qcow2 S g) (mid : Tables S g) (space
     named = stores.named;
     reserved = λ safe. reserved-now result (stores.reserved (ready g old mid space space' caches result there there' stores.rests safe)) stores.held;
     content = λ safe. stores.stored (ready g old mid space space' caches result there there' stores.rests safe);
-    cause = if-err result _ (WhyNotAllocated g (IsFull g (enough_for_one old.tables) old.tables mid) old stored_now) (λ e.
+    cause = if-err result _ (WhyNotAllocated g (LacksFreeRun g (enough_for_one old.tables) old.tables mid) old stored_now) (λ e.
         allocated-why g old stored_now (IsReady g.state (lent old.tables.file caches space))
         (room.IsFull 1 (rest_of g old.tables space) (mark_of space.allocator) (rest_of g mid space') (mark_of space'.allocator))
-        (IsFull g (enough_for_one old.tables) old.tables mid)
+        (LacksFreeRun g (enough_for_one old.tables) old.tables mid)
         (g.state old.tables.file.image).faults (g.state mid.file.image).faults e
         (ready g old mid space space' caches result there there' stores.rests) refl refl
         (λ number safe full. full-in-run g old.tables mid space space' there there' 1 number (omega arith) full)) stores.cause;
@@ -422,7 +422,7 @@ module _ {S : Type 0} (g : Ghosts S) (guest : ℕ) (bytes : List ℕ) (old new :
     cause = tt;
   }
 
-  filling-why : (e : Fault) → WhyNotFilled g old new e → WhyNotAllocated g (IsFull g (enough_for_one old.tables) old.tables new.tables) old new e
+  filling-why : (e : Fault) → WhyNotFilled g old new e → WhyNotAllocated g (LacksFreeRun g (enough_for_one old.tables) old.tables new.tables) old new e
   filling-why Memory why = why
   filling-why Storage why = why
   filling-why DamagedTable why = why
@@ -865,7 +865,7 @@ module _ {S : Type 0} (g : Ghosts S) (guest i : ℕ) (old mid new : Qcow2 S g) (
       near,
       full-behind g (enough_for_word old.tables (guest / words_of_cluster old.tables.file.header.fields)) (enough_for_one old.tables) number
           old.tables mid.tables new.tables (some-enough old.tables) (leaves-word safe)
-          (subst (λ n. IsFull g n mid.tables new.tables number) (one-still safe) full),
+          (subst (λ n. LacksFreeRun g n mid.tables new.tables number) (one-still safe) full),
     )
 
   long-behind : (r : Result ℕ Fault)

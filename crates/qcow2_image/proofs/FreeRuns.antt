@@ -19,12 +19,12 @@ use Rattle.qcow2_alloc.specs.Crowding.{room_for, space}
 use Rattle.qcow2_alloc.specs.Quiet.{counted}
 use Rattle.qcow2_alloc.proofs.Space.SizesOfSpace.{counters-wide}
 use Rattle.qcow2_clusters.specs.Lengthening.{clusters_for, l1_clusters}
-use Rattle.qcow2_clusters.specs.Room.{HasFree, HasRoom, LeavesRoom}
+use Rattle.qcow2_clusters.specs.Room.{HasFree, HasFreeClusters, LeavesRoom}
 use Rattle.qcow2_clusters.specs.Room as room
 use Rattle.qcow2_clusters.specs.declared.space.Space.{Space}
 use Rattle.qcow2_clusters.proofs.NamingTables.{resting-memory}
 use Rattle.qcow2_image.specs.Allocating.{WhyNotAllocated}
-use Rattle.qcow2_image.specs.FreeSpace.{HasFreeRun, IsFull, LeavesFree, enough_for_one, enough_for_table, searched_from}
+use Rattle.qcow2_image.specs.FreeSpace.{HasFreeRun, LacksFreeRun, LeavesFree, enough_for_one, enough_for_table, searched_from}
 use Rattle.qcow2_image.specs.Rooms.{IsSafe, rest_of}
 use Rattle.qcow2_image.specs.Seen.{file_of}
 use Rattle.qcow2_image.specs.declared.qcow2.Qcow2.{Qcow2}
@@ -58,7 +58,7 @@ module _ {S : Type 0} (g : Ghosts S) where
     counts-at-rest : (c : ℕ) → counted (rest_of g t free) c ≡ count (file_of g t) t.file.header.fields c
     counts-at-rest c = ap (λ (f : Bytes). count f t.file.header.fields c) (resting-memory (rest_of g t free) refl)
 
-    pub run-in-rest : (total : ℕ) → HasFreeRun g t total → HasRoom (rest_of g t free) (mark_of free.allocator) total
+    pub run-in-rest : (total : ℕ) → HasFreeRun g t total → HasFreeClusters (rest_of g t free) (mark_of free.allocator) total
     run-in-rest total run = record {
       first = run.first;
       behind = subst (λ k. k ≤ run.first) (ap searched_from there) run.behind;
@@ -66,7 +66,7 @@ module _ {S : Type 0} (g : Ghosts S) where
       free = λ c from to. counts-at-rest c ∙ run.free c from to;
     }
 
-    pub rest-in-run : (total : ℕ) → HasRoom (rest_of g t free) (mark_of free.allocator) total → HasFreeRun g t total
+    pub rest-in-run : (total : ℕ) → HasFreeClusters (rest_of g t free) (mark_of free.allocator) total → HasFreeRun g t total
     rest-in-run total run = record {
       first = run.first;
       behind = subst (λ k. k ≤ run.first) (sym (ap searched_from there)) run.behind;
@@ -85,7 +85,7 @@ module _ {S : Type 0} (g : Ghosts S) where
 
     pub full-in-run : (n number : ℕ) → n ≤ 2 ^ 16
         → room.IsFull n (rest_of g old free) (mark_of free.allocator) (rest_of g new free') (mark_of free'.allocator) number
-        → IsFull g (room_for old.file.header.fields n) old new number
+        → LacksFreeRun g (room_for old.file.header.fields n) old new number
     full-in-run n number few full = record {
       crowded = λ run.
           let there = run-in-rest old free there (room_for old.file.header.fields n) run in
@@ -122,8 +122,8 @@ module _ {S : Type 0} (g : Ghosts S) where
   }
 
   -- and there was no run for the second where it finds none.
-  pub full-behind : (taken enough number : ℕ) (old mid new : Tables S g) → 0 < enough → LeavesFree g taken old mid → IsFull g enough mid new number
-      → IsFull g (taken + enough) old new number
+  pub full-behind : (taken enough number : ℕ) (old mid new : Tables S g) → 0 < enough → LeavesFree g taken old mid → LacksFreeRun g enough mid new number
+      → LacksFreeRun g (taken + enough) old new number
   full-behind taken enough number old mid new some leaves full = record {
     crowded = λ run. full.crowded (leaves.left enough some run);
     free = full.free;
@@ -133,7 +133,7 @@ module _ {S : Type 0} (g : Ghosts S) where
     told = full.told;
   }
 
-  pub full-more : (few many number : ℕ) (old new : Tables S g) → few ≤ many → IsFull g few old new number → IsFull g many old new number
+  pub full-more : (few many number : ℕ) (old new : Tables S g) → few ≤ many → LacksFreeRun g few old new number → LacksFreeRun g many old new number
   full-more few many number old new le full = record {
     crowded = λ run. full.crowded (run-fewer old few many le run);
     free = full.free;
@@ -143,8 +143,8 @@ module _ {S : Type 0} (g : Ghosts S) where
     told = full.told;
   }
 
-  pub full-since : (enough number : ℕ) (old mid new : Tables S g) → (HasFreeRun g old enough → HasFreeRun g mid enough) → IsFull g enough mid new number
-      → IsFull g enough old new number
+  pub full-since : (enough number : ℕ) (old mid new : Tables S g) → (HasFreeRun g old enough → HasFreeRun g mid enough) → LacksFreeRun g enough mid new number
+      → LacksFreeRun g enough old new number
   full-since enough number old mid new from full = record {
     crowded = λ run. full.crowded (from run);
     free = full.free;

@@ -25,7 +25,7 @@ use Rattle.qcow2_metadata.specs.Tables.{TableValue}
 use Rattle.qcow2_alloc.specs.Crowding.{space}
 use Rattle.qcow2_image.specs.Allocating.{EnsuresTable, HasKept, HasOwnTable, LoadsSpace, PlacesContent, TellsKept, WhyNotAllocated, WhyNotReserved, failed_cut, kept_by}
 use Rattle.qcow2_image.specs.Filling.{IsInFirst, IsLeft, IsNeededFor, MakesContent, NeedsShown, RefusesCopy, WhyNotCopied}
-use Rattle.qcow2_image.specs.FreeSpace.{HasFreeRun, HasNoPlace, IsFull, enough_for_one, enough_for_table, searched_from}
+use Rattle.qcow2_image.specs.FreeSpace.{HasFreeRun, HasNoPlace, LacksFreeRun, enough_for_one, enough_for_table, searched_from}
 use Rattle.qcow2_image.specs.Holding.{place_in}
 use Rattle.qcow2_image.specs.KeepsDisk.{KeepsDisk, KeepsDiskWhere}
 use Rattle.qcow2_image.specs.Preparing.{HoldsFresh, IsReservedFor, KeepsMapping, LacksPlace, LeavesMarked, PreparesFresh, Reserves, first_part}
@@ -146,7 +146,7 @@ module _ {S : Type 0} (g : Ghosts S) where
 
   lacks-cluster : (guest table number : ℕ) (first mid new : Qcow2 S g) → IsSafe g first → IsSafe g mid → IsSome first.tables.space
       → EnsuresTable g (enough_for_table first.tables guest) guest first (Ok table) mid
-      → IsFull g (enough_for_one mid.tables) mid.tables new.tables number → LacksPlace g guest first.tables new.tables number
+      → LacksFreeRun g (enough_for_one mid.tables) mid.tables new.tables number → LacksPlace g guest first.tables new.tables number
   lacks-cluster guest table number first mid new safe safe' some t full =
       let row : guest / words_of_cluster mid.tables.file.header.fields ≡ guest / words_of_cluster first.tables.file.header.fields =
       ap (λ (b : ℕ). guest / (2 ^ b / 8)) t.keeps.bits in
@@ -158,7 +158,7 @@ module _ {S : Type 0} (g : Ghosts S) where
         near,
         full-more g (enough_for_table first.tables guest + enough_for_one first.tables) (space first.tables.file.header.fields / 4) number first.tables new.tables enough
             (full-behind g (enough_for_table first.tables guest) (enough_for_one first.tables) number first.tables mid.tables new.tables
-            (some-enough first.tables) leaves (subst (λ n. IsFull g n mid.tables new.tables number) one full)),
+            (some-enough first.tables) leaves (subst (λ n. LacksFreeRun g n mid.tables new.tables number) one full)),
       )
 
   -- What holds of each safe image holds of one that is known to keep a cluster, or none, for a guest cluster; also behind a call that kept
@@ -227,7 +227,7 @@ module _ {S : Type 0} (g : Ghosts S) where
         reserved = λ known. tt;
         own = λ known. tt;
         stored = λ known. tt;
-        cause = why-allocated (IsFull g (enough_for_one mid.tables) mid.tables new.tables) (LacksPlace g guest old.tables new.tables) old mid new e there
+        cause = why-allocated (LacksFreeRun g (enough_for_one mid.tables) mid.tables new.tables) (LacksPlace g guest old.tables new.tables) old mid new e there
             (t.known l.known)
             (λ number safe full.
             let safe' = l.keeps.safely safe tt in

@@ -17,7 +17,7 @@ use Rattle.qcow2_metadata.specs.Places.{IsInReach}
 use Rattle.qcow2_metadata.specs.Tables.{padded}
 use Rattle.qcow2_steps.specs.Words.{IsReserved}
 use Rattle.qcow2_clusters.specs.Storing.{handed_by}
-use Rattle.qcow2_image.specs.FreeSpace.{HasNoPlace, IsFull, LeavesFree, enough_for_one, enough_for_word}
+use Rattle.qcow2_image.specs.FreeSpace.{HasNoPlace, LacksFreeRun, LeavesFree, enough_for_one, enough_for_word}
 use Rattle.qcow2_image.specs.Holding.{IsOwnAs, place_in}
 use Rattle.qcow2_image.specs.KeepsDisk.{KeepsDisk, KeepsDiskWhere}
 use Rattle.qcow2_image.specs.Leaking.{KeepsLeaks, KeepsLeaksBut, reserved_by}
@@ -181,7 +181,7 @@ pub record StoresContent {S : Type 0} (g : Ghosts S) (bytes : List ℕ) (old : Q
       × IsReserved (rest_of g new.tables space) x × (0 < space.to_free.held))
   pub content : IsSafe g old → IfOk result (λ x. (i : ℕ) → i < length bytes
       → file_of g new.tables (x * cluster_size old.tables.file.header.fields + i) ≡ slice_index bytes i)
-  pub cause : IfErr result (WhyNotAllocated g (IsFull g (enough_for_one old.tables) old.tables new.tables) old new)
+  pub cause : IfErr result (WhyNotAllocated g (LacksFreeRun g (enough_for_one old.tables) old.tables new.tables) old new)
 
 -- Why a cluster that is kept can't be filled, in an image that may be safe: no place is looked for.
 abbrev pub WhyNotFilled : {S : Type 0} (g : Ghosts S) → Qcow2 S g → Qcow2 S g → Fault → Type 0
@@ -217,7 +217,7 @@ pub record PlacesContent {S : Type 0} (g : Ghosts S) (guest : ℕ) (kept : Optio
       × IsOwnAs r.1 (rest_of g new.tables space) guest r.0 × (r.1 ≡ false → 0 < space.to_free.held))
   pub content : HasKept g guest kept old → IfOk result (λ r. (i : ℕ) → i < length bytes
       → file_of g new.tables (r.0 * cluster_size old.tables.file.header.fields + i) ≡ slice_index bytes i)
-  pub cause : IfErr result (WhyNotAllocated g (IsFull g (enough_for_one old.tables) old.tables new.tables) old new)
+  pub cause : IfErr result (WhyNotAllocated g (LacksFreeRun g (enough_for_one old.tables) old.tables new.tables) old new)
 
 -- Why what waits can't be freed.
 abbrev pub WhyNotFreed : {S : Type 0} (g : Ghosts S) → Qcow2 S g → Qcow2 S g → Fault → Type 0

@@ -41,7 +41,7 @@ enough_for_table t guest = enough_for_word t (guest / words_of_cluster t.file.he
 
 -- There was no free run of so many clusters, and a number tells why the first one of as many as were asked for, at most 2^16, can't be
 -- taken.
-pub record IsFull {S : Type 0} (g : Ghosts S) (enough : ℕ) (old new : Tables S g) (number : ℕ) : Type 0 where
+pub record LacksFreeRun {S : Type 0} (g : Ghosts S) (enough : ℕ) (old new : Tables S g) (number : ℕ) : Type 0 where
   pub crowded : HasFreeRun g old enough → ⊥
   pub free : Space
   pub there : new.space ≡ Some free
@@ -53,4 +53,4 @@ pub record IsFull {S : Type 0} (g : Ghosts S) (enough : ℕ) (old new : Tables S
 -- run of so many clusters.
 abbrev pub HasNoPlace : {S : Type 0} (g : Ghosts S) → (i enough : ℕ) → (old new : Tables S g) → ℕ → Type 0
 HasNoPlace g i enough old new number = ((2 ^ 22 < i + 1) × (number ≡ min (i + 1) (2 ^ 64 - 1)))
-    ⊎ ((i + 1 ≤ 2 ^ 22) × IsFull g enough old new number)
+    ⊎ ((i + 1 ≤ 2 ^ 22) × LacksFreeRun g enough old new number)
