@@ -1,6 +1,6 @@
 -- Copies of the files of a chain.
-use Rattle.std.proofs.Common.{◌≡◌, ◌<◌, ◌≤◌, ◌∙◌, ◌∷◌, ◌++◌, ◌+◌, ◌^◌, [], ℕ, zero, suc, List, ap, arith, get_or, length, map, refl, sym, take}
-use Rattle.std.specs.Prelude.{⊤, slice_index}
+use Rattle.std.proofs.Common.{◌≡◌, ◌<◌, ◌≤◌, ◌∙◌, ◌∷◌, ◌++◌, ◌+◌, ◌^◌, [], ℕ, zero, suc, List, ap, arith, get_or, length, map, refl, subst, sym, take}
+use Rattle.std.specs.Prelude.{⊤, Result, Ok, Err, IfErr, IsOkUnless, slice_index}
 use Rattle.std.specs.String.{string_bytes}
 use Rattle.std.specs.declared.alloc.Global.{Global}
 use Rattle.std.specs.declared.string.String.{String}
@@ -10,17 +10,16 @@ use Rattle.qimg_core.specs.declared.plain.ChainFile.{ChainFile}
 use Rattle.std.proofs.lemmas.Grind.{same_number_lists}
 use Rattle.std.proofs.lemmas.List.{map-append, take_all}
 use Rattle.imago_storage.specs.State.{StorageState, IsAlignment}
+use Rattle.imago_storage.specs.Calls.{IsFaultless}
 use Rattle.imago_storage.specs.declared.fault.Fault.{Fault}
 use Rattle.imago_storage.specs.declared.fault.Fault.TheVariants.{RangeOverflow, Memory, Storage}
 use Rattle.imago_access.specs.declared.seen.Seen.{Ghosts}
-use Rattle.imago_access.specs.Chain.{unit_of_chain}
-use Rattle.imago_access.specs.FileReads.{bytes_in, files_at, FilesRead, FileReadCause}
-use Rattle.imago_access.specs.Files.{AreRead, IsLater, Pairs, SomeRose, byte_in, files, files_of}
-use Rattle.imago_access.specs.Going.{Looked}
-use Rattle.imago_access.proofs.FilePairs.{some_rose_behind}
-use Rattle.imago_access.proofs.FileReads.{all_read_looked}
-use Rattle.imago_access.proofs.Looking.{chain_later}
-use Rattle.imago_access.proofs.Units.{overflows_late, unit_aligned}
+use Rattle.imago_access.specs.FileReads.{file_bytes_in, files_at, FilesRead, FileReadCause}
+use Rattle.imago_access.specs.Files.{AreRead, OverflowsIn, Pairs, byte_in, files, files_of}
+use Rattle.imago_access.specs.Refusals.{IsOfStorages}
+use Rattle.imago_access.proofs.FilePairs.{faultless_all_both, some_rose_behind}
+use Rattle.imago_access.proofs.FileReads.{all_read_looked, fits_at}
+use Rattle.imago_access.proofs.Looking.{chain_faults, chain_later}
 use Rattle.qimg_chain.specs.declared.chain.snapshots.LayerNames.{LayerNames}
 use Rattle.qimg_chain.specs.FileMeanings.{FileBytes, driver_bytes, extra_bytes, file_bytes, files_bytes, with_names}
 use Rattle.qimg_chain.specs.Snapshots.{Names, WhyNotCopied, filled, names_of, said_names, with_bytes}
@@ -31,15 +30,15 @@ length_map f (x ∷ xs) = let rest = length_map f xs in omega (arith, rest)
 
 -- ---- The bytes of one file.
 
-same_byte : (ss : List StorageState) (file place : ℕ) → byte_in ss file place ≡ slice_index (bytes_in ss file) place
+same_byte : (ss : List StorageState) (file place : ℕ) → byte_in ss file place ≡ slice_index (file_bytes_in ss file) place
 same_byte [] file place = refl
 same_byte (s ∷ ss) zero place = refl
 same_byte (s ∷ ss) (suc file) place = same_byte ss file place
 
 -- a file that was read whole
-pub read_whole : (ss : List StorageState) (file : ℕ) (buf : List ℕ) → length buf ≡ length (bytes_in ss file) → AreRead ss file 0 (length buf) buf → buf ≡ bytes_in ss file
+pub read_whole : (ss : List StorageState) (file : ℕ) (buf : List ℕ) → length buf ≡ length (file_bytes_in ss file) → AreRead ss file 0 (length buf) buf → buf ≡ file_bytes_in ss file
 read_whole ss file buf long read =
-    same_number_lists buf (bytes_in ss file) long (λ k lt. let at : 0 + k ≡ k = omega arith in read k lt ∙ ap (byte_in ss file) at ∙ same_byte ss file k)
+    same_number_lists buf (file_bytes_in ss file) long (λ k lt. let at : 0 + k ≡ k = omega arith in read k lt ∙ ap (byte_in ss file) at ∙ same_byte ss file k)
 
 -- ---- The names of a layer's files.
 
@@ -77,55 +76,55 @@ name_pushed items x names ss i so_far lt is =
 
 -- one more name
 pub bytes_more : (names : List (String Global)) (k : ℕ) (ss : List StorageState) (i : ℕ) (name : String Global) → i < length names → name ≡ get_or names i name
-    → with_bytes (take (i + 1) (map string_bytes names)) k ss ≡ with_bytes (take i (map string_bytes names)) k ss ++ ((string_bytes name, bytes_in ss (k + i)) ∷ [])
+    → with_bytes (take (i + 1) (map string_bytes names)) k ss ≡ with_bytes (take i (map string_bytes names)) k ss ++ ((string_bytes name, file_bytes_in ss (k + i)) ∷ [])
 bytes_more [] k ss i name lt is = absurd (omega (arith, lt))
 bytes_more (n ∷ ns) k ss zero name lt is =
     let same : k ≡ k + 0 = omega arith in
-    ap (λ (m : String Global). (string_bytes m, bytes_in ss k) ∷ []) (sym is) ∙ ap (λ j. (string_bytes name, bytes_in ss j) ∷ []) same
+    ap (λ (m : String Global). (string_bytes m, file_bytes_in ss k) ∷ []) (sym is) ∙ ap (λ j. (string_bytes name, file_bytes_in ss j) ∷ []) same
 bytes_more (n ∷ ns) k ss (suc i) name lt is =
     let more : suc i + 1 ≡ suc (i + 1) = omega arith in
     let same : suc k + i ≡ k + suc i = omega arith in
     ap (λ m. with_bytes (take m (map string_bytes (n ∷ ns))) k ss) more
-    ∙ ap (λ rest. (string_bytes n, bytes_in ss k) ∷ rest) (bytes_more ns (suc k) ss i name (omega (arith, lt)) is)
-    ∙ ap (λ j. (string_bytes n, bytes_in ss k) ∷ (with_bytes (take i (map string_bytes ns)) (suc k) ss ++ ((string_bytes name, bytes_in ss j) ∷ []))) same
+    ∙ ap (λ rest. (string_bytes n, file_bytes_in ss k) ∷ rest) (bytes_more ns (suc k) ss i name (omega (arith, lt)) is)
+    ∙ ap (λ j. (string_bytes n, file_bytes_in ss k) ∷ (with_bytes (take i (map string_bytes ns)) (suc k) ss ++ ((string_bytes name, file_bytes_in ss j) ∷ []))) same
 
 -- one more copy behind others
 pub copied_more : (items : List (String Global × MemStorage)) (x : String Global × MemStorage) (names : List (String Global)) (ss : List StorageState) (i : ℕ) (name : String Global)
     → map (extra_bytes mem_state) items ≡ with_bytes (take i (map string_bytes names)) 1 ss → i < length names → name ≡ get_or names i name
-    → extra_bytes mem_state x ≡ (string_bytes name, bytes_in ss (i + 1)) → map (extra_bytes mem_state) (items ++ (x ∷ [])) ≡ with_bytes (take (i + 1) (map string_bytes names)) 1 ss
+    → extra_bytes mem_state x ≡ (string_bytes name, file_bytes_in ss (i + 1)) → map (extra_bytes mem_state) (items ++ (x ∷ [])) ≡ with_bytes (take (i + 1) (map string_bytes names)) 1 ss
 copied_more items x names ss i name so_far lt there is =
     let same : i + 1 ≡ 1 + i = omega arith in
     map-append (extra_bytes mem_state) items (x ∷ []) ∙ (λ j. so_far j ++ (is j ∷ []))
-    ∙ ap (λ n. with_bytes (take i (map string_bytes names)) 1 ss ++ ((string_bytes name, bytes_in ss n) ∷ [])) same ∙ sym (bytes_more names 1 ss i name lt there)
+    ∙ ap (λ n. with_bytes (take i (map string_bytes names)) 1 ss ++ ((string_bytes name, file_bytes_in ss n) ∷ [])) same ∙ sym (bytes_more names 1 ss i name lt there)
 
 -- all names
 pub copied_all : (names : List (String Global)) (ss : List StorageState) (i : ℕ) → length names ≤ i → with_bytes (take i (map string_bytes names)) 1 ss ≡ with_bytes (map string_bytes names) 1 ss
 copied_all names ss i past = ap (λ ns. with_bytes ns 1 ss) (take_all i (map string_bytes names) (omega (arith, past, length_map string_bytes names)))
 
 -- storages that have the bytes that others have
-with_kept : (names : List (List ℕ)) (k : ℕ) (ss ts : List StorageState) → ((n : ℕ) → bytes_in ts n ≡ bytes_in ss n) → with_bytes names k ts ≡ with_bytes names k ss
+with_kept : (names : List (List ℕ)) (k : ℕ) (ss ts : List StorageState) → ((n : ℕ) → file_bytes_in ts n ≡ file_bytes_in ss n) → with_bytes names k ts ≡ with_bytes names k ss
 with_kept [] k ss ts same = refl
 with_kept (name ∷ names) k ss ts same = λ j. (name, same k j) ∷ with_kept names (suc k) ss ts same j
 
-pub filled_kept : (names : Names) (ss ts : List StorageState) → ((n : ℕ) → bytes_in ts n ≡ bytes_in ss n) → filled names ts ≡ filled names ss
+pub filled_kept : (names : Names) (ss ts : List StorageState) → ((n : ℕ) → file_bytes_in ts n ≡ file_bytes_in ss n) → filled names ts ≡ filled names ss
 filled_kept names ss ts same =
     let further = with_kept names.further 1 ss ts same in
     λ j. record { format = names.format; bytes = same 0 j; extras = further j }
 
 -- the names of storages with their own bytes
-named_bytes : (names : ℕ → List ℕ) (k n : ℕ) (all ss : List StorageState) → ((i : ℕ) → bytes_in all (n + i) ≡ bytes_in ss i)
+named_bytes : (names : ℕ → List ℕ) (k n : ℕ) (all ss : List StorageState) → ((i : ℕ) → file_bytes_in all (n + i) ≡ file_bytes_in ss i)
     → with_bytes (map (λ file. file.0) (with_names names k ss)) n all ≡ with_names names k ss
 named_bytes names k n all [] same = refl
 named_bytes names k n all (s ∷ ss) same =
     let first : n ≡ n + 0 = omega arith in
-    let head : bytes_in all n ≡ s.bytes = ap (bytes_in all) first ∙ same 0 in
-    (λ j. (names k, head j) ∷ named_bytes names (suc k) (suc n) all ss (λ i. let next : suc n + i ≡ n + suc i = omega arith in ap (bytes_in all) next ∙ same (suc i)) j)
+    let head : file_bytes_in all n ≡ s.bytes = ap (file_bytes_in all) first ∙ same 0 in
+    (λ j. (names k, head j) ∷ named_bytes names (suc k) (suc n) all ss (λ i. let next : suc n + i ≡ n + suc i = omega arith in ap (file_bytes_in all) next ∙ same (suc i)) j)
 
 module _ {D St : Type 0} (g : Ghosts D St) (names : D → ℕ → List ℕ) where
   -- what is copied of a layer by its names
   pub filled_is : (d : D) → filled (names_of g names d) (files g d) ≡ driver_bytes g names d
   filled_is d =
-      let further = named_bytes (names d) 0 1 (files g d) (g.extras d) (λ i. let next : 1 + i ≡ suc i = omega arith in ap (bytes_in (files g d)) next) in
+      let further = named_bytes (names d) 0 1 (files g d) (g.extras d) (λ i. let next : 1 + i ≡ suc i = omega arith in ap (file_bytes_in (files g d)) next) in
       λ i. record { format = (g.layer d).fixed.format; bytes = (g.image d).bytes; extras = further i }
 
   same_head : {A : Type 0} (x y : A) (xs ys : List A) → x ∷ xs ≡ y ∷ ys → x ≡ y
@@ -169,18 +168,28 @@ module _ {D St : Type 0} (g : Ghosts D St) (names : D → ℕ → List ℕ) wher
 
 -- ---- Why files aren't copied.
 
+-- a call that is refused for want of memory alone
+pub wanting : {T : Type 0} (r : Result T Fault) (P : Fault → Type 0) → P Memory → IsOkUnless r Memory → IfErr r P
+wanting (Ok v) P holds why = tt
+wanting (Err e) P holds why = subst P (sym why) holds
+
 module _ {D St : Type 0} (g : Ghosts D St) where
   -- a read of a file that fits memory is refused for no other cause
-  pub copy_cause : ((d : D) → IsAlignment (g.layer d).fixed.req_align × IsAlignment (g.layer d).fixed.mem_align) → (olds news : List D) (n : ℕ) (e : Fault) → n ≤ 2 ^ 63
-      → FileReadCause (unit_of_chain (map g.layer olds)) 0 n (files_of g olds) (files_of g news) e → WhyNotCopied (files_of g olds) (files_of g news) e
-  copy_cause aligned olds news n RangeOverflow low why = absurd (overflows_late (unit_of_chain (map g.layer olds)) 0 n (unit_aligned g.layer aligned olds) (omega (arith, low)) why)
-  copy_cause aligned olds news n Memory low why = tt
-  copy_cause aligned olds news n Storage low why = why
-  copy_cause aligned olds news n e low why = absurd why
+  pub copy_cause : ((d : D) → IsAlignment (g.layer d).fixed.req_align × IsAlignment (g.layer d).fixed.mem_align) → ((d : D) → IsOfStorages (g.layer d) (g.image d) (g.extras d))
+      → (olds news : List D) (layer file n : ℕ) (e : Fault) → n ≤ 2 ^ 63
+      → FileReadCause (OverflowsIn (files_at g olds layer) file 0 n) (files_of g olds) (files_of g news) e → WhyNotCopied (files_of g olds) (files_of g news) e
+  copy_cause aligned storages olds news layer file n RangeOverflow low why = absurd (fits_at g aligned storages olds layer file n low why)
+  copy_cause aligned storages olds news layer file n Memory low why = why
+  copy_cause aligned storages olds news layer file n Storage low why = why
+  copy_cause aligned storages olds news layer file n e low why = absurd why
 
-  -- behind reads that weren't cut off
+  -- no storage failed in reads that weren't cut off
+  pub calm : (olds news : List D) → Pairs (FilesRead g ⊤) olds news → Pairs IsFaultless (files_of g olds) (files_of g news)
+  calm olds news read = chain_faults g ⊤ olds news tt (all_read_looked g ⊤ olds news read)
+
+  -- behind such reads
   pub cause_behind : (olds mids news : List D) (e : Fault) → Pairs (FilesRead g ⊤) olds mids → WhyNotCopied (files_of g mids) (files_of g news) e → WhyNotCopied (files_of g olds) (files_of g news) e
-  cause_behind olds mids news Memory read why = tt
+  cause_behind olds mids news Memory read why = faultless_all_both (files_of g olds) (files_of g mids) (files_of g news) (calm olds mids read) why
   cause_behind olds mids news Storage read why =
       some_rose_behind (files_of g olds) (files_of g mids) (files_of g news) (chain_later g ⊤ olds mids (all_read_looked g ⊤ olds mids read)) why
   cause_behind olds mids news e read why = absurd why

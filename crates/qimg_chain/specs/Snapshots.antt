@@ -1,11 +1,12 @@
 -- Copies of the files of a chain, as they stand.
-use Rattle.std.specs.Prelude.{⊤, ℕ, suc, List, [], ◌∷◌, map}
+use Rattle.std.specs.Prelude.{ℕ, suc, List, [], ◌∷◌, map}
 use Rattle.std.specs.String.{string_bytes}
 use Rattle.imago_storage.specs.State.{StorageState}
+use Rattle.imago_storage.specs.Calls.{IsFaultless}
 use Rattle.imago_storage.specs.declared.fault.Fault.{Fault}
 use Rattle.imago_storage.specs.declared.fault.Fault.TheVariants.{Memory, Storage}
-use Rattle.imago_access.specs.FileReads.{bytes_in}
-use Rattle.imago_access.specs.Files.{SomeRose}
+use Rattle.imago_access.specs.FileReads.{file_bytes_in}
+use Rattle.imago_access.specs.Files.{Pairs, SomeRose}
 use Rattle.imago_access.specs.declared.format.Format.{Format}
 use Rattle.imago_access.specs.declared.seen.Seen.{Ghosts}
 use Rattle.qimg_chain.specs.FileMeanings.{FileBytes, with_names}
@@ -26,14 +27,14 @@ names_of g names d = record { format = (g.layer d).fixed.format; further = map (
 -- names with the bytes of the storages from this number on
 abbrev pub with_bytes : List (List ℕ) → ℕ → List StorageState → List (List ℕ × List ℕ)
 with_bytes [] number files = []
-with_bytes (name ∷ names) number files = (name, bytes_in files number) ∷ with_bytes names (suc number) files
+with_bytes (name ∷ names) number files = (name, file_bytes_in files number) ∷ with_bytes names (suc number) files
 
 -- the files of a layer by these names: its image file is the first of them, and the further files follow
 abbrev pub filled : Names → List StorageState → FileBytes
-filled names files = record { format = names.format; bytes = bytes_in files 0; extras = with_bytes names.further 1 files }
+filled names files = record { format = names.format; bytes = file_bytes_in files 0; extras = with_bytes names.further 1 files }
 
 -- why files aren't copied: want of memory, or a storage that failed
 abbrev pub WhyNotCopied : List StorageState → List StorageState → Fault → Type 0
-WhyNotCopied olds news Memory = ⊤
+WhyNotCopied olds news Memory = Pairs IsFaultless olds news
 WhyNotCopied olds news Storage = SomeRose olds news
 WhyNotCopied olds news fault = ⊥

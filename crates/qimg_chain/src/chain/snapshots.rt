@@ -1,6 +1,6 @@
 // The files of a chain as they stand, copied.
 ghost use Rattle.std.specs.Prelude.{◌≡◌, ◌∷◌, map, OnOk, IfOk, IfErr, IsOkUnless};
-ghost use Rattle.imago_access.specs.FileReads.{bytes_in, files_at, FilesRead};
+ghost use Rattle.imago_access.specs.FileReads.{file_bytes_in, files_at, FilesRead};
 ghost use Rattle.imago_access.specs.Files.{Pairs, WasNotCutOff, files_of};
 ghost use Rattle.imago_access.specs.Going.{Looked};
 ghost use Rattle.imago_access.specs.Layers.{chain as drivers};
@@ -24,8 +24,8 @@ struct LayerNames {
 /// The files of a chain as they now are, the top first: each with its format, and the further files that are open with the names by which
 /// its image asks for them. What waits in memory to be written isn't in them. The chain may have failed; it shows what it did.
 ///
-/// It refuses with `Fault::Memory`, and with `Fault::Storage` where a storage of the chain failed. A refusal, too, leaves all of the chain
-/// but counts of faults as it was, and marks no image as failed.
+/// It refuses with `Fault::Memory`, where no storage of the chain failed, and with `Fault::Storage`, where one did. A refusal, too, leaves
+/// all of the chain but counts of faults as it was, and marks no image as failed.
 pub fn snapshot<D: NamesFiles + ReadFiles>(
     alloc: Global,
     chain: &mut FormatAccess<D>,
@@ -125,7 +125,7 @@ fn copy_file<D: ReadFiles>(
     layer: usize,
     file: usize,
 ) -> Result<MemStorage, Fault>
-    ensures ok { IfOk result (λ copy. (mem_state copy).bytes ≡ bytes_in (files_at D.Seen (drivers chain.old) layer) file) }
+    ensures ok { IfOk result (λ copy. (mem_state copy).bytes ≡ file_bytes_in (files_at D.Seen (drivers chain.old) layer) file) }
     ensures read { Pairs (FilesRead D.Seen (WasNotCutOff result)) (drivers chain.old) (drivers chain.new) }
     ensures cause { IfErr result (WhyNotCopied (files_of D.Seen (drivers chain.old)) (files_of D.Seen (drivers chain.new))) }
 {

@@ -1,12 +1,13 @@
-use Rattle.std.proofs.Common.{◌≡◌, ◌∙◌, ◌+◌, ap, arith, map}
+use Rattle.std.proofs.Common.{rules, ◌∙◌, ◌+◌, ap, arith, map}
 use Rattle.std.specs.Prelude.{⊤}
 use Rattle.imago_access.specs.FileReads.{files_at}
-use Rattle.imago_access.specs.Files.{IsMild, WasNotCutOff}
+use Rattle.imago_access.specs.Files.{IsMild, WasNotCutOff, files_of}
 use Rattle.imago_access.specs.Layers.{chain as drivers}
 use Rattle.imago_access.proofs.FileReads.{all_read_both, all_read_same, bytes_at_kept}
 use Rattle.imago_storage.specs.MemStorage.{mem_state}
 use Rattle.qimg_chain.specs.FileMeanings.{extra_bytes}
-use Rattle.qimg_chain.proofs.Snapshots.{cause_behind, copied_more}
+use Rattle.qimg_chain.specs.Snapshots.{WhyNotCopied}
+use Rattle.qimg_chain.proofs.Snapshots.{calm, cause_behind, copied_more, wanting}
 use Rattle.qimg_chain.proofs.chain.snapshots.copy_layer.Goals as goal
 
 pub loop-index-preserved : goal.loop-index-preserved
@@ -46,3 +47,17 @@ pub returns-in-Err-copy_file-clause-cause : goal.returns-in-Err-copy_file-clause
 returns-in-Err-copy_file-clause-cause g c =
     let old = drivers c.args.chain.now in let now = drivers c.loop-index.chain in let new = drivers c.copy_file-in-loop-index.new.chain in
     cause_behind g.D.Seen old now new c.in-Err-copy_file.fault c.loop-index.invariant.read c.in-Err-copy_file.ensures.cause
+
+pub returns-in_err-clone-in-Ok-copy_file-clause-cause : goal.returns-in_err-clone-in-Ok-copy_file-clause-cause
+returns-in_err-clone-in-Ok-copy_file-clause-cause g c =
+    let d = g.D.Seen in
+    let old = drivers c.args.chain.now in let now = drivers c.loop-index.chain in let new = drivers c.copy_file-in-loop-index.new.chain in
+    wanting c.from_residual.result (WhyNotCopied (files_of d old) (files_of d new))
+    (calm d old new (all_read_both d ⊤ old now new c.loop-index.invariant.read c.in-Ok-copy_file.ensures.read)) (search rules)
+
+pub returns-in_err-push-in-Ok-copy_file-clause-cause : goal.returns-in_err-push-in-Ok-copy_file-clause-cause
+returns-in_err-push-in-Ok-copy_file-clause-cause g c =
+    let d = g.D.Seen in
+    let old = drivers c.args.chain.now in let now = drivers c.loop-index.chain in let new = drivers c.copy_file-in-loop-index.new.chain in
+    wanting c.from_residual-in_err-push-in-Ok-copy_file.result (WhyNotCopied (files_of d old) (files_of d new))
+    (calm d old new (all_read_both d ⊤ old now new c.loop-index.invariant.read c.in-Ok-copy_file.ensures.read)) (search rules)

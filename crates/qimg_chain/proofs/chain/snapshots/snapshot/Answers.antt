@@ -1,14 +1,15 @@
-use Rattle.std.proofs.Common.{◌≡◌, ◌∙◌, ap, arith}
+use Rattle.std.proofs.Common.{rules, ◌∙◌, ap, arith, subst, sym}
 use Rattle.std.specs.Prelude.{⊤}
 use Rattle.imago_access.specs.FileReads.{files_at}
-use Rattle.imago_access.specs.Files.{IsMild, WasNotCutOff}
+use Rattle.imago_access.specs.Files.{IsMild, WasNotCutOff, files_of}
 use Rattle.imago_access.specs.Layers.{chain as drivers}
+use Rattle.imago_access.proofs.FilePairs.{faultless_all_same}
 use Rattle.imago_access.proofs.FileReads.{all_read_both, all_read_looked, all_read_same, bytes_at_kept}
 use Rattle.imago_access.proofs.Looking.{all_looked_same}
 use Rattle.imago_storage.specs.MemStorage.{mem_state}
 use Rattle.qimg_chain.specs.FileMeanings.{files_bytes}
-use Rattle.qimg_chain.specs.Snapshots.{said_names}
-use Rattle.qimg_chain.proofs.Snapshots.{cause_behind, files_more, filled_kept}
+use Rattle.qimg_chain.specs.Snapshots.{said_names, WhyNotCopied}
+use Rattle.qimg_chain.proofs.Snapshots.{calm, cause_behind, files_more, filled_kept, wanting}
 use Rattle.qimg_chain.proofs.chain.snapshots.snapshot.Goals as goal
 
 pub returns-in-Err-clause-read : goal.returns-in-Err-clause-read
@@ -73,3 +74,15 @@ returns-in-Err-copy_layer-clause-cause g c =
 pub returns-clause-looked : goal.returns-clause-looked
 returns-clause-looked g c =
     all_read_looked g.D.Seen ⊤ (drivers c.args.chain.now) (drivers c.loop-layer.chain) c.loop-layer.invariant.read
+
+pub returns-in-Err-clause-cause : goal.returns-in-Err-clause-cause
+returns-in-Err-clause-cause g c =
+    let ss = files_of g.D.Seen (drivers c.args.chain.now) in
+    subst (WhyNotCopied ss ss) (sym c.in-Err.ensures.err) (faultless_all_same ss)
+
+pub returns-in_err-push-in-Ok-copy_layer-clause-cause : goal.returns-in_err-push-in-Ok-copy_layer-clause-cause
+returns-in_err-push-in-Ok-copy_layer-clause-cause g c =
+    let d = g.D.Seen in
+    let old = drivers c.args.chain.now in let now = drivers c.loop-layer.chain in let new = drivers c.copy_layer.new.chain in
+    wanting c.from_residual.result (WhyNotCopied (files_of d old) (files_of d new))
+    (calm d old new (all_read_both d ⊤ old now new c.loop-layer.invariant.read c.in-Ok-copy_layer.ensures.read)) (search rules)
