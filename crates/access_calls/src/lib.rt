@@ -5,6 +5,7 @@
 
 mod calls;
 mod driving;
+mod file_reads;
 mod texts;
 mod words;
 

@@ -4,8 +4,9 @@ use crate::calls::{
     read, ready, resize, shrink, sizes, sync, top, write, write_mapped,
 };
 use crate::driving::drive;
-use cases::{Trouble, bytes, number};
-use imago_access::{FormatAccess, FormatDriverInstance, PreallocateMode};
+use crate::file_reads::{file_size, read_by};
+use cases::{Trouble, bytes, number, size};
+use imago_access::{FormatAccess, FormatDriverInstance, PreallocateMode, ReadFiles};
 use std::alloc::Global;
 use std::fmt::Display;
 
@@ -190,6 +191,8 @@ fn named<D: FormatDriverInstance + Display>(
 /// - `grow` and `resize SIZE MODE`, `shrink SIZE`, with `none`, `zero`, `format`, `full` or `data` as a mode; `flush`, `sync`, `invalidate`.
 /// - `sizes` of the layers, the highest first, and `ready`, whether each can be used; `aligns` of requests and of memory; `named`,
 ///   `prepared`.
+/// - `file_size LAYER FILE` and `read_file LAYER FILE OFFSET N` of a layer's file as it stands: the top has the number 0, and so has its
+///   image file.
 /// - `driver CALL` of the top layer's driver: `is`, `granularity`, `ready`; `file` and `extra INDEX`, how long its files are; `map`,
 ///   `read_special`, `zero`, `to_zero`, `to_any` and `to_backing OFFSET N`, which tell the part that is done; `read STORAGE PLACE N`; `write
 ///   GUEST PLACE BYTES`.
@@ -198,7 +201,7 @@ fn named<D: FormatDriverInstance + Display>(
 ///
 /// [`Trouble::NoCall`] where the words are no call, or where it is one that may not be made while something is prepared;
 /// [`Trouble::Refused`] as the call.
-pub fn called<D: FormatDriverInstance + Display>(
+pub fn called<D: ReadFiles + Display>(
     alloc: Global,
     disk: &mut FormatAccess<D>,
     words: &[&str],
@@ -206,6 +209,8 @@ pub fn called<D: FormatDriverInstance + Display>(
     match words {
         ["named"] => named(alloc, disk),
         [word] => said(alloc, disk, word),
+        ["file_size", layer, file] => file_size(alloc, disk, size(layer)?, size(file)?),
+        ["read_file", rest @ ..] => read_by(alloc, disk, rest),
         ["driver", rest @ ..] => drive(alloc, top(disk)?, rest),
         [word, first, rest @ ..] => called_at(alloc, disk, word, number(first)?, rest),
         _ => Err(Trouble::NoCall),
