@@ -1,10 +1,12 @@
 -- How one cluster is given a counter, and handed out.
-use Rattle.std.specs.Prelude.{◌≡◌, ◌≢◌, ℕ, ◌/◌, ◌<◌, Bool, true, false, Option, Some, Result, OnOk, OnErr, IfOk, Ok, Err, MatchResult, length, slice_index}
+use Rattle.std.specs.Prelude.{◌≡◌, ◌≢◌, ℕ, ◌/◌, ◌<◌, false, Option, Some, Result, OnOk, OnErr, IfOk, Ok, Err, MatchResult, length, slice_index}
 use Rattle.imago_storage.specs.State.{StorageState}
 use Rattle.imago_storage.specs.declared.fault.Fault.{Fault}
 use Rattle.qcow2_types.specs.Counts.{counters_of_block}
 use Rattle.qcow2_types.specs.Pending.{FreeEntry}
 use Rattle.qcow2_types.specs.Words.{block_offset}
+use Rattle.qcow2_alloc.specs.declared.allocation.handing_out.Readiness.{Readiness}
+use Rattle.qcow2_alloc.specs.declared.allocation.handing_out.Readiness.TheVariants.{Ready, NoPlace}
 use Rattle.qcow2_alloc.specs.Allocating.{Allocating, CountsRun, WhyNotAllocated}
 use Rattle.qcow2_alloc.specs.Freeing.{IsLoose, IsMarked}
 use Rattle.qcow2_alloc.specs.Going.{WasNotCutOff}
@@ -30,21 +32,21 @@ pub record HandsOut {S T : Type 0} (state : S → StorageState) (handed : Result
       (WhyNotAllocated (IsGuarded state s) (IsLoose s.table s.caches) (λ _. ⊥) (state s.file.image).faults (state s'.file.image).faults)
 
 -- The refcount table has a word for a cluster, or there is no place for one that has;
-pub record ReadiesWord {S : Type 0} (state : S → StorageState) (mark cluster : ℕ) (s : ImageState S) (result : Result Bool Fault)
+pub record ReadiesWord {S : Type 0} (state : S → StorageState) (mark cluster : ℕ) (s : ImageState S) (result : Result Readiness Fault)
     (s' : ImageState S) : Type 0 where
   pub did : HandsOut state leaked_by s result s'
-  pub there : IfOk result (λ there. there ≡ true → cluster / counters_of_block s.file.header.fields < length s'.table.words)
-  pub barred : WhereGuarded state s (IfOk result (λ there. there ≡ false → IsBarred (metadata state s) mark cluster))
-  pub near : WhereGuarded state s (IfOk result (λ there. IsTakenFor mark cluster (metadata state s) (metadata state s')))
+  pub there : IfOk result (λ answer. answer ≡ Ready → cluster / counters_of_block s.file.header.fields < length s'.table.words)
+  pub barred : WhereGuarded state s (IfOk result (λ answer. answer ≡ NoPlace → IsBarred (metadata state s) mark cluster))
+  pub near : WhereGuarded state s (IfOk result (λ answer. IsTakenFor mark cluster (metadata state s) (metadata state s')))
 
 -- and so it names the block that counts the cluster.
-pub record ReadiesCounter {S : Type 0} (state : S → StorageState) (mark cluster : ℕ) (s : ImageState S) (result : Result Bool Fault)
+pub record ReadiesCounter {S : Type 0} (state : S → StorageState) (mark cluster : ℕ) (s : ImageState S) (result : Result Readiness Fault)
     (s' : ImageState S) : Type 0 where
   pub did : HandsOut state leaked_by s result s'
   pub there : IfOk result
-      (λ there. there ≡ true → block_offset (slice_index s'.table.words (cluster / counters_of_block s.file.header.fields)) ≢ 0)
-  pub barred : WhereGuarded state s (IfOk result (λ there. there ≡ false → IsBarred (metadata state s) mark cluster))
-  pub near : WhereGuarded state s (IfOk result (λ there. IsTakenFor mark cluster (metadata state s) (metadata state s')))
+      (λ answer. answer ≡ Ready → block_offset (slice_index s'.table.words (cluster / counters_of_block s.file.header.fields)) ≢ 0)
+  pub barred : WhereGuarded state s (IfOk result (λ answer. answer ≡ NoPlace → IsBarred (metadata state s) mark cluster))
+  pub near : WhereGuarded state s (IfOk result (λ answer. IsTakenFor mark cluster (metadata state s) (metadata state s')))
 
 -- whether a cluster was counted
 abbrev pub counting_of : Result (Option FreeEntry) Fault → Result Unit Fault

@@ -1,5 +1,5 @@
 -- A cluster is given a counter: a word of the refcount table, and a block.
-use Rattle.std.proofs.Common.{◌≡◌, ◌≢◌, ℕ, ◌+◌, ◌*◌, ◌/◌, ◌^◌, ◌<◌, ◌≤◌, ◌++◌, true, false, refl, arith, ap, sym, subst, ◌∙◌, inl, inr, length, Bool, Result, Ok, Err}
+use Rattle.std.proofs.Common.{◌≡◌, ◌≢◌, ℕ, ◌+◌, ◌*◌, ◌/◌, ◌^◌, ◌<◌, ◌≤◌, ◌++◌, refl, arith, ap, sym, subst, ◌∙◌, inl, inr, length, Bool, Result, Ok, Err}
 use Rattle.std.specs.Prelude.{⊤, IsTrue, OnOk, OnErr, slice_index, MatchResult}
 use Rattle.std.proofs.lemmas.Bool.{cases_eq}
 use Rattle.std.proofs.lemmas.Nat.{div-add-mod'}
@@ -16,6 +16,8 @@ use Rattle.qcow2_types.specs.Words.{block_offset}
 use Rattle.qcow2_metadata.specs.Growth.{IsGrownLength}
 use Rattle.qcow2_metadata.specs.Places.{IsInReach}
 use Rattle.qcow2_metadata.specs.Tables.{TableValue}
+use Rattle.qcow2_alloc.specs.declared.allocation.handing_out.Readiness.{Readiness}
+use Rattle.qcow2_alloc.specs.declared.allocation.handing_out.Readiness.TheVariants.{Ready, NoPlace}
 use Rattle.qcow2_alloc.specs.declared.cache.CacheDependency.TheVariants.{L2DependsOnRb}
 use Rattle.qcow2_alloc.specs.declared.cache.MetadataCaches.{MetadataCaches}
 use Rattle.qcow2_alloc.specs.declared.file.ImageFile.{ImageFile}
@@ -33,6 +35,14 @@ use Rattle.qcow2_alloc.proofs.Handing.Allocating.{allocating-none, allocating-as
 use Rattle.qcow2_alloc.proofs.Blocks.ReadyingBlocks.{leaks-none}
 use Rattle.qcow2_alloc.proofs.Blocks.EnsuringBlocks.{so, refused, why-allocated-wider}
 use Rattle.qcow2_alloc.proofs.Space.KeepingRoom.{covered-inside}
+
+-- the answer of a call that readies a counter
+abbrev pub ready_so : Readiness → Result Readiness Fault
+ready_so answer = Ok answer
+
+-- and of one that was refused
+abbrev pub not_ready : Fault → Result Readiness Fault
+not_ready fault = Err fault
 
 -- What isn't refused for want of a place is refused for another cause.
 pub never-limit : (sound : Type 0) (loose : Bool → Type 0) (full full' : ℕ → Type 0) (before after : ℕ) (fault : Fault) → ((number : ℕ) → fault ≢ Limit number) → WhyNotAllocated sound loose full before after fault → WhyNotAllocated sound loose full' before after fault
@@ -57,20 +67,20 @@ module _ {S : Type 0} (state : S → StorageState) (mark cluster : ℕ) (s : Ima
   k = counters_of_block s.file.header.fields
 
   -- Nothing was to be done.
-  stands : (there : Bool) → HandsOut state leaked_by s (so there) s
-  stands there = record {
+  stands : (answer : Readiness) → HandsOut state leaked_by s (ready_so answer) s
+  stands answer = record {
     leaked = λ _. 0;
-    leaks = leaks-none _ _ (so there);
+    leaks = leaks-none _ _ (ready_so answer);
     step = allocating-none state s;
     list = inl refl;
     cause = refl;
   }
 
-  pub counter-stands : block_offset (slice_index s.table.words (cluster / k)) ≢ 0 → ReadiesCounter state mark cluster s (so true) s
-  counter-stands some = record { did = stands true; there = λ yes. some; barred = λ order keeps sound no. cc no; near = λ order keeps sound c none more. absurd (omega (arith, none, more)) }
+  pub counter-stands : block_offset (slice_index s.table.words (cluster / k)) ≢ 0 → ReadiesCounter state mark cluster s (ready_so Ready) s
+  counter-stands some = record { did = stands Ready; there = λ yes. some; barred = λ order keeps sound no. cc no; near = λ order keeps sound c none more. absurd (omega (arith, none, more)) }
 
-  pub word-stands : cluster / k < length s.table.words → ReadiesWord state mark cluster s (so true) s
-  word-stands inside = record { did = stands true; there = λ yes. inside; barred = λ order keeps sound no. cc no; near = λ order keeps sound c none more. absurd (omega (arith, none, more)) }
+  pub word-stands : cluster / k < length s.table.words → ReadiesWord state mark cluster s (ready_so Ready) s
+  word-stands inside = record { did = stands Ready; there = λ yes. inside; barred = λ order keeps sound no. cc no; near = λ order keeps sound c none more. absurd (omega (arith, none, more)) }
 
   -- The table has grown,
   module _ (past : length s.table.words ≤ cluster / k) (result : Result Unit Fault) (s' : ImageState S) (grows : GrowsTable state mark (cluster / k) s result s') where
@@ -82,12 +92,12 @@ module _ {S : Type 0} (state : S → StorageState) (mark cluster : ℕ) (s : Ima
     no-leak : (result ≡ Err CacheFull → ⊥) → (c : ℕ) → grows.leaked c ≡ 0
     no-leak = grows.leaks.none
 
-    pub word-made : result ≡ Ok tt → ReadiesWord state mark cluster s (so true) s'
+    pub word-made : result ≡ Ok tt → ReadiesWord state mark cluster s (ready_so Ready) s'
     word-made ok = record {
       did = record {
         leaked = λ _. 0;
-        leaks = leaks-none _ _ (so true);
-        step = allocating-as state (WasNotCutOff result) (WasNotCutOff (so true)) grows.leaked (λ _. 0) s s' (λ whole. subst (λ (r : Result Unit Fault). WasNotCutOff r) (sym ok) tt) (no-leak (λ full. let e = sym ok ∙ full in cc)) grows.step;
+        leaks = leaks-none _ _ (ready_so Ready);
+        step = allocating-as state (WasNotCutOff result) (WasNotCutOff (ready_so Ready)) grows.leaked (λ _. 0) s s' (λ whole. subst (λ (r : Result Unit Fault). WasNotCutOff r) (sym ok) tt) (no-leak (λ full. let e = sym ok ∙ full in cc)) grows.step;
         list = grown-list result grows.enough grows.waits grows.kept;
         cause = by-cause _ result ok grows.cause;
       };
@@ -117,12 +127,12 @@ module _ {S : Type 0} (state : S → StorageState) (mark cluster : ℕ) (s : Ima
         by-cause P (Err fault) is same = absurd (cc is)
 
     -- or has no place,
-    pub word-barred : (number : ℕ) → result ≡ Err (Limit number) → ReadiesWord state mark cluster s (so false) s'
+    pub word-barred : (number : ℕ) → result ≡ Err (Limit number) → ReadiesWord state mark cluster s (ready_so NoPlace) s'
     word-barred number limit = record {
       did = record {
         leaked = λ _. 0;
-        leaks = leaks-none _ _ (so false);
-        step = allocating-as state (WasNotCutOff result) (WasNotCutOff (so false)) grows.leaked (λ _. 0) s s' (λ whole. subst (λ (r : Result Unit Fault). WasNotCutOff r) (sym limit) tt) (no-leak (λ full. let e = sym limit ∙ full in cc)) grows.step;
+        leaks = leaks-none _ _ (ready_so NoPlace);
+        step = allocating-as state (WasNotCutOff result) (WasNotCutOff (ready_so NoPlace)) grows.leaked (λ _. 0) s s' (λ whole. subst (λ (r : Result Unit Fault). WasNotCutOff r) (sym limit) tt) (no-leak (λ full. let e = sym limit ∙ full in cc)) grows.step;
         list = grown-list result grows.enough grows.waits grows.kept;
         cause = cause.1;
       };
@@ -138,12 +148,12 @@ module _ {S : Type 0} (state : S → StorageState) (mark cluster : ℕ) (s : Ima
             (state s.file.image).faults (state s'.file.image).faults)) limit grows.cause
 
     -- or was refused.
-    pub word-refused : (fault : Fault) → result ≡ Err fault → ((number : ℕ) → fault ≢ Limit number) → ReadiesWord state mark cluster s (refused fault) s'
+    pub word-refused : (fault : Fault) → result ≡ Err fault → ((number : ℕ) → fault ≢ Limit number) → ReadiesWord state mark cluster s (not_ready fault) s'
     word-refused fault is other = record {
       did = record {
         leaked = grows.leaked;
         leaks = record { none = λ full. grows.leaks.none (λ at. full (let e = sym is ∙ at in cc)); pinned = grows.leaks.pinned };
-        step = allocating-as state (WasNotCutOff result) (WasNotCutOff (refused fault)) grows.leaked grows.leaked s s' (λ whole. subst (λ (r : Result Unit Fault). WasNotCutOff r) (sym is) whole) (λ c. refl) grows.step;
+        step = allocating-as state (WasNotCutOff result) (WasNotCutOff (not_ready fault)) grows.leaked grows.leaked s s' (λ whole. subst (λ (r : Result Unit Fault). WasNotCutOff r) (sym is) whole) (λ c. refl) grows.step;
         list = grown-list result grows.enough grows.waits grows.kept;
         cause = never-limit _ _ _ _ _ _ fault other (subst (λ (r : Result Unit Fault). MatchResult r (λ _. (state s'.file.image).faults ≡ (state s.file.image).faults)
             (WhyNotAllocated (IsGuarded state s) (IsLoose s.table s.caches)
@@ -158,14 +168,14 @@ module _ {S : Type 0} (state : S → StorageState) (mark cluster : ℕ) (s : Ima
   -- There is a word for the cluster, and its block is made.
   module _ (mid : ImageState S) where
     -- There was no place for one,
-    pub counter-barred : ReadiesWord state mark cluster s (so false) mid → ReadiesCounter state mark cluster s (so false) mid
+    pub counter-barred : ReadiesWord state mark cluster s (ready_so NoPlace) mid → ReadiesCounter state mark cluster s (ready_so NoPlace) mid
     counter-barred word = record { did = word.did; there = λ yes. cc yes; barred = word.barred; near = word.near }
 
     -- it wasn't to be had,
-    pub counter-refused : (fault : Fault) → ReadiesWord state mark cluster s (refused fault) mid → ReadiesCounter state mark cluster s (refused fault) mid
+    pub counter-refused : (fault : Fault) → ReadiesWord state mark cluster s (not_ready fault) mid → ReadiesCounter state mark cluster s (not_ready fault) mid
     counter-refused fault word = record { did = word.did; there = tt; barred = word.barred; near = word.near }
 
-    module _ (word : ReadiesWord state mark cluster s (so true) mid) (reach : IsInReach s.file.header.fields.cluster_bits cluster) (table' : TableValue) (new : MetadataCaches S) (after : ImageFile S) where
+    module _ (word : ReadiesWord state mark cluster s (ready_so Ready) mid) (reach : IsInReach s.file.header.fields.cluster_bits cluster) (table' : TableValue) (new : MetadataCaches S) (after : ImageFile S) where
       header-moved : (P : Header → Type 0) → P (with_refcount_table s.file.header word.did.step.moved.0 word.did.step.moved.1) → P mid.file.header
       header-moved P p = subst P (sym word.did.step.moved.2) p
 
@@ -180,8 +190,8 @@ module _ {S : Type 0} (state : S → StorageState) (mark cluster : ℕ) (s : Ima
       never-far number (i, above, below, le, far) = let there = near i above below in let more = mul-le-mul_right (2 ^ mid.file.header.fields.cluster_bits) le in far (omega (arith, there, more))
 
       both : (ok' : Type 0) → Allocating state ok' (λ _. 0) mid (lent table' new after mid.pending) → Allocating state ok' (λ _. 0) s (lent table' new after mid.pending)
-      both ok' two = allocating-as state ok' ok' (λ c. leaked_by (so true) word.did.leaked c + 0) (λ _. 0) s (lent table' new after mid.pending) (λ o. o) (λ c. omega arith)
-          (allocating-then state ⊤ ok' (leaked_by (so true) word.did.leaked) (λ _. 0) s mid (lent table' new after mid.pending) tt word.did.step two)
+      both ok' two = allocating-as state ok' ok' (λ c. leaked_by (ready_so Ready) word.did.leaked c + 0) (λ _. 0) s (lent table' new after mid.pending) (λ o. o) (λ c. omega arith)
+          (allocating-then state ⊤ ok' (leaked_by (ready_so Ready) word.did.leaked) (λ _. 0) s mid (lent table' new after mid.pending) tt word.did.step two)
 
       blocks-behind : IsLengthenedByTable s.file.header.fields s.table mid.table s.pending mid.pending → length table'.words ≡ length mid.table.words → IsLengthenedByTable s.file.header.fields s.table table' s.pending mid.pending
       blocks-behind (inl same) long = inl same
@@ -194,11 +204,11 @@ module _ {S : Type 0} (state : S → StorageState) (mark cluster : ℕ) (s : Ima
       pub counter-made : (made : Bool) → MakesBlocks state (cluster / k) (cluster / k + 1) mid (so made) (lent table' new after mid.pending)
           → (order_of mid.caches ≡ L2DependsOnRb → IsTrue (state mid.file.image).shape.keeps → IsSound (metadata state mid)
           → FillsFrom mark (cluster / k) (cluster / k + 1) (metadata state mid) (metadata_of state after new table' mid.pending))
-          → ReadiesCounter state mark cluster s (so true) (lent table' new after mid.pending)
+          → ReadiesCounter state mark cluster s (ready_so Ready) (lent table' new after mid.pending)
       counter-made made blocks fills = record {
         did = record {
           leaked = λ _. 0;
-          leaks = leaks-none _ _ (so true);
+          leaks = leaks-none _ _ (ready_so Ready);
           step = both ⊤ blocks.step;
           list = blocks-behind word.did.list blocks.long;
           cause = blocks.cause ∙ word.did.cause;
@@ -221,12 +231,12 @@ module _ {S : Type 0} (state : S → StorageState) (mark cluster : ℕ) (s : Ima
       }
 
       -- or none could be made.
-      pub counter-unmade : (fault : Fault) → MakesBlocks state (cluster / k) (cluster / k + 1) mid (refused fault) (lent table' new after mid.pending) → ReadiesCounter state mark cluster s (refused fault) (lent table' new after mid.pending)
+      pub counter-unmade : (fault : Fault) → MakesBlocks state (cluster / k) (cluster / k + 1) mid (refused fault) (lent table' new after mid.pending) → ReadiesCounter state mark cluster s (not_ready fault) (lent table' new after mid.pending)
       counter-unmade fault blocks = record {
         did = record {
           leaked = λ _. 0;
-          leaks = leaks-none _ _ (refused fault);
-          step = both (WasNotCutOff (refused fault)) blocks.step;
+          leaks = leaks-none _ _ (not_ready fault);
+          step = both (WasNotCutOff (not_ready fault)) blocks.step;
           list = blocks-behind word.did.list blocks.long;
           cause = why-allocated-wider _ _ _ _ _ _ _ _ _ holds-still word.did.step.loose never-far word.did.cause fault blocks.cause;
         };

@@ -1,5 +1,5 @@
 -- A cluster gets a counter, and is handed out where it is free.
-use Rattle.std.proofs.Common.{◌≡◌, ℕ, ◌+◌, ◌/◌, ◌<◌, ◌≤◌, true, false, refl, arith, ap, sym, subst, ◌∙◌, inl, inr, Option, None, Some, Result, Ok, Err, length}
+use Rattle.std.proofs.Common.{◌≡◌, ℕ, ◌+◌, ◌/◌, ◌<◌, ◌≤◌, true, refl, arith, ap, sym, subst, ◌∙◌, inl, inr, Option, None, Some, Result, Ok, Err, length}
 use Rattle.std.specs.Prelude.{⊤, ◌⊎◌, IsTrue, IfOk, MatchResult}
 use Rattle.std.proofs.lemmas.Bool.{cases_eq, cases_lt}
 use Rattle.std.proofs.lemmas.List.{get_or_past}
@@ -12,6 +12,7 @@ use Rattle.qcow2_types.specs.Words.{block_offset}
 use Rattle.qcow2_types.specs.Pending.{FreeEntry}
 use Rattle.qcow2_types.specs.References.{structure, meets}
 use Rattle.qcow2_metadata.specs.Places.{IsInReach}
+use Rattle.qcow2_alloc.specs.declared.allocation.handing_out.Readiness.TheVariants.{Ready, NoPlace}
 use Rattle.qcow2_alloc.specs.declared.cache.CacheDependency.TheVariants.{L2DependsOnRb}
 use Rattle.qcow2_alloc.specs.declared.cache.MetadataCaches.{MetadataCaches}
 use Rattle.qcow2_alloc.specs.declared.file.ImageFile.{ImageFile}
@@ -29,7 +30,8 @@ use Rattle.qcow2_alloc.proofs.Handing.Allocating.{counted-still, allocating-none
 use Rattle.qcow2_alloc.proofs.Blocks.ReadyingBlocks.{leaks-none}
 use Rattle.qcow2_alloc.proofs.Handing.HandedOut.{stands-there}
 use Rattle.qcow2_alloc.proofs.Handing.CountingOne.{handed_so, not_handed}
-use Rattle.qcow2_alloc.proofs.Blocks.EnsuringBlocks.{so, refused, why-allocated-wider}
+use Rattle.qcow2_alloc.proofs.Blocks.EnsuringBlocks.{why-allocated-wider}
+use Rattle.qcow2_alloc.proofs.Blocks.ReadyingCounters.{ready_so, not_ready}
 
 -- What is before the mark stays counted where counts are raised alone,
 pub marked-raised : (m m' : Metadata) (mark : ℕ) → OnlyRaised m m' → IsMarked m mark → IsMarked m' mark
@@ -69,7 +71,7 @@ module _ {S : Type 0} (state : S → StorageState) (mark cluster : ℕ) (s : Ima
     Mid = metadata state mid
 
     -- nor one that there is no counter for,
-    pub uncounted-at : ReadiesCounter state mark cluster s (so false) mid → AllocatesAt state Barred mark cluster s (handed_so None) mid mark
+    pub uncounted-at : ReadiesCounter state mark cluster s (ready_so NoPlace) mid → AllocatesAt state Barred mark cluster s (handed_so None) mid mark
     uncounted-at counter = record {
       did = record { leaked = λ _. 0; leaks = leaks-none _ _ (handed_so None); step = counter.did.step; list = counter.did.list; cause = counter.did.cause };
       one = tt;
@@ -81,7 +83,7 @@ module _ {S : Type 0} (state : S → StorageState) (mark cluster : ℕ) (s : Ima
     }
 
     -- nor any where that is refused.
-    pub refused-at : (fault : Fault) → ReadiesCounter state mark cluster s (refused fault) mid → AllocatesAt state Barred mark cluster s (not_handed fault) mid mark
+    pub refused-at : (fault : Fault) → ReadiesCounter state mark cluster s (not_ready fault) mid → AllocatesAt state Barred mark cluster s (not_handed fault) mid mark
     refused-at fault counter = record {
       did = record {
         leaked = counter.did.leaked;
@@ -98,7 +100,7 @@ module _ {S : Type 0} (state : S → StorageState) (mark cluster : ℕ) (s : Ima
       marked = λ order keeps sound whole marked. marked-raised Old Mid mark (counter.did.step.raised order keeps sound whole) marked;
     }
 
-    module _ (counter : ReadiesCounter state mark cluster s (so true) mid) (result : Result (Option FreeEntry) Fault) (new : MetadataCaches S) (after : ImageFile S) (mark' : ℕ)
+    module _ (counter : ReadiesCounter state mark cluster s (ready_so Ready) mid) (result : Result (Option FreeEntry) Fault) (new : MetadataCaches S) (after : ImageFile S) (mark' : ℕ)
         (one : AllocatesAt state (λ _. ⊥) mark cluster mid result (lent mid.table new after mid.pending) mark') where
       abbrev New : Metadata
       New = metadata_of state after new mid.table mid.pending
@@ -107,8 +109,8 @@ module _ {S : Type 0} (state : S → StorageState) (mark cluster : ℕ) (s : Ima
       holds-still holds = let quiet = counter.did.step.quiet holds.1 in (keeps_on (state s.file.image) (state mid.file.image) quiet.shape holds.0, counter.did.step.order ∙ holds.1, (quiet.holds holds.0 holds.2 tt).0)
 
       both : Allocating state (WasNotCutOff result) (handed_at result one.did.leaked) s (lent mid.table new after mid.pending)
-      both = allocating-as state (WasNotCutOff result) (WasNotCutOff result) (λ c. leaked_by (so true) counter.did.leaked c + handed_at result one.did.leaked c) (handed_at result one.did.leaked) s (lent mid.table new after mid.pending) (λ w. w) (λ c. omega arith)
-          (allocating-then state ⊤ (WasNotCutOff result) (leaked_by (so true) counter.did.leaked) (handed_at result one.did.leaked) s mid (lent mid.table new after mid.pending) tt counter.did.step one.did.step)
+      both = allocating-as state (WasNotCutOff result) (WasNotCutOff result) (λ c. leaked_by (ready_so Ready) counter.did.leaked c + handed_at result one.did.leaked c) (handed_at result one.did.leaked) s (lent mid.table new after mid.pending) (λ w. w) (λ c. omega arith)
+          (allocating-then state ⊤ (WasNotCutOff result) (leaked_by (ready_so Ready) counter.did.leaked) (handed_at result one.did.leaked) s mid (lent mid.table new after mid.pending) tt counter.did.step one.did.step)
 
       -- None is answered of a cluster that is counted by now: it was before, or something stands in it.
       taken-by : result ≡ Ok None → order_of s.caches ≡ L2DependsOnRb → IsTrue (state s.file.image).shape.keeps → IsSound Old → 0 < counted Mid cluster → (0 < counted Old cluster) ⊎ (0 < structure New.file New.header.fields (meets New.header.fields cluster))

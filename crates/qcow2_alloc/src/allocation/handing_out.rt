@@ -19,6 +19,15 @@ use imago_storage::{Fault, Storage};
 use qcow2_metadata::Table;
 use qcow2_types::{ClusterCount, ClustersToFreeEntry, HostCluster, PendingClusters};
 
+// Whether a cluster has what counts it: a word of the refcount table, or also the block that this names.
+#[derive(Clone, Copy)]
+enum Readiness {
+    // It has that.
+    Ready,
+    // There is no place for a refcount table that long.
+    NoPlace,
+}
+
 impl Allocator {
     // Counts the first run of so many clusters, from the mark on, that aren't counted, and hands it out. One of none begins at the mark.
     // The list holds room for its entry already.
@@ -206,21 +215,20 @@ impl Allocator {
         if !is_in_reach(cluster, file.header.cluster_bits()) {
             return Ok(None);
         }
-        if !self.ensure_counter(file, caches, list, cluster)? {
-            return Ok(None);
+        match self.ensure_counter(file, caches, list, cluster)? {
+            Readiness::Ready => self.allocate_one(file, caches, cluster),
+            Readiness::NoPlace => Ok(None),
         }
-        self.allocate_one(file, caches, cluster)
     }
 
-    // Lets the refcount table grow until it has a word for a cluster. It answers whether there is one: none is where there is no place
-    // for a table that long.
+    // Lets the refcount table grow until it has a word for a cluster, unless there is no place for a table that long.
     fn ensure_word<S: Storage>(
         &mut self,
         file: &mut ImageFile<S>,
         caches: &mut MetadataCaches<S>,
         list: &mut ClustersToFreeList,
         cluster: HostCluster,
-    ) -> Result<bool, Fault>
+    ) -> Result<Readiness, Fault>
         ensures readies { ReadiesWord S.state (mark_of self.old) cluster (seen self.old caches.old file.old list.old) result
             (seen self.new caches.new file.new list.new) }
         ensures mark { mark_of self.new ≡ mark_of self.old }
@@ -228,13 +236,13 @@ impl Allocator {
     {
         let index = cluster.rt_index(file.header.rb_bits());
         if index < self.reftable.entries() {
-            return Ok(true);
+            return Ok(Readiness::Ready);
         }
         match self.grow_table(file, caches, list, index) {
-            Ok(()) => Ok(true),
+            Ok(()) => Ok(Readiness::Ready),
             Err(fault) => {
                 if is_limit(fault) {
-                    Ok(false)
+                    Ok(Readiness::NoPlace)
                 } else {
                     Err(fault)
                 }
@@ -242,27 +250,26 @@ impl Allocator {
         }
     }
 
-    // Gives a cluster that words can name a counter. It answers whether it has one: none has where there is no place for a refcount table that
-    // names its block.
+    // Gives a cluster that words can name a counter, unless there is no place for a refcount table that names its block.
     fn ensure_counter<S: Storage>(
         &mut self,
         file: &mut ImageFile<S>,
         caches: &mut MetadataCaches<S>,
         list: &mut ClustersToFreeList,
         cluster: HostCluster,
-    ) -> Result<bool, Fault>
+    ) -> Result<Readiness, Fault>
         requires reach { IsInReach file.old.header.fields.cluster_bits cluster }
         ensures readies { ReadiesCounter S.state (mark_of self.old) cluster (seen self.old caches.old file.old list.old) result
             (seen self.new caches.new file.new list.new) }
         ensures mark { mark_of self.new ≡ mark_of self.old }
         ensures held { list.new.held ≡ list.old.held }
     {
-        if !self.ensure_word(file, caches, list, cluster)? {
-            return Ok(false);
+        if let Readiness::NoPlace = self.ensure_word(file, caches, list, cluster)? {
+            return Ok(Readiness::NoPlace);
         }
         let index = cluster.rt_index(file.header.rb_bits());
         let _made = self.ensure_blocks(file, caches, index, index + 1)?;
-        Ok(true)
+        Ok(Readiness::Ready)
     }
 
     // Hands out a cluster that a block counts, where it is free.

@@ -2,13 +2,14 @@ use Rattle.std.proofs.Common.{Bool, true, false, None, ◌≡◌, ℕ, sym, subs
 use Rattle.std.specs.Prelude.{IsTrue}
 use Rattle.qcow2_metadata.specs.Places.{IsInReach}
 use Rattle.qcow2_metadata.specs.Tables.{TableValue}
+use Rattle.qcow2_alloc.specs.declared.allocation.handing_out.Readiness.{Readiness}
 use Rattle.qcow2_alloc.specs.Allocators.{mark_of}
 use Rattle.qcow2_alloc.specs.HandingOut.{IsBarred}
 use Rattle.qcow2_alloc.specs.HandingOutOne.{AllocatesAt, ReadiesCounter}
 use Rattle.qcow2_alloc.specs.State.{lent, seen}
 use Rattle.qcow2_alloc.proofs.Handing.AllocatingReadied.{out-of-reach, uncounted-at, refused-at, readied-at}
 use Rattle.qcow2_alloc.proofs.Handing.CountingOne.{handed_so, not_handed}
-use Rattle.qcow2_alloc.proofs.Blocks.EnsuringBlocks.{so}
+use Rattle.qcow2_alloc.proofs.Blocks.ReadyingCounters.{ready_so}
 use Rattle.qcow2_alloc.proofs.Faults.{handed-on}
 use Rattle.qcow2_alloc.proofs.allocation.Allocator.allocate_at.Goals as goal
 
@@ -21,27 +22,27 @@ returns-then-not-is_in_reach-clause-allocates g c =
     out-of-reach g.S.Storage.state (mark_of c.args.self.now) c.args.cluster (seen c.args.self.now c.args.caches.now c.args.file.now c.args.list.now)
     (λ near. never c.is_in_reach.result c.if-not-is_in_reach.true (c.is_in_reach.ensures.1 (subst (λ (b : ℕ). IsInReach b c.args.cluster) (sym c.cluster_bits.ensures.value) near)))
 
-pub returns-clause-allocates : goal.returns-clause-allocates
-returns-clause-allocates g c =
+pub returns-in-Ready-clause-allocates : goal.returns-in-Ready-clause-allocates
+returns-in-Ready-clause-allocates g c =
     let s = seen c.args.self.now c.args.caches.now c.args.file.now c.args.list.now in
     let state = g.S.Storage.state in
     let mid = c.ensure_counter.new in
     let between = seen mid.self mid.caches mid.file mid.list in
     let new = c.allocate_one.new in
-    let counter = subst (λ (b : Bool). ReadiesCounter state (mark_of c.args.self.now) c.args.cluster s (so b) between) c.if-not-branch.false c.in_ok-ensure_counter.ensures.readies in
+    let counter = subst (λ (r : Readiness). ReadiesCounter state (mark_of c.args.self.now) c.args.cluster s (ready_so r) between) c.in-Ready.is c.in_ok-ensure_counter.ensures.readies in
     subst (λ (t : TableValue). AllocatesAt state (λ m. IsBarred m (mark_of c.args.self.now) c.args.cluster) (mark_of c.args.self.now) c.args.cluster s c.allocate_one.result (lent t new.caches new.file mid.list.entries) (mark_of new.self)) (sym c.allocate_one.ensures.table)
     (readied-at state (mark_of c.args.self.now) c.args.cluster s between counter c.allocate_one.result new.caches new.file (mark_of new.self)
     (subst (λ (m : ℕ). AllocatesAt state (λ _. ⊥) m c.args.cluster between c.allocate_one.result (seen mid.self new.caches new.file mid.list) (mark_of new.self)) c.in_ok-ensure_counter.ensures.mark (c.allocate_one.ensures.allocates mid.list.entries)))
 
-pub returns-then-not-branch-clause-allocates : goal.returns-then-not-branch-clause-allocates
-returns-then-not-branch-clause-allocates g c =
+pub returns-in-NoPlace-clause-allocates : goal.returns-in-NoPlace-clause-allocates
+returns-in-NoPlace-clause-allocates g c =
     let s = seen c.args.self.now c.args.caches.now c.args.file.now c.args.list.now in
     let state = g.S.Storage.state in
     let mid = c.ensure_counter.new in
     let between = seen mid.self mid.caches mid.file mid.list in
     subst (λ (m : ℕ). AllocatesAt state (λ m'. IsBarred m' (mark_of c.args.self.now) c.args.cluster) (mark_of c.args.self.now) c.args.cluster s (handed_so None) between m) (sym c.in_ok-ensure_counter.ensures.mark)
     (uncounted-at state (mark_of c.args.self.now) c.args.cluster s between
-    (subst (λ (b : Bool). ReadiesCounter state (mark_of c.args.self.now) c.args.cluster s (so b) between) c.if-not-branch.true c.in_ok-ensure_counter.ensures.readies))
+    (subst (λ (r : Readiness). ReadiesCounter state (mark_of c.args.self.now) c.args.cluster s (ready_so r) between) c.in-NoPlace.is c.in_ok-ensure_counter.ensures.readies))
 
 pub returns-in_err-ensure_counter-clause-allocates : goal.returns-in_err-ensure_counter-clause-allocates
 returns-in_err-ensure_counter-clause-allocates g c = rw (handed-on _ _ c.from_residual.ensures.1) (

@@ -1,4 +1,5 @@
-use Rattle.std.proofs.Common.{Bool, ◌+◌, ◌/◌, ℕ, subst, ◌∙◌, ap}
+use Rattle.std.proofs.Common.{◌+◌, ◌/◌, ℕ, subst, ◌∙◌, ap}
+use Rattle.qcow2_alloc.specs.declared.allocation.handing_out.Readiness.{Readiness}
 use Rattle.qcow2_alloc.specs.Allocating.{MakesBlocks}
 use Rattle.qcow2_types.specs.Counts.{counters_of_block}
 use Rattle.qcow2_alloc.specs.Allocators.{metadata_of, table_of, mark_of}
@@ -6,7 +7,7 @@ use Rattle.qcow2_alloc.specs.FillingBlocks.{FillsFrom}
 use Rattle.qcow2_alloc.specs.HandingOutOne.{ReadiesWord}
 use Rattle.qcow2_alloc.specs.State.{seen}
 use Rattle.qcow2_alloc.proofs.Blocks.EnsuringBlocks.{so, refused}
-use Rattle.qcow2_alloc.proofs.Blocks.ReadyingCounters.{counter-barred, counter-made, counter-unmade, index-moved}
+use Rattle.qcow2_alloc.proofs.Blocks.ReadyingCounters.{ready_so, counter-barred, counter-made, counter-unmade, index-moved}
 use Rattle.qcow2_alloc.proofs.Faults.{handed-on}
 use Rattle.qcow2_alloc.proofs.allocation.Allocator.ensure_counter.Goals as goal
 
@@ -16,7 +17,7 @@ returns-clause-readies g c =
     let mid = c.ensure_word.new in
     let between = seen mid.self mid.caches mid.file mid.list in
     let new = c.ensure_blocks.new in
-    let word = subst (λ (b : Bool). ReadiesWord g.S.Storage.state (mark_of c.args.self.now) c.args.cluster s (so b) between) c.if-not-branch.false c.in_ok-ensure_word.ensures.readies in
+    let word = subst (λ (r : Readiness). ReadiesWord g.S.Storage.state (mark_of c.args.self.now) c.args.cluster s (ready_so r) between) c.in_default.is c.in_ok-ensure_word.ensures.readies in
     let at = index-moved c.args.file.now.header mid.file.header word.did.step.moved c.args.cluster c.rt_index-index.result (c.rt_index-index.ensures ∙ ap (λ n. c.args.cluster / n) c.rb_bits.ensures.entries) in
     counter-made g.S.Storage.state (mark_of c.args.self.now) c.args.cluster s between word c.requires.reach (table_of new.self) new.caches new.file c.in_ok-_made._made
     (subst (λ (i : ℕ). MakesBlocks g.S.Storage.state i (i + 1) between (so c.in_ok-_made._made) (seen new.self new.caches new.file mid.list)) at (c.in_ok-_made.ensures.makes mid.list.entries))
@@ -29,15 +30,15 @@ returns-in_err-_made-clause-readies g c = rw (handed-on _ _ c.from_residual-in_e
     let mid = c.ensure_word.new in
     let between = seen mid.self mid.caches mid.file mid.list in
     let new = c.ensure_blocks.new in
-    let word = subst (λ (b : Bool). ReadiesWord g.S.Storage.state (mark_of c.args.self.now) c.args.cluster s (so b) between) c.if-not-branch.false c.in_ok-ensure_word.ensures.readies in
+    let word = subst (λ (r : Readiness). ReadiesWord g.S.Storage.state (mark_of c.args.self.now) c.args.cluster s (ready_so r) between) c.in_default.is c.in_ok-ensure_word.ensures.readies in
     let at = index-moved c.args.file.now.header mid.file.header word.did.step.moved c.args.cluster c.rt_index-index.result (c.rt_index-index.ensures ∙ ap (λ n. c.args.cluster / n) c.rb_bits.ensures.entries) in
     counter-unmade g.S.Storage.state (mark_of c.args.self.now) c.args.cluster s between word c.requires.reach (table_of new.self) new.caches new.file c.in_err-_made.field-0.0
     (subst (λ (i : ℕ). MakesBlocks g.S.Storage.state i (i + 1) between (refused c.in_err-_made.field-0.0) (seen new.self new.caches new.file mid.list)) at (c.in_err-_made.ensures.makes mid.list.entries)))
 
-pub returns-then-not-branch-clause-readies : goal.returns-then-not-branch-clause-readies
-returns-then-not-branch-clause-readies g c =
+pub returns-in-NoPlace-clause-readies : goal.returns-in-NoPlace-clause-readies
+returns-in-NoPlace-clause-readies g c =
     let s = seen c.args.self.now c.args.caches.now c.args.file.now c.args.list.now in
     let mid = c.ensure_word.new in
     let between = seen mid.self mid.caches mid.file mid.list in
     counter-barred g.S.Storage.state (mark_of c.args.self.now) c.args.cluster s between
-    (subst (λ (b : Bool). ReadiesWord g.S.Storage.state (mark_of c.args.self.now) c.args.cluster s (so b) between) c.if-not-branch.true c.in_ok-ensure_word.ensures.readies)
+    (subst (λ (r : Readiness). ReadiesWord g.S.Storage.state (mark_of c.args.self.now) c.args.cluster s (ready_so r) between) c.in-NoPlace.is c.in_ok-ensure_word.ensures.readies)
