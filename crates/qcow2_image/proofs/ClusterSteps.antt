@@ -1,10 +1,10 @@
 -- What single changes of its clusters leave of an image.
-use Rattle.std.proofs.Common.{◌≡◌, ◌≢◌, ℕ, ◌+◌, ◌*◌, ◌/◌, ◌^◌, ◌<◌, refl, arith, ap, sym, subst, ◌∙◌, inl, inr, Bool, true, false, List, [], ◌++◌, ◌-◌, length, Option, Some, None, Result, Ok, Err}
+use Rattle.std.proofs.Common.{◌≡◌, ◌≢◌, ℕ, ◌+◌, ◌*◌, ◌/◌, ◌^◌, ◌<◌, ◌≤◌, refl, arith, ap, sym, subst, ◌∙◌, inl, inr, Bool, true, false, List, [], ◌++◌, ◌-◌, length, Option, Some, None, Result, Ok, Err}
 use Rattle.std.proofs.Math.Nat.{le-max_left, le-max_right}
 use Rattle.std.proofs.lemmas.Bool.{cases_eq, cases_lt, le-ltb, ne_eqb}
 use Rattle.std.proofs.lemmas.List.{append-nil}
 use Rattle.std.proofs.lemmas.Nat.{pow_pos}
-use Rattle.std.specs.Prelude.{⊤, IsTrue, IsSome, IfSome, is_some, IfOk, IfErr, OnOk, max, replicate, slice_index, ◌==◌, if◌then◌else◌}
+use Rattle.std.specs.Prelude.{⊤, IsTrue, IsSome, IfSome, is_some, IfOk, IfErr, OnOk, max, min, replicate, slice_index, ◌==◌, if◌then◌else◌}
 use Rattle.imago_storage.specs.State.{Rose, StorageState}
 use Rattle.imago_storage.specs.Calls.{Cause}
 use Rattle.imago_storage.specs.Disk.{Value}
@@ -36,7 +36,7 @@ use Rattle.qcow2_steps.specs.LongerL1.{old_l1}
 use Rattle.qcow2_steps.proofs.Headers.{header-counts}
 use Rattle.qcow2_clusters.specs.Freeing.{FreesWaiting}
 use Rattle.qcow2_clusters.specs.Freeing as freeing
-use Rattle.qcow2_clusters.specs.Lengthening.{IsTooLong, IsTop, LengthensL1, l1_clusters}
+use Rattle.qcow2_clusters.specs.Lengthening.{IsTooLong, IsTop, LengthensL1, clusters_for, l1_clusters}
 use Rattle.qcow2_clusters.specs.MakingTables.{CopiesTable, HasTable, IsTableless, IsTopWord, MakesTable, NamesNewTable, given_up}
 use Rattle.qcow2_clusters.specs.Progress.{Kind, Progresses, handing}
 use Rattle.qcow2_clusters.specs.Rest.{Clusters, IsReady, lent, resting}
@@ -48,9 +48,10 @@ use Rattle.qcow2_image.specs.Allocating.{EnsuresTable, EnsuresWord, FillsContent
 use Rattle.qcow2_image.specs.Holding.{Holding, IsOwnAs}
 use Rattle.qcow2_image.specs.KeepsDisk.{KeepsDisk, KeepsDiskWhere}
 use Rattle.qcow2_image.specs.Leaking.{KeepsLeaks, KeepsLeaksBut}
+use Rattle.qcow2_metadata.proofs.TableSteps.{padded_at}
 use Rattle.qcow2_clusters.proofs.LengtheningL1.{padded-long}
-use Rattle.qcow2_image.specs.FreeSpace.{HasNoPlace, LacksFreeRun, LeavesFree, enough_for_one, enough_for_table, enough_for_word, searched_from}
-use Rattle.qcow2_image.proofs.FreeRuns.{few-longer, full-behind, full-in-run, full-more, leaves-in-run, leaves-more, leaves-none, leaves-then, run-fewer, run-same, safe-short, some-enough, why-full}
+use Rattle.qcow2_image.specs.FreeSpace.{HasNoPlace, IsForTable, IsForWord, LacksFreeRun, LacksTable, LeavesFree, enough_for_one, enough_for_table, enough_for_word, searched_from}
+use Rattle.qcow2_image.proofs.FreeRuns.{full-behind, full-in-run, full-more, lacks-as-words, lacks-in-file, leaves-in-run, leaves-more, leaves-none, leaves-then, run-fewer, run-same, safe-short, some-enough, why-full}
 use Rattle.qcow2_image.specs.Looking.{place_of_table}
 use Rattle.qcow2_image.specs.Rooms.{IsSafe, rest_of}
 use Rattle.qcow2_image.specs.Seen.{file_of}
@@ -332,13 +333,13 @@ module _ {S : Type 0} (g : Ghosts S) (old : Qcow2 S g) (mid : Tables S g) (space
     named = stores.named;
     reserved = λ safe. reserved-now result (stores.reserved (ready g old mid space space' caches result there there' stores.rests safe)) stores.held;
     content = λ safe. stores.stored (ready g old mid space space' caches result there there' stores.rests safe);
-    cause = if-err result _ (WhyNotAllocated g (LacksFreeRun g (enough_for_one old.tables) old.tables mid) old stored_now) (λ e.
+    cause = if-err result _ (WhyNotAllocated g (LacksFreeRun g 1 (enough_for_one old.tables) old.tables mid) old stored_now) (λ e.
         allocated-why g old stored_now (IsReady g.state (lent old.tables.file caches space))
         (room.IsFull 1 (rest_of g old.tables space) (mark_of space.allocator) (rest_of g mid space') (mark_of space'.allocator))
-        (LacksFreeRun g (enough_for_one old.tables) old.tables mid)
+        (LacksFreeRun g 1 (enough_for_one old.tables) old.tables mid)
         (g.state old.tables.file.image).faults (g.state mid.file.image).faults e
         (ready g old mid space space' caches result there there' stores.rests) refl refl
-        (λ number safe full. full-in-run g old.tables mid space space' there there' 1 number (omega arith) full)) stores.cause;
+        (λ number safe full. full-in-run g old.tables mid space space' there there' 1 number full)) stores.cause;
   }
 
 -- Bytes were written to the cluster that a guest cluster keeps for its zeroes.
@@ -422,11 +423,15 @@ module _ {S : Type 0} (g : Ghosts S) (guest : ℕ) (bytes : List ℕ) (old new :
     cause = tt;
   }
 
-  filling-why : (e : Fault) → WhyNotFilled g old new e → WhyNotAllocated g (LacksFreeRun g (enough_for_one old.tables) old.tables new.tables) old new e
-  filling-why Memory why = why
-  filling-why Storage why = why
-  filling-why DamagedTable why = why
-  filling-why e why = absurd why
+  -- No place is looked for beside a cluster that is kept.
+  abbrev lacks-beside : Option ℕ → ℕ → Type 0
+  lacks-beside kept number = (kept ≡ None) × LacksFreeRun g 1 (enough_for_one old.tables) old.tables new.tables number
+
+  filling-why : (full : ℕ → Type 0) (e : Fault) → WhyNotFilled g old new e → WhyNotAllocated g full old new e
+  filling-why full Memory why = why
+  filling-why full Storage why = why
+  filling-why full DamagedTable why = why
+  filling-why full e why = absurd why
 
   pub unfilled : (host : ℕ) (e : Fault) → FillsContent g guest host bytes old (Err e) new → PlacesContent g guest (Some host) bytes old (Err e) new
   unfilled host e f = record {
@@ -438,7 +443,7 @@ module _ {S : Type 0} (g : Ghosts S) (guest : ℕ) (bytes : List ℕ) (old new :
     which = tt;
     own = λ known. tt;
     content = λ known. tt;
-    cause = filling-why e f.cause;
+    cause = filling-why (lacks-beside (Some host)) e f.cause;
   }
 
   -- A cluster is stored in where none is kept.
@@ -486,7 +491,8 @@ module _ {S : Type 0} (g : Ghosts S) (guest : ℕ) (bytes : List ℕ) (old new :
     which = tt;
     own = λ known. tt;
     content = λ known. tt;
-    cause = s.cause;
+    cause = why-full g (LacksFreeRun g 1 (enough_for_one old.tables) old.tables new.tables) (lacks-beside None) old new e
+        (λ number safe full. (refl, full)) s.cause;
   }
 
 -- In a safe image the L1 table in memory is the file's, and what it names over a guest cluster, if anything, is a table.
@@ -523,7 +529,7 @@ module _ {S : Type 0} (g : Ghosts S) (old : Qcow2 S g) (mid : Tables S g) (space
     (result : Result ℕ Fault) (asked : Type 0) (handed taken : ℕ → ℕ) (even : (c : ℕ) → handed c ≡ taken c + 0) (there : old.tables.space ≡ Some space)
     (there' : mid.space ≡ Some space') (free : old.unspent ≡ None)
     (index : i ≡ guest / words_of_cluster old.tables.file.header.fields) (inside : i < length old.tables.l1.words)
-    (as-asked : IsSafe g old → asked)
+    (lacks : IsSafe g old → LacksTable g guest old.tables) (as-asked : IsSafe g old → asked)
     (names : NamesNewTable g.state asked (handing handed taken) i (lent old.tables.file caches space) result mid.l1
     (lent mid.file mid.caches space')) where
   abbrev made_now : Qcow2 S g
@@ -579,10 +585,14 @@ module _ {S : Type 0} (g : Ghosts S) (old : Qcow2 S g) (mid : Tables S g) (space
   -- and there was no room where no table could be made.
   no-place : (number : ℕ) → IsSafe g old
       → room.IsFull 1 (rest_of g old.tables space) (mark_of space.allocator) (rest_of g mid space') (mark_of space'.allocator) number
-      → HasNoPlace g (guest / words_of_cluster was) (enough_for_one old.tables) old.tables mid number
-  no-place number safe full = inr (
-    safe-short g old (guest / words_of_cluster was) safe (row-inside safe),
-    full-in-run g old.tables mid space space' there there' 1 number (omega arith) full,
+      → HasNoPlace g (IsForTable g guest old.tables) (guest / words_of_cluster was) (enough_for_one old.tables) old.tables mid number
+  no-place number safe full = (
+    1,
+    inr (lacks safe, refl),
+    inr (
+      safe-short g old (guest / words_of_cluster was) safe (row-inside safe),
+      full-in-run g old.tables mid space space' there there' 1 number full,
+    ),
   )
 
   pub made : EnsuresTable g (enough_for_one old.tables) guest old result made_now
@@ -601,10 +611,11 @@ module _ {S : Type 0} (g : Ghosts S) (old : Qcow2 S g) (mid : Tables S g) (space
     long = long-now result refl;
     leaves = λ safe. on-ok result _ (LeavesFree g (enough_for_one old.tables) old.tables mid)
         (leaves-in-run g old.tables mid space space' there there' (enough_for_one old.tables)) (names.leaves (is-ready safe) (as-asked safe));
-    cause = if-err result _ (WhyNotAllocated g (HasNoPlace g (guest / words_of_cluster was) (enough_for_one old.tables) old.tables mid) old made_now) (λ e.
+    cause = if-err result _ (WhyNotAllocated g
+        (HasNoPlace g (IsForTable g guest old.tables) (guest / words_of_cluster was) (enough_for_one old.tables) old.tables mid) old made_now) (λ e.
         allocated-why g old made_now (IsReady g.state (lent old.tables.file caches space) × asked)
         (room.IsFull 1 (rest_of g old.tables space) (mark_of space.allocator) (rest_of g mid space') (mark_of space'.allocator))
-        (HasNoPlace g (guest / words_of_cluster was) (enough_for_one old.tables) old.tables mid)
+        (HasNoPlace g (IsForTable g guest old.tables) (guest / words_of_cluster was) (enough_for_one old.tables) old.tables mid)
         (g.state old.tables.file.image).faults (g.state mid.file.image).faults e (λ safe. (is-ready safe, as-asked safe)) refl refl no-place) names.cause;
   }
 
@@ -621,17 +632,25 @@ module _ {S : Type 0} (g : Ghosts S) (old : Qcow2 S g) (mid : Tables S g) (space
   abbrev taken_by : ℕ → ℕ
   taken_by c = handed_by result c + given_up (resting g.state before) i result c
 
+  lacks-shared : is_copied (slice_index old.tables.l1.words (guest / words_of_cluster old.tables.file.header.fields)) ≡ false → IsSafe g old
+      → LacksTable g guest old.tables
+  lacks-shared shared safe = lacks-in-file (file_of g old.tables) old.tables.file.header.fields old.tables.l1 safe.seen.l1
+      (guest / words_of_cluster old.tables.file.header.fields) (inr shared)
+
   pub renewed : (named : Option ℕ) → place_of_table old.tables.l1.words old.tables.file.header.fields.cluster_bits guest ≡ named
+      → ((table : ℕ) → named ≡ Some table
+      → is_copied (slice_index old.tables.l1.words (guest / words_of_cluster old.tables.file.header.fields)) ≡ false)
       → (is_some named ≡ true → CopiesTable g.state old.tables.l1 i before result mid.l1 after)
       → (is_some named ≡ false → MakesTable g.state old.tables.l1 i before result mid.l1 after)
       → EnsuresTable g (enough_for_one old.tables) guest old result (record old { tables = mid; failed = failed_cut result old.failed })
-  renewed None is copies makes =
+  renewed None is shared copies makes =
       made g old mid space space' caches guest i result (IsTableless g.state old.tables.l1 i before) (handed_by result) (handed_by result)
       (λ c. omega arith)
-      there there' free index inside (tableless g old space caches guest i index inside is) (makes refl).named
-  renewed (Some table) is copies makes =
+      there there' free index inside
+      (λ safe. inl (table-none (file_of g old.tables) old.tables.file.header.fields old.tables.l1 safe.seen.l1 guest is)) (tableless g old space caches guest i index inside is) (makes refl).named
+  renewed (Some table) is shared copies makes =
       made g old mid space space' caches guest i result (HasTable g.state old.tables.l1 i before) taken_by taken_by (λ c. omega arith)
-      there there' free index inside (has-table g old space caches guest i index inside table is) (copies refl).named
+      there there' free index inside (lacks-shared (shared table refl)) (has-table g old space caches guest i index inside table is) (copies refl).named
 
 -- There was one that nothing else names.
 module _ {S : Type 0} (g : Ghosts S) (d : Qcow2 S g) (guest table : ℕ)
@@ -731,7 +750,8 @@ module _ {S : Type 0} (g : Ghosts S) (old : Qcow2 S g) (mid : Tables S g) (space
 
 -- The L1 table was lengthened.
 module _ {S : Type 0} (g : Ghosts S) (old : Qcow2 S g) (mid : Tables S g) (space space' : Space) (caches : MetadataCaches S) (i : ℕ)
-    (there : old.tables.space ≡ Some space) (there' : mid.space ≡ Some space') (free : old.unspent ≡ None) where
+    (there : old.tables.space ≡ Some space) (there' : mid.space ≡ Some space') (free : old.unspent ≡ None)
+    (behind : length old.tables.l1.words ≤ i) where
   abbrev with_l1 : Result Unit Fault → Qcow2 S g
   with_l1 result = record old { tables = mid; failed = failed_cut result old.failed }
 
@@ -784,13 +804,22 @@ module _ {S : Type 0} (g : Ghosts S) (old : Qcow2 S g) (mid : Tables S g) (space
       let all : length mid.l1.words ≡ max (length words) (i + 1) = ap length is ∙ padded-long words (max (length words) (i + 1)) (le-max_left (length words) (i + 1)) in
       omega (arith, more, all)
 
+  for-word : IsSafe g old → IsForWord g i old.tables (l1_clusters old.tables.file.header.fields old.tables.l1 i)
+  for-word safe =
+      let long = top-long (file_of g old.tables) old.tables.file.header.fields old.tables.l1 safe.seen.l1 in
+      let all : max (length old.tables.l1.words) (i + 1) ≡ i + 1 = omega (arith, behind) in
+      (omega (arith, long, behind), ap (clusters_for old.tables.file.header.fields) all)
+
   no-word : (number : ℕ) → IsSafe g old → IsTooLong g.state old.tables.l1 i (lent old.tables.file caches space) (lent mid.file mid.caches space') number
-      → HasNoPlace g i (enough_for_word old.tables i) old.tables mid number
-  no-word number safe (inl far) = inl far
-  no-word number safe (inr (near, full)) = inr (
-    near,
-    full-in-run g old.tables mid space space' there there' (l1_clusters old.tables.file.header.fields old.tables.l1 i) number
-        (few-longer g old i safe near) full,
+      → HasNoPlace g (IsForWord g i old.tables) i (enough_for_word old.tables i) old.tables mid number
+  no-word number safe (inl far) = (l1_clusters old.tables.file.header.fields old.tables.l1 i, for-word safe, inl far)
+  no-word number safe (inr (near, full)) = (
+    l1_clusters old.tables.file.header.fields old.tables.l1 i,
+    for-word safe,
+    inr (
+      near,
+      full-in-run g old.tables mid space space' there there' (l1_clusters old.tables.file.header.fields old.tables.l1 i) number full,
+    ),
   )
 
   pub lengthened : (result : Result Unit Fault) → Longer result → EnsuresWord g i old result (with_l1 result)
@@ -815,7 +844,7 @@ module _ {S : Type 0} (g : Ghosts S) (old : Qcow2 S g) (mid : Tables S g) (space
     leaves = λ safe. tt;
     cause = allocated-why g old (with_l1 (Err fault)) (IsReady g.state (lent old.tables.file caches space) × IsTop g.state old.tables.l1 (lent old.tables.file caches space))
         (IsTooLong g.state old.tables.l1 i (lent old.tables.file caches space) (lent mid.file mid.caches space'))
-        (HasNoPlace g i (enough_for_word old.tables i) old.tables mid)
+        (HasNoPlace g (IsForWord g i old.tables) i (enough_for_word old.tables i) old.tables mid)
         (g.state old.tables.file.image).faults (g.state mid.file.image).faults fault (λ safe. (longer-ready safe, safe.seen.l1)) refl refl
         no-word longer.cause;
   }
@@ -854,19 +883,40 @@ module _ {S : Type 0} (g : Ghosts S) (guest i : ℕ) (old mid new : Qcow2 S g) (
   one-still : IsSafe g old → enough_for_one mid.tables ≡ enough_for_one old.tables
   one-still safe = ap (λ n. n / 16 + 3 * 1) (word.leaves safe).as_large
 
+  -- The same L2 table is lacking where it is to be made.
+  lacks-before : IsSafe g old → LacksTable g guest mid.tables → LacksTable g guest old.tables
+  lacks-before safe = lacks-as-words g guest old.tables mid.tables safe.seen.l1 (word.keeps.safely safe tt).seen.l1 row-still
+      (λ k. ap (λ (ws : List ℕ). slice_index ws k) word.words ∙ padded_at old.tables.l1.words (max (length old.tables.l1.words) (i + 1)) k)
+
+  asked-before : (asked : ℕ) → IsSafe g old → IsForTable g guest mid.tables asked → IsForTable g guest old.tables asked
+  asked-before asked safe (inl missing) =
+      let long = top-long (file_of g mid.tables) mid.tables.file.header.fields mid.tables.l1 (word.keeps.safely safe tt).seen.l1 in
+      let inside = word.inside in
+      let behind = missing.0 in
+      let row = row-still in
+      absurd (omega (arith, long, inside, behind, row, index))
+  asked-before asked safe (inr table) = inr (lacks-before safe table.0, table.1)
+
   no-place-behind : (number : ℕ) → IsSafe g old
-      → HasNoPlace g (guest / words_of_cluster mid.tables.file.header.fields) (enough_for_one mid.tables) mid.tables new.tables number
-      → HasNoPlace g (guest / words_of_cluster old.tables.file.header.fields) (enough_for_table old.tables guest) old.tables new.tables number
-  no-place-behind number safe none = from (subst (λ k. HasNoPlace g k (enough_for_one mid.tables) mid.tables new.tables number) row-still none) where
-    from : HasNoPlace g (guest / words_of_cluster old.tables.file.header.fields) (enough_for_one mid.tables) mid.tables new.tables number
-        → HasNoPlace g (guest / words_of_cluster old.tables.file.header.fields) (enough_for_table old.tables guest) old.tables new.tables number
-    from (inl far) = inl far
-    from (inr (near, full)) = inr (
-      near,
-      full-behind g (enough_for_word old.tables (guest / words_of_cluster old.tables.file.header.fields)) (enough_for_one old.tables) number
+      → HasNoPlace g (IsForTable g guest mid.tables) (guest / words_of_cluster mid.tables.file.header.fields) (enough_for_one mid.tables)
+      mid.tables new.tables number
+      → HasNoPlace g (IsForTable g guest old.tables) (guest / words_of_cluster old.tables.file.header.fields)
+      (enough_for_table old.tables guest) old.tables new.tables number
+  no-place-behind number safe (asked, what, inl far) = (
+    asked,
+    asked-before asked safe what,
+    inl (subst (λ k. (2 ^ 22 < k + 1) × (number ≡ min (k + 1) (2 ^ 64 - 1))) row-still far),
+  )
+  no-place-behind number safe (asked, what, inr (near, full)) = (
+    asked,
+    asked-before asked safe what,
+    inr (
+      subst (λ k. k + 1 ≤ 2 ^ 22) row-still near,
+      full-behind g asked (enough_for_word old.tables (guest / words_of_cluster old.tables.file.header.fields)) (enough_for_one old.tables) number
           old.tables mid.tables new.tables (some-enough old.tables) (leaves-word safe)
-          (subst (λ n. LacksFreeRun g n mid.tables new.tables number) (one-still safe) full),
-    )
+          (subst (λ n. LacksFreeRun g asked n mid.tables new.tables number) (one-still safe) full),
+    ),
+  )
 
   long-behind : (r : Result ℕ Fault)
       → OnOk r (length new.tables.l1.words ≡ max (length mid.tables.l1.words) (guest / words_of_cluster mid.tables.file.header.fields + 1))
@@ -893,10 +943,13 @@ module _ {S : Type 0} (g : Ghosts S) (guest i : ℕ) (old mid new : Qcow2 S g) (
         old.tables mid.tables new.tables (leaves-word safe)
         (subst (λ n. LeavesFree g n mid.tables new.tables) (one-still safe) leaves)) (table.leaves (word.keeps.safely safe tt));
     cause = if-err result _
-        (WhyNotAllocated g (HasNoPlace g (guest / words_of_cluster old.tables.file.header.fields) (enough_for_table old.tables guest) old.tables new.tables) old new)
+        (WhyNotAllocated g (HasNoPlace g (IsForTable g guest old.tables) (guest / words_of_cluster old.tables.file.header.fields)
+        (enough_for_table old.tables guest) old.tables new.tables) old new)
         (λ e. why-behind
-        (HasNoPlace g (guest / words_of_cluster mid.tables.file.header.fields) (enough_for_one mid.tables) mid.tables new.tables)
-        (HasNoPlace g (guest / words_of_cluster old.tables.file.header.fields) (enough_for_table old.tables guest) old.tables new.tables) e no-place-behind)
+        (HasNoPlace g (IsForTable g guest mid.tables) (guest / words_of_cluster mid.tables.file.header.fields) (enough_for_one mid.tables)
+        mid.tables new.tables)
+        (HasNoPlace g (IsForTable g guest old.tables) (guest / words_of_cluster old.tables.file.header.fields)
+        (enough_for_table old.tables guest) old.tables new.tables) e no-place-behind)
         table.cause;
   }
 
@@ -908,13 +961,25 @@ module _ {S : Type 0} (g : Ghosts S) (guest i : ℕ) (old new : Qcow2 S g) (inde
   cut-same Storage failed = refl
   cut-same f failed = refl
 
-  more-needed : (number : ℕ) → HasNoPlace g i (enough_for_word old.tables i) old.tables new.tables number
-      → HasNoPlace g i (enough_for_word old.tables i + enough_for_one old.tables) old.tables new.tables number
-  more-needed number (inl far) = inl far
-  more-needed number (inr (near, full)) = inr (
-    near,
-    full-more g (enough_for_word old.tables i) (enough_for_word old.tables i + enough_for_one old.tables) number old.tables new.tables (omega arith) full,
-  )
+  more-needed : (number : ℕ) → HasNoPlace g (IsForWord g i old.tables) i (enough_for_word old.tables i) old.tables new.tables number
+      → HasNoPlace g (IsForTable g guest old.tables) (guest / words_of_cluster old.tables.file.header.fields)
+      (enough_for_table old.tables guest) old.tables new.tables number
+  more-needed number none = from (subst
+      (λ k. HasNoPlace g (IsForWord g k old.tables) k (enough_for_word old.tables k) old.tables new.tables number) index none) where
+        row : ℕ
+        row = guest / words_of_cluster old.tables.file.header.fields
+
+        from : HasNoPlace g (IsForWord g row old.tables) row (enough_for_word old.tables row) old.tables new.tables number
+            → HasNoPlace g (IsForTable g guest old.tables) row (enough_for_table old.tables guest) old.tables new.tables number
+        from (asked, what, inl far) = (asked, inl what, inl far)
+        from (asked, what, inr (near, full)) = (
+          asked,
+          inl what,
+          inr (
+            near,
+            full-more g asked (enough_for_word old.tables row) (enough_for_table old.tables guest) number old.tables new.tables (omega arith) full,
+          ),
+        )
 
   pub table-wordless : EnsuresTable g (enough_for_table old.tables guest) guest old (Err e) new
   table-wordless = record {
@@ -926,8 +991,8 @@ module _ {S : Type 0} (g : Ghosts S) (guest i : ℕ) (old new : Qcow2 S g) (inde
     own = λ safe some. tt;
     long = λ safe. tt;
     leaves = λ safe. tt;
-    cause = why-full g (HasNoPlace g i (enough_for_word old.tables i) old.tables new.tables)
-        (HasNoPlace g (guest / words_of_cluster old.tables.file.header.fields) (enough_for_table old.tables guest) old.tables new.tables) old new e
-        (λ number safe none. subst (λ k. HasNoPlace g k (enough_for_word old.tables k + enough_for_one old.tables) old.tables new.tables number) index
-        (more-needed number none)) word.cause;
+    cause = why-full g (HasNoPlace g (IsForWord g i old.tables) i (enough_for_word old.tables i) old.tables new.tables)
+        (HasNoPlace g (IsForTable g guest old.tables) (guest / words_of_cluster old.tables.file.header.fields)
+        (enough_for_table old.tables guest) old.tables new.tables) old new e
+        (λ number safe none. more-needed number none) word.cause;
   }

@@ -1,21 +1,24 @@
 -- What calls leave of the runs that are free in an image, and why there is none.
-use Rattle.std.proofs.Common.{◌≡◌, ℕ, ◌+◌, ◌-◌, ◌*◌, ◌/◌, ◌^◌, ◌<◌, ◌≤◌, refl, arith, ap, sym, subst, ◌∙◌, inl, inr, length, Some, false}
+use Rattle.std.proofs.Common.{◌≡◌, ℕ, ◌+◌, ◌-◌, ◌*◌, ◌/◌, ◌^◌, ◌<◌, ◌≤◌, refl, arith, ap, sym, subst, ◌∙◌, inl, inr, length, Option, Some, false}
 use Rattle.std.proofs.Math.Nat.{div-mul-le_self, lt-div-mul-add, mul-le-mul_right}
 use Rattle.std.proofs.Math.Pow.{pow_mono}
-use Rattle.std.proofs.lemmas.Bool.{cases_lt}
+use Rattle.std.proofs.lemmas.Bool.{cases_lt, le-ltb}
 use Rattle.std.proofs.lemmas.Nat.{le-div, pow_pos}
-use Rattle.std.specs.Prelude.{max, min}
+use Rattle.std.specs.Prelude.{◌⊎◌, max, min, slice_index}
 use Rattle.imago_storage.specs.declared.fault.Fault.{Fault}
 use Rattle.imago_storage.specs.declared.fault.Fault.TheVariants.{Counter, DamagedTable, Limit, Memory, Storage}
 use Rattle.imago_storage.specs.declared.storage.Storage.{Ghosts}
-use Rattle.qcow2_types.specs.Bytes.{Bytes}
+use Rattle.qcow2_types.specs.Bytes.{Bytes, word}
 use Rattle.qcow2_types.specs.Counts.{count, counters_of_block}
+use Rattle.qcow2_types.specs.Entries.{l2_table}
 use Rattle.qcow2_types.specs.Header.{Fields, Header, cluster_size, words_of_cluster}
-use Rattle.qcow2_types.specs.Words.{max_offset}
+use Rattle.qcow2_types.specs.Words.{is_copied, max_offset, table_offset}
 use Rattle.qcow2_types.proofs.Counting.Consistent.{consistent-shaped}
 use Rattle.qcow2_types.proofs.Fields.HeaderLimits.{header-limited, least-cluster}
 use Rattle.qcow2_alloc.specs.Allocators.{mark_of}
+use Rattle.qcow2_metadata.specs.Tables.{TableValue}
 use Rattle.qcow2_alloc.specs.Crowding.{room_for, space}
+use Rattle.qcow2_alloc.specs.Opening.{IsL1Of}
 use Rattle.qcow2_alloc.specs.Quiet.{counted}
 use Rattle.qcow2_alloc.proofs.Space.SizesOfSpace.{counters-wide}
 use Rattle.qcow2_clusters.specs.Lengthening.{clusters_for, l1_clusters}
@@ -24,18 +27,72 @@ use Rattle.qcow2_clusters.specs.Room as room
 use Rattle.qcow2_clusters.specs.declared.space.Space.{Space}
 use Rattle.qcow2_clusters.proofs.NamingTables.{resting-memory}
 use Rattle.qcow2_image.specs.Allocating.{WhyNotAllocated}
-use Rattle.qcow2_image.specs.FreeSpace.{HasFreeRun, LacksFreeRun, LeavesFree, enough_for_one, enough_for_table, searched_from}
+use Rattle.qcow2_image.specs.FreeSpace.{HasFreeRun, IsForCluster, LacksFreeRun, LacksTable, LeavesFree, enough_for_one, enough_for_table, searched_from}
 use Rattle.qcow2_image.specs.Rooms.{IsSafe, rest_of}
 use Rattle.qcow2_image.specs.Seen.{file_of}
 use Rattle.qcow2_image.specs.declared.qcow2.Qcow2.{Qcow2}
 use Rattle.qcow2_image.specs.declared.tables.Tables.{Tables}
-use Rattle.qcow2_image.proofs.FileWords.{top-long}
+use Rattle.qcow2_image.proofs.FileWords.{place-in-file, top-long, top-word}
 
 -- An allocation needs some room.
 pub some-enough : {S : Type 0} {g : Ghosts S} (t : Tables S g) → 0 < enough_for_one t
 some-enough t = omega arith
 
+-- The word of an L1 table names no L2 table, or one that may have other names.
+abbrev LacksOwn : ℕ → Type 0
+LacksOwn w = (table_offset w ≡ 0) ⊎ (is_copied w ≡ false)
+
+-- By the L1 table in memory, where that is the file's:
+module _ (f : Bytes) (h : Fields) (top : TableValue) (of : IsL1Of f h top) (i : ℕ) where
+  -- none is named where there is no word,
+  wordless : h.l1_entries ≤ i → l2_table f h i ≡ 0
+  wordless behind = rw (le-ltb i h.l1_entries behind) refl
+
+  -- and else the words are the file's.
+  pub lacks-in-file : LacksOwn (slice_index top.words i) → (l2_table f h i ≡ 0) ⊎ (is_copied (word f h.l1_offset i) ≡ false)
+  lacks-in-file (inl none) = inl (place-in-file f h top of i ∙ none)
+  lacks-in-file (inr shared) = elim (cases_lt i h.l1_entries) [
+    | inl inside ↦ inr (ap is_copied (sym (top-word f h top of i inside)) ∙ shared)
+    | inr behind ↦ inl (wordless behind)
+  ]
+
+  lacks-in-memory : (l2_table f h i ≡ 0) ⊎ (is_copied (word f h.l1_offset i) ≡ false) → LacksOwn (slice_index top.words i)
+  lacks-in-memory (inl none) = inl (sym (place-in-file f h top of i) ∙ none)
+  lacks-in-memory (inr shared) = elim (cases_lt i h.l1_entries) [
+    | inl inside ↦ inr (ap is_copied (top-word f h top of i inside) ∙ shared)
+    | inr behind ↦ inl (sym (place-in-file f h top of i) ∙ wordless behind)
+  ]
+
 module _ {S : Type 0} (g : Ghosts S) where
+  -- Where the L1 table has the same words, the same L2 tables are lacking,
+  pub lacks-as-words : (guest : ℕ) (old mid : Tables S g) → IsL1Of (file_of g old) old.file.header.fields old.l1
+      → IsL1Of (file_of g mid) mid.file.header.fields mid.l1
+      → guest / words_of_cluster mid.file.header.fields ≡ guest / words_of_cluster old.file.header.fields
+      → ((k : ℕ) → slice_index mid.l1.words k ≡ slice_index old.l1.words k) → LacksTable g guest mid → LacksTable g guest old
+  lacks-as-words guest old mid of of' row words lacks =
+      let is : ℕ = guest / words_of_cluster mid.file.header.fields in
+      let was : ℕ = guest / words_of_cluster old.file.header.fields in
+      lacks-in-file (file_of g old) old.file.header.fields old.l1 of was
+      (subst (λ k. LacksOwn (slice_index old.l1.words k)) row
+      (subst LacksOwn (words is) (lacks-in-memory (file_of g mid) mid.file.header.fields mid.l1 of' is lacks)))
+
+  -- as where the file and its header are the same.
+  pub lacks-as-file : (guest : ℕ) (old mid : Tables S g) → file_of g mid ≡ file_of g old → mid.file.header ≡ old.file.header
+      → LacksTable g guest mid → LacksTable g guest old
+  lacks-as-file guest old mid file header lacks =
+      subst (λ (H : Header). LacksBy (file_of g old) H) header (subst (λ (f : Bytes). LacksBy f mid.file.header) file lacks) where
+        LacksBy : Bytes → Header → Type 0
+        LacksBy f H = let i = guest / words_of_cluster H.fields in
+            (l2_table f H.fields i ≡ 0) ⊎ (is_copied (word f H.fields.l1_offset i) ≡ false)
+
+  -- So the same is asked for, for a guest cluster.
+  pub asked-as : (guest asked : ℕ) (kept : Option ℕ) (old mid : Tables S g) → mid.file.header ≡ old.file.header
+      → (LacksTable g guest mid → LacksTable g guest old) → IsForCluster g guest kept mid asked → IsForCluster g guest kept old asked
+  asked-as guest asked kept old mid header told (inl (inl word)) = inl (inl (subst (λ (H : Header).
+      let i = guest / words_of_cluster H.fields in (H.fields.l1_entries ≤ i) × (asked ≡ clusters_for H.fields (i + 1))) header word))
+  asked-as guest asked kept old mid header told (inl (inr table)) = inl (inr (told table.0, table.1))
+  asked-as guest asked kept old mid header told (inr none) = inr none
+
   -- Where a run is free, each shorter one is.
   pub run-fewer : (t : Tables S g) (few many : ℕ) → few ≤ many → HasFreeRun g t many → HasFreeRun g t few
   run-fewer t few many le run = record {
@@ -83,10 +140,10 @@ module _ {S : Type 0} (g : Ghosts S) where
       left = λ total some run. rest-in-run new free' there' total (leaves.left total some (run-in-rest old free there (taken + total) run));
     }
 
-    pub full-in-run : (n number : ℕ) → n ≤ 2 ^ 16
+    pub full-in-run : (n number : ℕ)
         → room.IsFull n (rest_of g old free) (mark_of free.allocator) (rest_of g new free') (mark_of free'.allocator) number
-        → LacksFreeRun g (room_for old.file.header.fields n) old new number
-    full-in-run n number few full = record {
+        → LacksFreeRun g n (room_for old.file.header.fields n) old new number
+    full-in-run n number full = record {
       crowded = λ run.
           let there = run-in-rest old free there (room_for old.file.header.fields n) run in
           full.crowded record {
@@ -99,8 +156,6 @@ module _ {S : Type 0} (g : Ghosts S) where
           };
       free = free';
       there = there';
-      asked = n;
-      few = few;
       told = full.told;
     }
 
@@ -122,35 +177,29 @@ module _ {S : Type 0} (g : Ghosts S) where
   }
 
   -- and there was no run for the second where it finds none.
-  pub full-behind : (taken enough number : ℕ) (old mid new : Tables S g) → 0 < enough → LeavesFree g taken old mid → LacksFreeRun g enough mid new number
-      → LacksFreeRun g (taken + enough) old new number
-  full-behind taken enough number old mid new some leaves full = record {
+  pub full-behind : (asked taken enough number : ℕ) (old mid new : Tables S g) → 0 < enough → LeavesFree g taken old mid → LacksFreeRun g asked enough mid new number
+      → LacksFreeRun g asked (taken + enough) old new number
+  full-behind asked taken enough number old mid new some leaves full = record {
     crowded = λ run. full.crowded (leaves.left enough some run);
     free = full.free;
     there = full.there;
-    asked = full.asked;
-    few = full.few;
     told = full.told;
   }
 
-  pub full-more : (few many number : ℕ) (old new : Tables S g) → few ≤ many → LacksFreeRun g few old new number → LacksFreeRun g many old new number
-  full-more few many number old new le full = record {
+  pub full-more : (asked few many number : ℕ) (old new : Tables S g) → few ≤ many → LacksFreeRun g asked few old new number → LacksFreeRun g asked many old new number
+  full-more asked few many number old new le full = record {
     crowded = λ run. full.crowded (run-fewer old few many le run);
     free = full.free;
     there = full.there;
-    asked = full.asked;
-    few = full.few;
     told = full.told;
   }
 
-  pub full-since : (enough number : ℕ) (old mid new : Tables S g) → (HasFreeRun g old enough → HasFreeRun g mid enough) → LacksFreeRun g enough mid new number
-      → LacksFreeRun g enough old new number
-  full-since enough number old mid new from full = record {
+  pub full-since : (asked enough number : ℕ) (old mid new : Tables S g) → (HasFreeRun g old enough → HasFreeRun g mid enough) → LacksFreeRun g asked enough mid new number
+      → LacksFreeRun g asked enough old new number
+  full-since asked enough number old mid new from full = record {
     crowded = λ run. full.crowded (from run);
     free = full.free;
     there = full.there;
-    asked = full.asked;
-    few = full.few;
     told = full.told;
   }
 
@@ -202,7 +251,7 @@ module _ {S : Type 0} (g : Ghosts S) where
     | inr least ↦ least
   ]
 
-  pub few-longer : (d : Qcow2 S g) (i : ℕ) → IsSafe g d → i + 1 ≤ 2 ^ 22 → l1_clusters d.tables.file.header.fields d.tables.l1 i ≤ 2 ^ 16
+  few-longer : (d : Qcow2 S g) (i : ℕ) → IsSafe g d → i + 1 ≤ 2 ^ 22 → l1_clusters d.tables.file.header.fields d.tables.l1 i ≤ 2 ^ 16
   few-longer d i safe near =
       let h : Fields = d.tables.file.header.fields in
       let few = safe-few d safe in

@@ -1,6 +1,6 @@
 -- What reserving a cluster and holding it for a guest cluster leave of an image.
-use Rattle.std.proofs.Common.{◌≡◌, ℕ, ◌+◌, ◌*◌, ◌/◌, ◌%◌, ◌^◌, ◌<◌, refl, ap, sym, subst, ◌∙◌, inl, inr, Bool, List, length, Option, Some, None, Result, Ok, Err, arith}
-use Rattle.std.specs.Prelude.{⊤, ◌≤◌, IfErr, IfSome, IsSome, Vec, slice_index}
+use Rattle.std.proofs.Common.{◌≡◌, ℕ, ◌+◌, ◌-◌, ◌*◌, ◌/◌, ◌%◌, ◌^◌, ◌<◌, refl, ap, sym, subst, ◌∙◌, inl, inr, Bool, List, length, Option, Some, None, Result, Ok, Err, arith}
+use Rattle.std.specs.Prelude.{⊤, ◌⊎◌, ◌≤◌, IfErr, IfSome, IsSome, Vec, min, slice_index}
 use Rattle.std.specs.declared.alloc.Global.{Global}
 use Rattle.std.proofs.lemmas.Nat.{mod_below, pow_pos}
 use Rattle.imago_storage.specs.State.{Rose}
@@ -23,12 +23,12 @@ use Rattle.qcow2_types.specs.Words.{damaged, is_copied}
 use Rattle.qcow2_metadata.specs.Places.{IsInReach}
 use Rattle.qcow2_metadata.specs.Tables.{TableValue}
 use Rattle.qcow2_alloc.specs.Crowding.{space}
-use Rattle.qcow2_image.specs.Allocating.{EnsuresTable, HasKept, HasOwnTable, LoadsSpace, PlacesContent, TellsKept, WhyNotAllocated, WhyNotReserved, failed_cut, kept_by}
+use Rattle.qcow2_image.specs.Allocating.{EnsuresTable, HasKept, HasOwnTable, LoadsSpace, PlacesContent, TellsKept, WhyNotAllocated, WhyNotReserved, failed_cut, kept_by, kept_for}
 use Rattle.qcow2_image.specs.Filling.{IsInFirst, IsLeft, IsNeededFor, MakesContent, NeedsShown, RefusesCopy, WhyNotCopied}
-use Rattle.qcow2_image.specs.FreeSpace.{HasFreeRun, HasNoPlace, LacksFreeRun, enough_for_one, enough_for_table, searched_from}
+use Rattle.qcow2_image.specs.FreeSpace.{HasFreeRun, HasNoPlace, IsForTable, LacksFreeRun, LacksTable, enough_for_one, enough_for_table, searched_from}
 use Rattle.qcow2_image.specs.Holding.{place_in}
 use Rattle.qcow2_image.specs.KeepsDisk.{KeepsDisk, KeepsDiskWhere}
-use Rattle.qcow2_image.specs.Preparing.{HoldsFresh, IsReservedFor, KeepsMapping, LacksPlace, LeavesMarked, PreparesFresh, Reserves, first_part}
+use Rattle.qcow2_image.specs.Preparing.{HoldsFresh, IsReservedFor, KeepsMapping, LacksPlace, LacksPlaceBeside, LeavesMarked, PreparesFresh, Reserves, first_part}
 use Rattle.qcow2_image.specs.Leaking.{KeepsLeaks, reserved_as}
 use Rattle.qcow2_image.specs.Looking.{WhyNotLooked}
 use Rattle.qcow2_image.specs.Rooms.{IsSafe}
@@ -39,7 +39,7 @@ use Rattle.qcow2_image.specs.declared.qcow2.PreparedMappingState.{PreparedMappin
 use Rattle.qcow2_image.specs.declared.qcow2.Qcow2.{Qcow2}
 use Rattle.qcow2_image.specs.declared.tables.Tables.{Tables}
 use Rattle.qcow2_image.proofs.FileWords.{top-word}
-use Rattle.qcow2_image.proofs.FreeRuns.{full-behind, full-more, full-since, quarter-enough, quarter-some, run-fewer, run-same, safe-short, some-enough}
+use Rattle.qcow2_image.proofs.FreeRuns.{asked-as, full-behind, full-more, full-since, lacks-as-file, lacks-as-words, quarter-enough, quarter-some, run-fewer, run-same, safe-short, some-enough}
 use Rattle.qcow2_image.proofs.KeepingDisks.{keeps-disk-both, keeps-disk-same, keeps-disk-then, keeps-image-disk}
 use Rattle.qcow2_image.proofs.KeptClusters.{kept-behind}
 use Rattle.qcow2_image.proofs.Leaks.{leaks-all, leaks-both, leaks-but, leaks-held, leaks-kept, leaks-then}
@@ -103,62 +103,82 @@ module _ {S : Type 0} (g : Ghosts S) where
   why-never full old new Counter why = why
   why-never full old new e why = absurd why
 
-  -- Where an image has loaded its free space, or was only looked at, it has the same free runs.
-  lacks-since : (guest number : ℕ) (old mid new : Tables S g) → mid.file.header ≡ old.file.header
+  -- Where an image has loaded its free space, or was only looked at, it has the same free runs, and lacks the same table.
+  lacks-since : (guest : ℕ) (kept : Option ℕ) (number : ℕ) (old mid new : Tables S g) → mid.file.header ≡ old.file.header
       → ((total : ℕ) → 0 < total → HasFreeRun g old total → HasFreeRun g mid total) → 0 < space mid.file.header.fields / 4
-      → LacksPlace g guest mid new number → LacksPlace g guest old new number
-  lacks-since guest number old mid new header runs some lacks = from (subst (λ (H : Header).
-      HasNoPlace g (guest / words_of_cluster H.fields) (space H.fields / 4) mid new number) header lacks) where
-        from : HasNoPlace g (guest / words_of_cluster old.file.header.fields) (space old.file.header.fields / 4) mid new number
-            → LacksPlace g guest old new number
-        from (inl far) = inl far
+      → (LacksTable g guest mid → LacksTable g guest old) → LacksPlaceBeside g guest kept mid new number
+      → LacksPlaceBeside g guest kept old new number
+  lacks-since guest kept number old mid new header runs some told (asked, what, why) =
+      (asked, asked-as g guest asked kept old mid header told what, from why) where
+        row-of : Header → ℕ
+        row-of H = guest / words_of_cluster H.fields
+
+        from : ((2 ^ 22 < row-of mid.file.header + 1) × (number ≡ min (row-of mid.file.header + 1) (2 ^ 64 - 1)))
+            ⊎ ((row-of mid.file.header + 1 ≤ 2 ^ 22) × LacksFreeRun g asked (space mid.file.header.fields / 4) mid new number)
+            → ((2 ^ 22 < row-of old.file.header + 1) × (number ≡ min (row-of old.file.header + 1) (2 ^ 64 - 1)))
+            ⊎ ((row-of old.file.header + 1 ≤ 2 ^ 22) × LacksFreeRun g asked (space old.file.header.fields / 4) old new number)
+        from (inl far) =
+            inl (subst (λ (H : Header). (2 ^ 22 < row-of H + 1) × (number ≡ min (row-of H + 1) (2 ^ 64 - 1))) header far)
         from (inr (near, full)) = inr (
-          near,
-          full-since g (space old.file.header.fields / 4) number old mid new
-              (runs (space old.file.header.fields / 4) (subst (λ (H : Header). 0 < space H.fields / 4) header some)) full,
+          subst (λ (H : Header). row-of H + 1 ≤ 2 ^ 22) header near,
+          full-since g asked (space old.file.header.fields / 4) number old mid new
+              (runs (space old.file.header.fields / 4) (subst (λ (H : Header). 0 < space H.fields / 4) header some))
+              (subst (λ (H : Header). LacksFreeRun g asked (space H.fields / 4) mid new number) header full),
         )
 
   -- A quarter of the space is some.
   some-quarter : (d : Qcow2 S g) → IsSafe g d → 0 < space d.tables.file.header.fields / 4
   some-quarter d safe = quarter-some g d safe
 
-  lacks-loaded : (guest number : ℕ) (old mid new : Qcow2 S g) → LoadsSpace g old (Ok tt) mid → IsSafe g mid
-      → LacksPlace g guest mid.tables new.tables number → LacksPlace g guest old.tables new.tables number
-  lacks-loaded guest number old mid new l safe = lacks-since guest number old.tables mid.tables new.tables l.top.1
-      (λ total some run. l.leaves.left total some (run-fewer g old.tables (0 + total) total (omega arith) run)) (some-quarter mid safe)
+  lacks-loaded : (guest : ℕ) (kept : Option ℕ) (number : ℕ) (old mid new : Qcow2 S g) → LoadsSpace g old (Ok tt) mid → IsSafe g old → IsSafe g mid
+      → LacksPlaceBeside g guest kept mid.tables new.tables number → LacksPlaceBeside g guest kept old.tables new.tables number
+  lacks-loaded guest kept number old mid new l safe safe' = lacks-since guest kept number old.tables mid.tables new.tables l.top.1
+      (λ total some run. l.leaves.left total some (run-fewer g old.tables (0 + total) total (omega arith) run)) (some-quarter mid safe')
+      (lacks-as-words g guest old.tables mid.tables safe.seen.l1 safe'.seen.l1
+      (ap (λ (H : Header). guest / words_of_cluster H.fields) l.top.1) (λ k. ap (λ (t : TableValue). slice_index t.words k) l.top.0))
 
-  lacks-looked : {T : Type 0} (v : T) (guest number : ℕ) (old mid : Qcow2 S g) (new : Tables S g) → KeepsImage g old (Ok v) mid → IsSafe g mid
-      → LacksPlace g guest mid.tables new number → LacksPlace g guest old.tables new number
-  lacks-looked {T} v guest number old mid new k safe = lacks-since guest number old.tables mid.tables new k.tables.header
+  lacks-looked : {T : Type 0} (v : T) (guest : ℕ) (kept : Option ℕ) (number : ℕ) (old mid : Qcow2 S g) (new : Tables S g) → KeepsImage g old (Ok v) mid
+      → IsSafe g mid → LacksPlaceBeside g guest kept mid.tables new number → LacksPlaceBeside g guest kept old.tables new number
+  lacks-looked {T} v guest kept number old mid new k safe = lacks-since guest kept number old.tables mid.tables new k.tables.header
       (λ total some. run-same g old.tables mid.tables total (ap bytes_of k.tables.kept.bytes) k.tables.header (ap searched_from k.tables.space))
-      (some-quarter mid safe)
+      (some-quarter mid safe) (lacks-as-file g guest old.tables mid.tables (ap bytes_of k.tables.kept.bytes) k.tables.header)
 
   -- A quarter of the space is more than is needed.
-  lacks-table : (guest number : ℕ) (mid new : Qcow2 S g) → IsSafe g mid
-      → HasNoPlace g (guest / words_of_cluster mid.tables.file.header.fields) (enough_for_table mid.tables guest) mid.tables new.tables number
-      → LacksPlace g guest mid.tables new.tables number
-  lacks-table guest number mid new safe (inl far) = inl far
-  lacks-table guest number mid new safe (inr (near, full)) = inr (
-    near,
-    (let enough = quarter-enough g mid guest safe near in
-        full-more g (enough_for_table mid.tables guest) (space mid.tables.file.header.fields / 4) number mid.tables new.tables (omega (arith, enough)) full),
+  lacks-table : (guest : ℕ) (kept : Option ℕ) (number : ℕ) (mid new : Qcow2 S g) → IsSafe g mid
+      → HasNoPlace g (IsForTable g guest mid.tables) (guest / words_of_cluster mid.tables.file.header.fields) (enough_for_table mid.tables guest)
+      mid.tables new.tables number
+      → LacksPlaceBeside g guest kept mid.tables new.tables number
+  lacks-table guest kept number mid new safe (asked, what, inl far) = (asked, inl what, inl far)
+  lacks-table guest kept number mid new safe (asked, what, inr (near, full)) = (
+    asked,
+    inl what,
+    inr (
+      near,
+      (let enough = quarter-enough g mid guest safe near in
+          full-more g asked (enough_for_table mid.tables guest) (space mid.tables.file.header.fields / 4) number mid.tables new.tables
+          (omega (arith, enough)) full),
+    ),
   )
 
-  lacks-cluster : (guest table number : ℕ) (first mid new : Qcow2 S g) → IsSafe g first → IsSafe g mid → IsSome first.tables.space
-      → EnsuresTable g (enough_for_table first.tables guest) guest first (Ok table) mid
-      → LacksFreeRun g (enough_for_one mid.tables) mid.tables new.tables number → LacksPlace g guest first.tables new.tables number
-  lacks-cluster guest table number first mid new safe safe' some t full =
+  lacks-cluster : (guest table : ℕ) (kept : Option ℕ) (number : ℕ) (first mid new : Qcow2 S g) → IsSafe g first → IsSafe g mid
+      → IsSome first.tables.space → EnsuresTable g (enough_for_table first.tables guest) guest first (Ok table) mid → kept ≡ None
+      → LacksFreeRun g 1 (enough_for_one mid.tables) mid.tables new.tables number → LacksPlaceBeside g guest kept first.tables new.tables number
+  lacks-cluster guest table kept number first mid new safe safe' some t none full =
       let row : guest / words_of_cluster mid.tables.file.header.fields ≡ guest / words_of_cluster first.tables.file.header.fields =
       ap (λ (b : ℕ). guest / (2 ^ b / 8)) t.keeps.bits in
       let near = subst (λ k. k + 1 ≤ 2 ^ 22) row (safe-short g mid (guest / words_of_cluster mid.tables.file.header.fields) safe' (t.there safe some).1) in
       let leaves = t.leaves safe in
       let one : enough_for_one mid.tables ≡ enough_for_one first.tables = ap (λ n. n / 16 + 3 * 1) leaves.as_large in
-      let enough = quarter-enough g first guest safe near in
-      inr (
-        near,
-        full-more g (enough_for_table first.tables guest + enough_for_one first.tables) (space first.tables.file.header.fields / 4) number first.tables new.tables enough
-            (full-behind g (enough_for_table first.tables guest) (enough_for_one first.tables) number first.tables mid.tables new.tables
-            (some-enough first.tables) leaves (subst (λ n. LacksFreeRun g n mid.tables new.tables number) one full)),
+      let enough = quarter-enough g first guest safe near in (
+        1,
+        inr (none, refl),
+        inr (
+          near,
+          full-more g 1 (enough_for_table first.tables guest + enough_for_one first.tables) (space first.tables.file.header.fields / 4) number
+              first.tables new.tables enough
+              (full-behind g 1 (enough_for_table first.tables guest) (enough_for_one first.tables) number first.tables mid.tables new.tables
+              (some-enough first.tables) leaves (subst (λ n. LacksFreeRun g 1 n mid.tables new.tables number) one full)),
+        ),
       )
 
   -- What holds of each safe image holds of one that is known to keep a cluster, or none, for a guest cluster; also behind a call that kept
@@ -189,7 +209,7 @@ module _ {S : Type 0} (g : Ghosts S) where
     reserved = λ known. tt;
     own = λ known. tt;
     stored = λ known. tt;
-    cause = why-loaded (LacksPlace g guest old.tables new.tables) old new e l.cause l.known_cause;
+    cause = why-loaded (LacksPlaceBeside g guest kept old.tables new.tables) old new e l.cause l.known_cause;
   }
 
   -- where there is no table,
@@ -205,9 +225,12 @@ module _ {S : Type 0} (g : Ghosts S) where
     own = λ known. tt;
     stored = λ known. tt;
     cause = why-allocated
-        (HasNoPlace g (guest / words_of_cluster mid.tables.file.header.fields) (enough_for_table mid.tables guest) mid.tables new.tables)
-        (LacksPlace g guest old.tables new.tables) old mid new e l.keeps l.known
-        (λ number safe none. let safe' = l.keeps.safely safe tt in lacks-loaded guest number old mid new l safe' (lacks-table guest number mid new safe' none))
+        (HasNoPlace g (IsForTable g guest mid.tables) (guest / words_of_cluster mid.tables.file.header.fields) (enough_for_table mid.tables guest)
+        mid.tables new.tables)
+        (LacksPlaceBeside g guest kept old.tables new.tables) old mid new e l.keeps l.known
+        (λ number safe none.
+        let safe' = l.keeps.safely safe tt in
+        lacks-loaded guest kept number old mid new l safe safe' (lacks-table guest kept number mid new safe' none))
         t.cause;
   }
 
@@ -227,11 +250,12 @@ module _ {S : Type 0} (g : Ghosts S) where
         reserved = λ known. tt;
         own = λ known. tt;
         stored = λ known. tt;
-        cause = why-allocated (LacksFreeRun g (enough_for_one mid.tables) mid.tables new.tables) (LacksPlace g guest old.tables new.tables) old mid new e there
-            (t.known l.known)
+        cause = why-allocated (λ number. (kept ≡ None) × LacksFreeRun g 1 (enough_for_one mid.tables) mid.tables new.tables number)
+            (LacksPlaceBeside g guest kept old.tables new.tables) old mid new e there (t.known l.known)
             (λ number safe full.
             let safe' = l.keeps.safely safe tt in
-            lacks-loaded guest number old first new l safe' (lacks-cluster guest table number first mid new safe' (there.safely safe tt) l.known t full))
+            lacks-loaded guest kept number old first new l safe safe'
+            (lacks-cluster guest table kept number first mid new safe' (there.safely safe tt) l.known t full.0 full.1))
             s.cause;
       }
 
@@ -363,6 +387,9 @@ module _ {S : Type 0} (g : Ghosts S) where
         let there = (made u asked guest content old first y m).safely safe tt in
         record { safe = looked.safely safe tt; is = t.kept there.seen ∙ ap kept_by (sym (told.words there tt guest)) }
 
+    kept-before : IsSafe g old.0 → kept ≡ kept_for g guest old.0.tables
+    kept-before safe = (known-there safe).is ∙ ap kept_by (looked.words safe tt guest)
+
     looked-leaks : KeepsLeaks g old.0 mid
     looked-leaks = leaks-both g old.0 first mid (leaks-kept g {T = Vec ℕ Global} old.0 first (Ok content) m.keeps)
         (leaks-kept g {T = Option ℕ} first mid (Ok kept) t.keeps)
@@ -382,10 +409,13 @@ module _ {S : Type 0} (g : Ghosts S) where
       err = (
         refl,
         marked-behind {T = Vec ℕ Global} old.0 first new content e m.keeps (marked-behind {T = Option ℕ} first mid new kept e t.keeps r.marked),
-        inl (why-behind (LacksPlace g guest mid.tables new.tables) (LacksPlace g (asked.offset / cluster_size h) old.0.tables new.tables) old.0 mid new e looked
+        inl (why-behind (LacksPlaceBeside g guest kept mid.tables new.tables) (LacksPlace g (asked.offset / cluster_size h) old.0.tables new.tables)
+            old.0 mid new e looked
             (λ number safe lacks. subst (λ k. LacksPlace g k old.0.tables new.tables number) is
-            (lacks-looked {T = Vec ℕ Global} content guest number old.0 first new.tables m.keeps ((made u asked guest content old first y m).safely safe tt)
-            (lacks-looked {T = Option ℕ} kept guest number first mid new.tables t.keeps (looked.safely safe tt) lacks))) r.cause),
+            (subst (λ o. LacksPlaceBeside g guest o old.0.tables new.tables number) (kept-before safe)
+            (lacks-looked {T = Vec ℕ Global} content guest kept number old.0 first new.tables m.keeps
+            ((made u asked guest content old first y m).safely safe tt)
+            (lacks-looked {T = Option ℕ} kept guest kept number first mid new.tables t.keeps (looked.safely safe tt) lacks)))) r.cause),
       );
     }
 
@@ -476,6 +506,13 @@ module _ {S : Type 0} (g : Ghosts S) where
     leaks-behind result new y p safe free whole = leaks-both g old mid new (leaks-kept g {T = T} old mid (Ok v) k)
         (p.leaks (looked-on.safely safe tt) (k.unspent ∙ free) whole)
 
+    lacks-behind : (number : ℕ) → IsSafe g old → (new : Tables S g) → LacksPlace g (asked.offset / cluster_size is) mid.tables new number
+        → LacksPlace g (asked.offset / cluster_size is) old.tables new number
+    lacks-behind number safe new lacks =
+        let guest : ℕ = asked.offset / cluster_size is in
+        subst (λ o. LacksPlaceBeside g guest o old.tables new number) (ap kept_by (looked-on.words safe tt guest))
+        (lacks-looked {T = T} v guest (kept_for g guest mid.tables) number old mid new k (looked-on.safely safe tt) lacks)
+
     pub fresh-behind : (result : Result (PreparedDataMapping PreparedMappingState) Fault) (new : Qcow2 S g) (y : B)
         → PreparesFresh g u asked (mid, x) result (new, y) → PreparesFresh g u asked (old, x) result (new, y)
     fresh-behind (Ok mapping) new y p = record {
@@ -499,7 +536,7 @@ module _ {S : Type 0} (g : Ghosts S) where
           | inl own ↦ inl (why-behind (LacksPlace g (asked.offset / cluster_size is) mid.tables p.middle.tables)
               (LacksPlace g (asked.offset / cluster_size was) old.tables p.middle.tables) old mid p.middle e looked-on
               (λ number safe lacks. subst (λ (h : Fields). LacksPlace g (asked.offset / cluster_size h) old.tables p.middle.tables number) fields
-              (lacks-looked {T = T} v (asked.offset / cluster_size is) number old mid p.middle.tables k (looked-on.safely safe tt) lacks)) own)
+              (lacks-behind number safe p.middle.tables lacks)) own)
           | inr below ↦ inr (copy-behind y e below)
         ],
       );

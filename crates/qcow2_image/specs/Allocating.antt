@@ -17,7 +17,7 @@ use Rattle.qcow2_metadata.specs.Places.{IsInReach}
 use Rattle.qcow2_metadata.specs.Tables.{padded}
 use Rattle.qcow2_steps.specs.Words.{IsReserved}
 use Rattle.qcow2_clusters.specs.Storing.{handed_by}
-use Rattle.qcow2_image.specs.FreeSpace.{HasNoPlace, LacksFreeRun, LeavesFree, enough_for_one, enough_for_word}
+use Rattle.qcow2_image.specs.FreeSpace.{HasNoPlace, IsForTable, IsForWord, LacksFreeRun, LeavesFree, enough_for_one, enough_for_word}
 use Rattle.qcow2_image.specs.Holding.{IsOwnAs, place_in}
 use Rattle.qcow2_image.specs.KeepsDisk.{KeepsDisk, KeepsDiskWhere}
 use Rattle.qcow2_image.specs.Leaking.{KeepsLeaks, KeepsLeaksBut, reserved_by}
@@ -79,12 +79,16 @@ abbrev pub kept_by : Mapping → Option ℕ
 kept_by (zeroes (Some cluster) true) = Some cluster
 kept_by mapping = None
 
+-- the one that a guest cluster of an image keeps
+abbrev pub kept_for : {S : Type 0} (g : Ghosts S) → (guest : ℕ) → Tables S g → Option ℕ
+kept_for g guest t = kept_by (entry (file_of g t) t.file.header.fields guest)
+
 -- It is told by a lookup alone.
 pub record TellsKept {S : Type 0} (g : Ghosts S) (guest : ℕ) (old : Qcow2 S g) (result : Result (Option ℕ) Fault)
     (new : Qcow2 S g) : Type 0 where
   pub keeps : KeepsImage g old result new
   pub reach : IfOk result (λ o. IfSome o (IsInReach old.tables.file.header.fields.cluster_bits))
-  pub kept : IsSeen g old.tables → IfOk result (λ o. o ≡ kept_by (entry (file_of g old.tables) old.tables.file.header.fields guest))
+  pub kept : IsSeen g old.tables → IfOk result (λ o. o ≡ kept_for g guest old.tables)
   pub cause : IfErr result (WhyNotLooked ⊤ (g.state old.tables.file.image).faults (g.state new.tables.file.image).faults)
   pub known_cause : IsSeen g old.tables → IfErr result (WhyNotLooked
       (entry (file_of g old.tables) old.tables.file.header.fields guest ≡ damaged)
@@ -93,7 +97,7 @@ pub record TellsKept {S : Type 0} (g : Ghosts S) (guest : ℕ) (old : Qcow2 S g)
 -- A safe image of which a guest cluster keeps this cluster for its zeroes, as copied, or none.
 pub record HasKept {S : Type 0} (g : Ghosts S) (guest : ℕ) (kept : Option ℕ) (d : Qcow2 S g) : Type 0 where
   pub safe : IsSafe g d
-  pub is : kept ≡ kept_by (entry (file_of g d.tables) d.tables.file.header.fields guest)
+  pub is : kept ≡ kept_for g guest d.tables
 
 -- Why clusters can't be reserved: in a safe image for want of memory, by a storage that failed, or since there is no place left, of which
 -- `full` says what number tells it.
@@ -142,7 +146,8 @@ pub record EnsuresWord {S : Type 0} (g : Ghosts S) (i : ℕ) (old : Qcow2 S g) (
   pub inside : OnOk result (i < length new.tables.l1.words)
   pub words : OnOk result (new.tables.l1.words ≡ padded old.tables.l1.words (max (length old.tables.l1.words) (i + 1)))
   pub leaves : IsSafe g old → OnOk result (LeavesFree g (enough_for_word old.tables i) old.tables new.tables)
-  pub cause : IfErr result (WhyNotAllocated g (HasNoPlace g i (enough_for_word old.tables i) old.tables new.tables) old new)
+  pub cause : IfErr result (WhyNotAllocated g
+      (HasNoPlace g (IsForWord g i old.tables) i (enough_for_word old.tables i) old.tables new.tables) old new)
 
 -- An L2 table of its own is over a guest cluster then, and the L1 table is no longer than its word needs. So many free clusters in a row
 -- are enough for that.
@@ -160,7 +165,7 @@ pub record EnsuresTable {S : Type 0} (g : Ghosts S) (enough guest : ℕ) (old : 
       OnOk result (length new.tables.l1.words ≡ max (length old.tables.l1.words) (i + 1))
   pub leaves : IsSafe g old → OnOk result (LeavesFree g enough old.tables new.tables)
   pub cause : let i = guest / words_of_cluster old.tables.file.header.fields in
-      IfErr result (WhyNotAllocated g (HasNoPlace g i enough old.tables new.tables) old new)
+      IfErr result (WhyNotAllocated g (HasNoPlace g (IsForTable g guest old.tables) i enough old.tables new.tables) old new)
 
 -- The L1 table stays, and the L2 tables where they are.
 pub record KeepsTop {S : Type 0} (g : Ghosts S) (sure : Type 0) (old new : Qcow2 S g) : Type 0 where
@@ -181,7 +186,7 @@ pub record StoresContent {S : Type 0} (g : Ghosts S) (bytes : List ℕ) (old : Q
       × IsReserved (rest_of g new.tables space) x × (0 < space.to_free.held))
   pub content : IsSafe g old → IfOk result (λ x. (i : ℕ) → i < length bytes
       → file_of g new.tables (x * cluster_size old.tables.file.header.fields + i) ≡ slice_index bytes i)
-  pub cause : IfErr result (WhyNotAllocated g (LacksFreeRun g (enough_for_one old.tables) old.tables new.tables) old new)
+  pub cause : IfErr result (WhyNotAllocated g (LacksFreeRun g 1 (enough_for_one old.tables) old.tables new.tables) old new)
 
 -- Why a cluster that is kept can't be filled, in an image that may be safe: no place is looked for.
 abbrev pub WhyNotFilled : {S : Type 0} (g : Ghosts S) → Qcow2 S g → Qcow2 S g → Fault → Type 0
@@ -204,7 +209,7 @@ pub record FillsContent {S : Type 0} (g : Ghosts S) (guest host : ℕ) (bytes : 
   pub cause : IfErr result (WhyNotFilled g old new)
 
 -- The content of a guest cluster is put in the cluster that it keeps for its zeroes, or else in one that was free, which is reserved then.
--- What is answered is that cluster, and whether it was kept.
+-- What is answered is that cluster, and whether it was kept. For one that is kept no place is looked for.
 pub record PlacesContent {S : Type 0} (g : Ghosts S) (guest : ℕ) (kept : Option ℕ) (bytes : List ℕ) (old : Qcow2 S g)
     (result : Result (ℕ × Bool) Fault) (new : Qcow2 S g) : Type 0 where
   pub keeps : KeepsDiskWhere g (HasKept g guest kept old) (WasNotCutOff result) old new
@@ -217,7 +222,8 @@ pub record PlacesContent {S : Type 0} (g : Ghosts S) (guest : ℕ) (kept : Optio
       × IsOwnAs r.1 (rest_of g new.tables space) guest r.0 × (r.1 ≡ false → 0 < space.to_free.held))
   pub content : HasKept g guest kept old → IfOk result (λ r. (i : ℕ) → i < length bytes
       → file_of g new.tables (r.0 * cluster_size old.tables.file.header.fields + i) ≡ slice_index bytes i)
-  pub cause : IfErr result (WhyNotAllocated g (LacksFreeRun g (enough_for_one old.tables) old.tables new.tables) old new)
+  pub cause : IfErr result (WhyNotAllocated g
+      (λ number. (kept ≡ None) × LacksFreeRun g 1 (enough_for_one old.tables) old.tables new.tables number) old new)
 
 -- Why what waits can't be freed.
 abbrev pub WhyNotFreed : {S : Type 0} (g : Ghosts S) → Qcow2 S g → Qcow2 S g → Fault → Type 0

@@ -14,9 +14,9 @@ use Rattle.qcow2_metadata.specs.Places.{IsInReach}
 use Rattle.qcow2_alloc.specs.Crowding.{space}
 use Rattle.qcow2_clusters.specs.Naming.{IsUnder}
 use Rattle.qcow2_clusters.specs.declared.space.Space.{Space}
-use Rattle.qcow2_image.specs.Allocating.{HasKept, HasOwnTable, WhyNotReserved}
+use Rattle.qcow2_image.specs.Allocating.{HasKept, HasOwnTable, WhyNotReserved, kept_for}
 use Rattle.qcow2_image.specs.Filling.{IsInFirst, IsLeft, RefusesCopy}
-use Rattle.qcow2_image.specs.FreeSpace.{HasNoPlace}
+use Rattle.qcow2_image.specs.FreeSpace.{HasNoPlace, IsForCluster}
 use Rattle.qcow2_image.specs.Holding.{Holding, IsOwnAs, place_in}
 use Rattle.qcow2_image.specs.KeepsDisk.{KeepsDisk, KeepsDiskWhere}
 use Rattle.qcow2_image.specs.Leaking.{KeepsLeaks, KeepsLeaksBut, reserved_with}
@@ -50,10 +50,15 @@ pub record IsReservedFor {S : Type 0} (g : Ghosts S) (guest : ℕ) (r : Reserved
   pub some : r.host ≢ 0
   pub room : r.is_kept ≡ false → 0 < space.to_free.held
 
--- There is no place for a guest cluster: its word of the L1 table would be behind the 2^22 that there can be, or no quarter of the space
--- was free in a row.
+-- There is no place for what a guest cluster lacks that keeps this host cluster, or none: its word of the L1 table would be behind the 2^22
+-- that there can be, or no quarter of the space, from where the search begins on, was free in a row.
+abbrev pub LacksPlaceBeside : {S : Type 0} (g : Ghosts S) → (guest : ℕ) → (kept : Option ℕ) → (old new : Tables S g) → ℕ → Type 0
+LacksPlaceBeside g guest kept old new number = let h = old.file.header.fields in
+    HasNoPlace g (IsForCluster g guest kept old) (guest / words_of_cluster h) (space h / 4) old new number
+
+-- There is none for what a guest cluster lacks: a word of the L1 table, an L2 table of its own, or a host cluster that it keeps.
 abbrev pub LacksPlace : {S : Type 0} (g : Ghosts S) → (guest : ℕ) → (old new : Tables S g) → ℕ → Type 0
-LacksPlace g guest old new number = let h = old.file.header.fields in HasNoPlace g (guest / words_of_cluster h) (space h / 4) old new number
+LacksPlace g guest old new number = LacksPlaceBeside g guest (kept_for g guest old) old new number
 
 -- A guest cluster has a host cluster for this content, under an L2 table that nothing else names: the one that it keeps for its zeroes, or
 -- else one that is reserved for it. The disk stays as it was.
@@ -68,7 +73,7 @@ pub record Reserves {S : Type 0} (g : Ghosts S) (guest : ℕ) (kept : Option ℕ
   pub own : HasKept g guest kept old → IfOk result (λ r. HasOwnTable g guest new.tables)
   pub stored : HasKept g guest kept old → IfOk result (λ r. (i : ℕ) → i < length content
       → file_of g new.tables (r.host * cluster_size old.tables.file.header.fields + i) ≡ slice_index content i)
-  pub cause : IfErr result (WhyNotReserved g (LacksPlace g guest old.tables new.tables) old new)
+  pub cause : IfErr result (WhyNotReserved g (LacksPlaceBeside g guest kept old.tables new.tables) old new)
 
 -- What a mapping holds for a run, of the clusters that are reserved for it.
 abbrev pub held_run : {S : Type 0} (g : Ghosts S) → Asked → Reserved → Qcow2 S g → ℕ → (ℕ → Bool) → Holding

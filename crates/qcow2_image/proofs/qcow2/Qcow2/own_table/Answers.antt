@@ -9,6 +9,7 @@ use Rattle.qcow2_image.specs.Looking.{place_of_table}
 use Rattle.qcow2_image.specs.declared.qcow2.Qcow2.{Qcow2}
 use Rattle.qcow2_image.proofs.ClusterSteps.{renewed, table-there}
 use Rattle.qcow2_image.proofs.qcow2.Qcow2.own_table.Goals as goal
+use Rattle.qcow2_image.proofs.qcow2.Qcow2.own_table.Goals.{in-Some+else-is_copied, in_default}
 
 pub returns-then-is_copied : goal.returns-then-is_copied
 returns-then-is_copied g c =
@@ -30,5 +31,11 @@ returns g c =
     c.new_table-made.result c.in-Some-space.is refl c.requires.free (c.l1_index-index.ensures ∙ ap (λ b. guest / l2_entries b) bits)
     (let inside = c.requires.inside in let at = c.l1_index-index.ensures ∙ ap (λ b. guest / l2_entries b) bits in omega (arith, inside, at)) c.l2_cluster-named.result
     (ap (λ b. place_of_table old.tables.l1.words b guest) (sym bits) ∙ sym c.l2_cluster-named.ensures)
+    (λ table is. elim c.match-named.branch [
+      | in-Some+else-is_copied w ↦
+          ap (λ n. is_copied (slice_index old.tables.l1.words n)) (sym (c.l1_index-index.ensures ∙ ap (λ b. guest / l2_entries b) bits))
+          ∙ ap is_copied (sym w.get.ensures) ∙ sym w.is_copied.ensures ∙ w.if-is_copied.false
+      | in_default w ↦ absurd (cc (sym is ∙ w.in_default.is))
+    ])
     (λ is. c.new_table-made.ensures.copies (c.is_some-is_copy.ensures ∙ is))
     (λ is. c.new_table-made.ensures.makes (c.is_some-is_copy.ensures ∙ is))))
