@@ -612,7 +612,8 @@ module _ {S : Type 0} (g : Ghosts S) (old : Qcow2 S g) (mid : Tables S g) (space
     leaves = λ safe. on-ok result _ (LeavesFree g (enough_for_one old.tables) old.tables mid)
         (leaves-in-run g old.tables mid space space' there there' (enough_for_one old.tables)) (names.leaves (is-ready safe) (as-asked safe));
     cause = if-err result _ (WhyNotAllocated g
-        (HasNoPlace g (IsForTable g guest old.tables) (guest / words_of_cluster was) (enough_for_one old.tables) old.tables mid) old made_now) (λ e.
+        (HasNoPlace g (IsForTable g guest old.tables) (guest / words_of_cluster was) (enough_for_one old.tables) old.tables mid)
+        old made_now) (λ e.
         allocated-why g old made_now (IsReady g.state (lent old.tables.file caches space) × asked)
         (room.IsFull 1 (rest_of g old.tables space) (mark_of space.allocator) (rest_of g mid space') (mark_of space'.allocator))
         (HasNoPlace g (IsForTable g guest old.tables) (guest / words_of_cluster was) (enough_for_one old.tables) old.tables mid)
@@ -647,10 +648,12 @@ module _ {S : Type 0} (g : Ghosts S) (old : Qcow2 S g) (mid : Tables S g) (space
       made g old mid space space' caches guest i result (IsTableless g.state old.tables.l1 i before) (handed_by result) (handed_by result)
       (λ c. omega arith)
       there there' free index inside
-      (λ safe. inl (table-none (file_of g old.tables) old.tables.file.header.fields old.tables.l1 safe.seen.l1 guest is)) (tableless g old space caches guest i index inside is) (makes refl).named
+      (λ safe. inl (table-none (file_of g old.tables) old.tables.file.header.fields old.tables.l1 safe.seen.l1 guest is))
+      (tableless g old space caches guest i index inside is) (makes refl).named
   renewed (Some table) is shared copies makes =
       made g old mid space space' caches guest i result (HasTable g.state old.tables.l1 i before) taken_by taken_by (λ c. omega arith)
-      there there' free index inside (lacks-shared (shared table refl)) (has-table g old space caches guest i index inside table is) (copies refl).named
+      there there' free index inside (lacks-shared (shared table refl))
+      (has-table g old space caches guest i index inside table is) (copies refl).named
 
 -- There was one that nothing else names.
 module _ {S : Type 0} (g : Ghosts S) (d : Qcow2 S g) (guest table : ℕ)

@@ -177,8 +177,8 @@ module _ {S : Type 0} (g : Ghosts S) where
   }
 
   -- and there was no run for the second where it finds none.
-  pub full-behind : (asked taken enough number : ℕ) (old mid new : Tables S g) → 0 < enough → LeavesFree g taken old mid → LacksFreeRun g asked enough mid new number
-      → LacksFreeRun g asked (taken + enough) old new number
+  pub full-behind : (asked taken enough number : ℕ) (old mid new : Tables S g) → 0 < enough → LeavesFree g taken old mid
+      → LacksFreeRun g asked enough mid new number → LacksFreeRun g asked (taken + enough) old new number
   full-behind asked taken enough number old mid new some leaves full = record {
     crowded = λ run. full.crowded (leaves.left enough some run);
     free = full.free;
@@ -186,7 +186,8 @@ module _ {S : Type 0} (g : Ghosts S) where
     told = full.told;
   }
 
-  pub full-more : (asked few many number : ℕ) (old new : Tables S g) → few ≤ many → LacksFreeRun g asked few old new number → LacksFreeRun g asked many old new number
+  pub full-more : (asked few many number : ℕ) (old new : Tables S g) → few ≤ many
+      → LacksFreeRun g asked few old new number → LacksFreeRun g asked many old new number
   full-more asked few many number old new le full = record {
     crowded = λ run. full.crowded (run-fewer old few many le run);
     free = full.free;
@@ -194,8 +195,8 @@ module _ {S : Type 0} (g : Ghosts S) where
     told = full.told;
   }
 
-  pub full-since : (asked enough number : ℕ) (old mid new : Tables S g) → (HasFreeRun g old enough → HasFreeRun g mid enough) → LacksFreeRun g asked enough mid new number
-      → LacksFreeRun g asked enough old new number
+  pub full-since : (asked enough number : ℕ) (old mid new : Tables S g) → (HasFreeRun g old enough → HasFreeRun g mid enough)
+      → LacksFreeRun g asked enough mid new number → LacksFreeRun g asked enough old new number
   full-since asked enough number old mid new from full = record {
     crowded = λ run. full.crowded (from run);
     free = full.free;

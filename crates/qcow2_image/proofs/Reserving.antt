@@ -130,23 +130,23 @@ module _ {S : Type 0} (g : Ghosts S) where
   some-quarter : (d : Qcow2 S g) → IsSafe g d → 0 < space d.tables.file.header.fields / 4
   some-quarter d safe = quarter-some g d safe
 
-  lacks-loaded : (guest : ℕ) (kept : Option ℕ) (number : ℕ) (old mid new : Qcow2 S g) → LoadsSpace g old (Ok tt) mid → IsSafe g old → IsSafe g mid
-      → LacksPlaceBeside g guest kept mid.tables new.tables number → LacksPlaceBeside g guest kept old.tables new.tables number
+  lacks-loaded : (guest : ℕ) (kept : Option ℕ) (number : ℕ) (old mid new : Qcow2 S g) → LoadsSpace g old (Ok tt) mid
+      → IsSafe g old → IsSafe g mid → LacksPlaceBeside g guest kept mid.tables new.tables number → LacksPlaceBeside g guest kept old.tables new.tables number
   lacks-loaded guest kept number old mid new l safe safe' = lacks-since guest kept number old.tables mid.tables new.tables l.top.1
       (λ total some run. l.leaves.left total some (run-fewer g old.tables (0 + total) total (omega arith) run)) (some-quarter mid safe')
       (lacks-as-words g guest old.tables mid.tables safe.seen.l1 safe'.seen.l1
       (ap (λ (H : Header). guest / words_of_cluster H.fields) l.top.1) (λ k. ap (λ (t : TableValue). slice_index t.words k) l.top.0))
 
-  lacks-looked : {T : Type 0} (v : T) (guest : ℕ) (kept : Option ℕ) (number : ℕ) (old mid : Qcow2 S g) (new : Tables S g) → KeepsImage g old (Ok v) mid
-      → IsSafe g mid → LacksPlaceBeside g guest kept mid.tables new number → LacksPlaceBeside g guest kept old.tables new number
+  lacks-looked : {T : Type 0} (v : T) (guest : ℕ) (kept : Option ℕ) (number : ℕ) (old mid : Qcow2 S g) (new : Tables S g)
+      → KeepsImage g old (Ok v) mid → IsSafe g mid → LacksPlaceBeside g guest kept mid.tables new number → LacksPlaceBeside g guest kept old.tables new number
   lacks-looked {T} v guest kept number old mid new k safe = lacks-since guest kept number old.tables mid.tables new k.tables.header
       (λ total some. run-same g old.tables mid.tables total (ap bytes_of k.tables.kept.bytes) k.tables.header (ap searched_from k.tables.space))
       (some-quarter mid safe) (lacks-as-file g guest old.tables mid.tables (ap bytes_of k.tables.kept.bytes) k.tables.header)
 
   -- A quarter of the space is more than is needed.
   lacks-table : (guest : ℕ) (kept : Option ℕ) (number : ℕ) (mid new : Qcow2 S g) → IsSafe g mid
-      → HasNoPlace g (IsForTable g guest mid.tables) (guest / words_of_cluster mid.tables.file.header.fields) (enough_for_table mid.tables guest)
-      mid.tables new.tables number
+      → HasNoPlace g (IsForTable g guest mid.tables) (guest / words_of_cluster mid.tables.file.header.fields)
+      (enough_for_table mid.tables guest) mid.tables new.tables number
       → LacksPlaceBeside g guest kept mid.tables new.tables number
   lacks-table guest kept number mid new safe (asked, what, inl far) = (asked, inl what, inl far)
   lacks-table guest kept number mid new safe (asked, what, inr (near, full)) = (
@@ -162,7 +162,8 @@ module _ {S : Type 0} (g : Ghosts S) where
 
   lacks-cluster : (guest table : ℕ) (kept : Option ℕ) (number : ℕ) (first mid new : Qcow2 S g) → IsSafe g first → IsSafe g mid
       → IsSome first.tables.space → EnsuresTable g (enough_for_table first.tables guest) guest first (Ok table) mid → kept ≡ None
-      → LacksFreeRun g 1 (enough_for_one mid.tables) mid.tables new.tables number → LacksPlaceBeside g guest kept first.tables new.tables number
+      → LacksFreeRun g 1 (enough_for_one mid.tables) mid.tables new.tables number
+      → LacksPlaceBeside g guest kept first.tables new.tables number
   lacks-cluster guest table kept number first mid new safe safe' some t none full =
       let row : guest / words_of_cluster mid.tables.file.header.fields ≡ guest / words_of_cluster first.tables.file.header.fields =
       ap (λ (b : ℕ). guest / (2 ^ b / 8)) t.keeps.bits in
@@ -225,8 +226,8 @@ module _ {S : Type 0} (g : Ghosts S) where
     own = λ known. tt;
     stored = λ known. tt;
     cause = why-allocated
-        (HasNoPlace g (IsForTable g guest mid.tables) (guest / words_of_cluster mid.tables.file.header.fields) (enough_for_table mid.tables guest)
-        mid.tables new.tables)
+        (HasNoPlace g (IsForTable g guest mid.tables) (guest / words_of_cluster mid.tables.file.header.fields)
+        (enough_for_table mid.tables guest) mid.tables new.tables)
         (LacksPlaceBeside g guest kept old.tables new.tables) old mid new e l.keeps l.known
         (λ number safe none.
         let safe' = l.keeps.safely safe tt in
@@ -409,8 +410,8 @@ module _ {S : Type 0} (g : Ghosts S) where
       err = (
         refl,
         marked-behind {T = Vec ℕ Global} old.0 first new content e m.keeps (marked-behind {T = Option ℕ} first mid new kept e t.keeps r.marked),
-        inl (why-behind (LacksPlaceBeside g guest kept mid.tables new.tables) (LacksPlace g (asked.offset / cluster_size h) old.0.tables new.tables)
-            old.0 mid new e looked
+        inl (why-behind (LacksPlaceBeside g guest kept mid.tables new.tables)
+            (LacksPlace g (asked.offset / cluster_size h) old.0.tables new.tables) old.0 mid new e looked
             (λ number safe lacks. subst (λ k. LacksPlace g k old.0.tables new.tables number) is
             (subst (λ o. LacksPlaceBeside g guest o old.0.tables new.tables number) (kept-before safe)
             (lacks-looked {T = Vec ℕ Global} content guest kept number old.0 first new.tables m.keeps

@@ -11,5 +11,6 @@ returns g c =
     let longer = c.lengthen_l1-longer in
     subst (λ (r : Result Unit Fault). EnsuresWord g.S.Storage c.args.index old r c.settle_change.new.self) (sym c.settle_change.ensures.same)
     (subst (λ (d : Qcow2 g.row.S.Denot g.S.Storage). EnsuresWord g.S.Storage c.args.index old longer.result d) (sym c.settle_change.ensures.marks)
-    (lengthened g.S.Storage old _ c.in-Some.space longer.new.space c.drop_cached-dropped.new.caches c.args.index c.in-Some.is refl c.requires.free
-    (let behind = c.if-index-entries.false in let long = c.entries.ensures.value in omega (arith, behind, long)) longer.result longer.ensures))
+    (lengthened g.S.Storage old _ c.in-Some.space longer.new.space c.drop_cached-dropped.new.caches c.args.index c.in-Some.is refl
+    c.requires.free (let behind = c.if-index-entries.false in let long = c.entries.ensures.value in omega (arith, behind, long))
+    longer.result longer.ensures))
