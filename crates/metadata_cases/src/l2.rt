@@ -7,7 +7,7 @@ use crate::file::Image;
 use crate::limits::{fits, is_in_reach};
 use crate::mappings::mapping_text;
 use cases::{Trouble, number, size};
-use qcow2_metadata::{Header, L2Mapping, L2Table, Table};
+use qcow2_metadata::{Header, L2Mapping, L2Table, StoredL2Table, Table};
 use qcow2_types::{ClusterCount, ClustersToFreeEntry, GuestCluster, HostCluster, PendingClusters};
 use std::alloc::Global;
 
@@ -179,5 +179,31 @@ pub fn l2_call(alloc: Global, table: &mut L2Table, words: &[&str]) -> Result<Str
             )
         }
         _ => answered(alloc, change(table, words)),
+    }
+}
+
+/// A call of the table in a cluster, which is loaded for it and only read.
+pub fn stored_call(
+    alloc: Global,
+    image: &mut Image<'_>,
+    header: &Header,
+    cluster: HostCluster,
+    words: &[&str],
+) -> Result<String, Trouble> {
+    let bits = header.cluster_bits();
+    if !is_in_reach(cluster, bits) {
+        return Err(Trouble::NoCall);
+    }
+    let table = StoredL2Table::load(alloc, image, header, cluster)?;
+    match words {
+        ["entries"] => answered(alloc, Ok(Answer::Number(table.entries() as u64))),
+        ["mapping", word] => {
+            let guest = GuestCluster(number(word)?);
+            if !fits(guest.0, bits, 0) {
+                return Err(Trouble::NoCall);
+            }
+            Ok(mapping_text(alloc, table.get_mapping(guest))?)
+        }
+        _ => Err(Trouble::NoCall),
     }
 }

@@ -26,6 +26,7 @@
 //!   L2 table or block, `in_bounds INDEX`.
 //! - `l2`: `load CLUSTER`, `new`, `copy`, `write_if_modified`; `[guard] mapping CLUSTER`, `[guard] packed CLUSTER`, of a guest cluster;
 //!   `map INDEX CLUSTER [pending]`, `zero INDEX keep | free`, `discard INDEX`, which answer what is handed back, `from FIRST count N`.
+//!   `stored CLUSTER entries`, `stored CLUSTER mapping CLUSTER`: of the table in that cluster, which is loaded for the call and only read.
 //! - Each of the three: `name`, `most`, `entries`, `word INDEX`, `kept INDEX` (or `none`), `cluster`, `offset`, `bytes`, `clusters`,
 //!   `cluster_bits`, `modified`, `set_cluster CLUSTER`, `unset_cluster`, `set_modified`, `clear_modified`, `write`, `write INDEX`.
 //! - `block`: `load CLUSTER`, `new`, `write`, `write_if_modified`; `entries`, `cluster_bits`, `cluster`, `offset`, `modified`, `set_cluster

@@ -7,7 +7,7 @@ use crate::file::{Image, image_of, look};
 use crate::headers::{
     header_call, header_in_file, load_header, name_l1, name_reftable, new_header,
 };
-use crate::l2::{copy_of, l2_call, load_l2, new_l2, write_if_modified};
+use crate::l2::{copy_of, l2_call, load_l2, new_l2, stored_call, write_if_modified};
 use crate::tables::table_words;
 use crate::upper::upper_words;
 use cases::{Notes, Trouble, number, ok, size};
@@ -188,6 +188,19 @@ impl<'a> Metadata<'a> {
         write_if_modified(alloc, table, image)
     }
 
+    // What the L2 table in a cluster is asked for, which is only read.
+    fn l2_stored(
+        &mut self,
+        alloc: Global,
+        cluster: HostCluster,
+        words: &[&str],
+    ) -> Result<String, Trouble> {
+        let (Some(header), Some(image)) = (&self.header, &mut self.image) else {
+            return Err(Trouble::NoCall);
+        };
+        stored_call(alloc, image, header, cluster, words)
+    }
+
     // What an L2 table alone is asked for.
     fn l2_alone(&mut self, alloc: Global, words: &[&str]) -> Result<String, Trouble> {
         match &mut self.l2 {
@@ -200,6 +213,7 @@ impl<'a> Metadata<'a> {
     pub fn l2_words(&mut self, alloc: Global, words: &[&str]) -> Result<String, Trouble> {
         match words {
             ["load", word] => answered(alloc, self.load_l2(alloc, cluster(word)?)),
+            ["stored", word, rest @ ..] => self.l2_stored(alloc, cluster(word)?, rest),
             ["new"] => answered(alloc, self.new_l2(alloc)),
             ["copy"] => answered(alloc, self.copy_l2(alloc)),
             ["write_if_modified"] => answered(alloc, self.write_l2_if_modified(alloc)),
