@@ -8,6 +8,7 @@ use Rattle.imago_access.specs.declared.seen.Seen.{Ghosts}
 use Rattle.imago_access.specs.declared.seen.SeenBelow.{Ghosts as GhostsBelow}
 use Rattle.imago_access.specs.Changes.{Asked}
 use Rattle.imago_access.specs.Layer.{Layer}
+use Rattle.imago_access.specs.FileReads.{FilesRead}
 use Rattle.imago_access.specs.Files.{WasNotCutOff, files}
 use Rattle.imago_access.specs.Going.{IsUnchanged, AtOnce, IsSpared, Marks, MarksOver, Went}
 use Rattle.imago_access.specs.Parts.{PartCause, DeclinableCause, GrowthCause, ShrinkCause}
@@ -101,6 +102,20 @@ module _ {D E St Su : Type 0} (f : D → E) (h : Ghosts E Su) (g : Ghosts D St) 
     faults = w.faults;
     safely = w.safely;
     lasting = w.lasting;
+  }
+
+  -- a read of a file as it stands
+  pub files_read_as : (whole : Type 0) → FilesRead g whole a b → FilesRead h whole (f a) (f b)
+  files_read_as whole read = let r = subst (λ k. FilesRead k whole a b) (sym same) read in record {
+    layer = r.layer;
+    kept = r.kept;
+    faults = r.faults;
+    seen = r.seen;
+    safely = r.safely;
+    stilled = r.stilled;
+    lasting = r.lasting;
+    room = λ safe. takes_in (λ _. ⊤) (r.room safe);
+    began = on;
   }
 
   leaves_as : (call : PartCall) (offset n : ℕ) → LeavesPart call (as_kind f h g) offset n a b → LeavesPart call h offset n (f a) (f b)

@@ -30,6 +30,7 @@ mod building;
 mod clusters;
 mod disks;
 mod drivers;
+mod file_reads;
 mod layers;
 mod storages;
 mod texts;
