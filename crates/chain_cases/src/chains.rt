@@ -275,7 +275,13 @@ impl<'a> Layer for Chains<'a> {
             ["chain", rest @ ..] => self.open_chain(alloc, rest),
             ["in_memory", rest @ ..] => self.open_in_memory(alloc, rest),
             [
-                "script" | "script_bytes" | "script_count" | "script_in" | "saved",
+                "script"
+                | "script_bytes"
+                | "script_count"
+                | "script_in"
+                | "script_read"
+                | "script_write"
+                | "saved",
                 ..
             ] => { self.scripted(alloc, words) }
             ["run_fault", name] => run_fault_told(alloc, name),

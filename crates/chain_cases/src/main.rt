@@ -40,6 +40,9 @@
 //!   answers have. Where a line is answered with `error 20` the script is, too.
 //! - `script_in ROOM LINE [; LINE] ..`: how the script ends where its answers go to a writer with room for so many bytes. `run_fault NAME`:
 //!   the text of why one ended early: `read`, `write`, `lines` or `memory`.
+//! - `script_read CAUSE N LINE [; LINE] ..`: the same as `script`, by a reader that fails behind N bytes; `script_write`, with the same
+//!   words, by a writer that does. The cause is `broken` or `memory`, for good, or `interrupted`, once. Behind the lines stands how it
+//!   ended early.
 //! - `saved`: how many bytes the last script saved, or `none`; `saved OFFSET N`: these of them.
 #![tactic(auto)]
 
@@ -51,6 +54,7 @@ mod layers;
 mod openings;
 mod prefixes;
 mod scripts;
+mod streams;
 
 use cases::{Notes, run};
 use chains::Chains;

@@ -4,12 +4,17 @@ ghost use Rattle.imago_access.specs.Layer.{IsFree};
 
 use crate::files::NamedFiles;
 use crate::openings::open;
+use crate::streams::{Failing, FailingReader, FailingWriter};
 use cases::{Trouble, bytes, joined, number, ok, runs, size};
 use imago_access::{FormatAccess, FormatDriverInstance};
 use imago_storage::{Fault, MemStorage};
 use qimg_chain::chain::{ImageDriver, NamesFiles};
 use qimg_chain::run::{RunFault, run};
 use std::alloc::Global;
+use std::io::{BufRead, Write};
+
+/// Room for all that a script writes whose writer fails.
+const WRITTEN: usize = 4096;
 
 /// A chain over copies of the case's files, of which scripts are run, and what the last of them saved.
 #[derive(Drop)]
@@ -25,33 +30,22 @@ fn is_free<D: FormatDriverInstance>(chain: &FormatAccess<D>) -> bool
     !chain.inner().prepared()
 }
 
-// Runs a script over a chain. Returns what it writes, and what it saves or why it ended early.
-fn written<D: FormatDriverInstance<Storage = MemStorage> + NamesFiles>(
+// Runs a script over a chain, if nothing is prepared there. Returns what it saves, or why it ended early.
+fn ended<R, W, D>(
     alloc: Global,
     chain: &mut FormatAccess<D>,
-    script: &[u8],
-) -> Result<(Vec<u8>, Result<Option<Vec<u8>>, RunFault>), Trouble> {
+    reader: R,
+    writer: &mut W,
+) -> Result<Result<Option<Vec<u8>>, RunFault>, Trouble>
+where
+    R: BufRead + Drop,
+    W: Write,
+    D: FormatDriverInstance<Storage = MemStorage> + NamesFiles,
+{
     if !is_free(chain) {
         return Err(Trouble::NoCall);
     }
-    let mut text = Vec::new(alloc);
-    let ended = run(alloc, script, &mut text, chain);
-    Ok((text, ended))
-}
-
-// What a script saves or why it ended early, where its writer has room for so many bytes.
-fn ended_in<D: FormatDriverInstance<Storage = MemStorage> + NamesFiles>(
-    alloc: Global,
-    chain: &mut FormatAccess<D>,
-    room: usize,
-    script: &[u8],
-) -> Result<Result<Option<Vec<u8>>, RunFault>, Trouble> {
-    if !is_free(chain) {
-        return Err(Trouble::NoCall);
-    }
-    let mut space = vec![in alloc; 0u8; room]?;
-    let mut writer = space.as_mut_slice();
-    Ok(run(alloc, script, &mut writer, chain))
+    Ok(run(alloc, reader, writer, chain))
 }
 
 // A script of these words, with a blank between each and the next: the word `;` ends a line.
@@ -145,8 +139,8 @@ impl Scripted {
         alloc: Global,
         script: &[u8],
     ) -> Result<(Vec<u8>, Option<&'static str>), Trouble> {
-        let (text, ended) = written(alloc, &mut self.chain, script)?;
-        match ended {
+        let mut text = Vec::new(alloc);
+        match ended(alloc, &mut self.chain, script, &mut text)? {
             Ok(saved) => {
                 self.saved = saved;
                 Ok((text, None))
@@ -177,7 +171,9 @@ impl Scripted {
 
     // How a script ends whose writer has room for so many bytes.
     fn ended_in(&mut self, alloc: Global, room: usize, script: &[u8]) -> Result<String, Trouble> {
-        match ended_in(alloc, &mut self.chain, room, script)? {
+        let mut space = vec![in alloc; 0u8; room]?;
+        let mut writer = space.as_mut_slice();
+        match ended(alloc, &mut self.chain, script, &mut writer)? {
             Ok(saved) => {
                 self.saved = saved;
                 Ok(ok(alloc)?)
@@ -185,6 +181,48 @@ impl Scripted {
             Err(RunFault::Write) => Ok("the writer failed".to_string(alloc)?),
             Err(fault) => Ok(early_end(fault)?.to_string(alloc)?),
         }
+    }
+
+    // The lines that a script wrote, and why it ended early, if it did.
+    fn told(
+        &mut self,
+        alloc: Global,
+        text: &[u8],
+        ended: Result<Option<Vec<u8>>, RunFault>,
+    ) -> Result<String, Trouble> {
+        let mut told = told_lines(alloc, text)?;
+        match ended {
+            Ok(saved) => self.saved = saved,
+            Err(RunFault::Write) => joined(&mut told, "the writer failed")?,
+            Err(fault) => joined(&mut told, early_end(fault)?)?,
+        }
+        Ok(told)
+    }
+
+    // The same of a script whose reader fails.
+    fn read_failing(
+        &mut self,
+        alloc: Global,
+        failing: Failing,
+        script: &[u8],
+    ) -> Result<String, Trouble> {
+        let mut text = Vec::new(alloc);
+        let reader = FailingReader { script, failing };
+        let ended = ended(alloc, &mut self.chain, reader, &mut text)?;
+        self.told(alloc, &text, ended)
+    }
+
+    // The same of one whose writer fails. There is room for what it takes, so that no memory is wanting then.
+    fn write_failing(
+        &mut self,
+        alloc: Global,
+        failing: Failing,
+        script: &[u8],
+    ) -> Result<String, Trouble> {
+        let text = Vec::with_capacity(alloc, WRITTEN)?;
+        let mut writer = FailingWriter { text, failing };
+        let ended = ended(alloc, &mut self.chain, script, &mut writer)?;
+        self.told(alloc, &writer.text, ended)
     }
 
     // How long the bytes are that the last script saved, if it did.
@@ -229,6 +267,16 @@ impl Scripted {
             ["script_in", room, words @ ..] => {
                 let script = script_of(alloc, words)?;
                 self.ended_in(alloc, size(room)?, script.as_bytes())
+            }
+            ["script_read", cause, behind, words @ ..] => {
+                let script = script_of(alloc, words)?;
+                let failing = Failing::by(cause, size(behind)?)?;
+                self.read_failing(alloc, failing, script.as_bytes())
+            }
+            ["script_write", cause, behind, words @ ..] => {
+                let script = script_of(alloc, words)?;
+                let failing = Failing::by(cause, size(behind)?)?;
+                self.write_failing(alloc, failing, script.as_bytes())
             }
             ["saved"] => self.saved_length(alloc),
             ["saved", offset, n] => self.saved_range(alloc, number(offset)?, number(n)?),
