@@ -3,12 +3,17 @@ ghost use Rattle.std.specs.Prelude.{⊤};
 
 use cases::{Alignments, Notes, Shaped, Trouble, number, size};
 use imago_access::ImplicitOpenGate;
-use imago_storage::{Fault, FuseStorage, MemStorage, PreallocateMode, Storage, StorageExt};
+use imago_storage::{
+    Fault, FuseStorage, LogStorage, MemStorage, PreallocateMode, Storage, StorageExt,
+};
 use std::alloc::Global;
 use std::cell::Cell;
 
 /// The storage over a file that is opened.
 pub type Base<'a> = FuseStorage<Shaped<'a>>;
+
+/// The same, which keeps a log of its changes.
+pub type Logged<'a> = LogStorage<Base<'a>>;
 
 /// How a storage is made of a file, each time that it is opened.
 #[derive(Clone, Copy)]
@@ -52,6 +57,18 @@ impl<'a> NamedFiles<'a> {
         self.files
             .iter_mut()
             .find(|file| file.name.as_str() == name)
+    }
+
+    /// The bytes of a file.
+    ///
+    /// # Errors
+    ///
+    /// `Trouble::NoCall` where there is no such file.
+    pub fn view(&self, name: &str) -> Result<&[u8], Trouble> {
+        match self.files.iter().find(|file| file.name.as_str() == name) {
+            Some(file) => Ok(file.bytes.as_bytes()),
+            None => Err(Trouble::NoCall),
+        }
     }
 
     // The file of a name that there has to be.
@@ -143,6 +160,31 @@ impl<'a> NamedFiles<'a> {
     /// As `put`.
     pub fn open(&mut self, name: &str) -> Result<Base<'a>, Trouble> {
         self.open_prefix(name, usize::MAX)
+    }
+
+    /// A storage of these alignments over a file, which keeps a log. The call by which the log reads the file isn't noted, and no fuse
+    /// counts it.
+    ///
+    /// # Errors
+    ///
+    /// As `put`.
+    pub fn open_logged(
+        &mut self,
+        alloc: Global,
+        name: &str,
+        alignments: Alignments,
+    ) -> Result<Logged<'a>, Trouble> {
+        let notes = self.notes;
+        let noted = notes.get();
+        let file = self.named(name)?;
+        let fuse = match file.making.fuse {
+            0 => 0,
+            n => n.saturating_add(1),
+        };
+        let shaped = Shaped::new(file.bytes.bytes()?, alignments, true, true, notes)?;
+        let logged = LogStorage::new(alloc, FuseStorage::new(shaped, fuse))?;
+        notes.set(noted);
+        Ok(logged)
     }
 }
 

@@ -1,7 +1,7 @@
 // How images are opened over the files of a case.
-use crate::files::{Base, NamedFiles};
+use crate::files::{NamedFiles, NamedStorages};
 use cases::{Trouble, size};
-use imago_access::FormatDriverBuilder;
+use imago_access::{FormatDriverBuilder, ImplicitOpenGate};
 use imago_formats::{Raw, Vmdk};
 use imago_storage::Storage;
 use qcow2_image::{Qcow2, Qcow2OpenBuilder};
@@ -53,12 +53,12 @@ fn cached<S: Storage>(
 /// # Errors
 ///
 /// `Trouble::NoCall` where the words are no such words; `Trouble::Refused` as the opening.
-pub fn open_qcow2<'a>(
+pub fn open_qcow2<S: Storage + Drop, F: ImplicitOpenGate<S>>(
     alloc: Global,
-    storage: Base<'a>,
-    files: &mut NamedFiles<'a>,
+    storage: S,
+    files: &mut F,
     words: &[&str],
-) -> Result<Qcow2<Base<'a>>, Trouble> {
+) -> Result<Qcow2<S>, Trouble> {
     let (is_writing, rest) = access_of(words);
     let (backing, rest) = backing_of(rest);
     let builder = cached(Qcow2::builder(storage).write(is_writing), rest)?;
@@ -70,11 +70,11 @@ pub fn open_qcow2<'a>(
 }
 
 // Opens a storage as a qcow2 image without a builder: `[writing]`.
-fn open_plain<'a>(
+fn open_plain<S: Storage + Drop>(
     alloc: Global,
-    storage: Base<'a>,
+    storage: S,
     words: &[&str],
-) -> Result<Qcow2<Base<'a>>, Trouble> {
+) -> Result<Qcow2<S>, Trouble> {
     Ok(Qcow2::open_image(alloc, storage, access_alone(words)?)?)
 }
 
@@ -83,23 +83,23 @@ fn open_plain<'a>(
 /// # Errors
 ///
 /// As `open_qcow2`.
-pub fn open_vmdk<'a>(
+pub fn open_vmdk<S: Storage + Drop, F: ImplicitOpenGate<S>>(
     alloc: Global,
-    storage: Base<'a>,
-    files: &mut NamedFiles<'a>,
+    storage: S,
+    files: &mut F,
     words: &[&str],
-) -> Result<Vmdk<Base<'a>>, Trouble> {
+) -> Result<Vmdk<S>, Trouble> {
     let is_writing = access_alone(words)?;
     Ok(Vmdk::builder(storage).write(is_writing).open(alloc, files)?)
 }
 
 // The file of a name, which stands first, and the words behind it.
-fn opened<'a, 'x, 'y>(
-    files: &mut NamedFiles<'a>,
+fn opened<'x, 'y, S, F: NamedStorages<S>>(
+    files: &mut F,
     words: &'y [&'x str],
-) -> Result<Split<'x, 'y, Base<'a>>, Trouble> {
+) -> Result<Split<'x, 'y, S>, Trouble> {
     match words {
-        [name, rest @ ..] => Ok((files.open(name)?, rest)),
+        [name, rest @ ..] => Ok((files.open_storage(name)?, rest)),
         _ => Err(Trouble::NoCall),
     }
 }
@@ -109,7 +109,10 @@ fn opened<'a, 'x, 'y>(
 /// # Errors
 ///
 /// As `open_qcow2`.
-pub fn raw<'a>(files: &mut NamedFiles<'a>, words: &[&str]) -> Result<Raw<Base<'a>>, Trouble> {
+pub fn raw<S: Storage + Drop, F: NamedStorages<S>>(
+    files: &mut F,
+    words: &[&str],
+) -> Result<Raw<S>, Trouble> {
     let (storage, rest) = opened(files, words)?;
     Ok(Raw::open_image(storage, access_alone(rest)?))
 }
@@ -119,11 +122,11 @@ pub fn raw<'a>(files: &mut NamedFiles<'a>, words: &[&str]) -> Result<Raw<Base<'a
 /// # Errors
 ///
 /// As `open_qcow2`.
-pub fn qcow2<'a>(
+pub fn qcow2<S: Storage + Drop, F: NamedStorages<S> + ImplicitOpenGate<S>>(
     alloc: Global,
-    files: &mut NamedFiles<'a>,
+    files: &mut F,
     words: &[&str],
-) -> Result<Qcow2<Base<'a>>, Trouble> {
+) -> Result<Qcow2<S>, Trouble> {
     let (storage, rest) = opened(files, words)?;
     match rest {
         ["plain", rest @ ..] => open_plain(alloc, storage, rest),
@@ -136,11 +139,11 @@ pub fn qcow2<'a>(
 /// # Errors
 ///
 /// As `open_qcow2`.
-pub fn vmdk<'a>(
+pub fn vmdk<S: Storage + Drop, F: NamedStorages<S> + ImplicitOpenGate<S>>(
     alloc: Global,
-    files: &mut NamedFiles<'a>,
+    files: &mut F,
     words: &[&str],
-) -> Result<Vmdk<Base<'a>>, Trouble> {
+) -> Result<Vmdk<S>, Trouble> {
     let (storage, rest) = opened(files, words)?;
     open_vmdk(alloc, storage, files, rest)
 }

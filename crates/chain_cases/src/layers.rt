@@ -1,22 +1,19 @@
 // The layers of a disk, by words.
-use crate::files::{Base, NamedFiles};
+use crate::files::NamedStorages;
 use crate::images::{qcow2, raw, vmdk};
 use access_calls::stacked;
 use cases::{Trouble, joined};
-use imago_access::{FormatAccess, FormatDriverInstance};
+use imago_access::{FormatAccess, FormatDriverInstance, ImplicitOpenGate};
 use imago_storage::{FuseStorage, Storage};
 use qimg_chain::chain::ImageDriver;
 use std::alloc::Global;
 
-/// A disk of a script.
-pub type Disk<'a> = FormatAccess<ImageDriver<Base<'a>>>;
-
 /// The image of these words, over a file of the case.
-pub fn image_of<'a>(
+pub fn image_of<S: Storage + Drop, F: NamedStorages<S> + ImplicitOpenGate<S>>(
     alloc: Global,
     words: &[&str],
-    files: &mut NamedFiles<'a>,
-) -> Result<ImageDriver<Base<'a>>, Trouble> {
+    files: &mut F,
+) -> Result<ImageDriver<S>, Trouble> {
     match words {
         ["raw", rest @ ..] => Ok(ImageDriver::Raw(raw(files, rest)?)),
         ["qcow2", rest @ ..] => Ok(ImageDriver::Qcow2(qcow2(alloc, files, rest)?)),

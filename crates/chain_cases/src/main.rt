@@ -32,6 +32,16 @@
 //!   its file, and the names and lengths of the further ones, with `/` behind each. `snapshot LAYER FILE OFFSET N` tells bytes of a copy.
 //! - `if_open CALL`: the call where a disk is open, and else `closed`.
 //!
+//! # Stops
+//!
+//! - `keep_logs [ALIGNMENT] ..`: from here on `layer`, `chain`, `close` and calls are of disks over files that keep logs of their changes,
+//!   one for each alignment: of up to three, or of 1, 8, 512 and 4096. What all answer is told once; where one answers otherwise than the
+//!   one before, that stands behind `and at ALIGNMENT`. A fuse counts each disk's own requests.
+//! - `stops OFFSET N LAYER [over LAYER] ..`, with the words of `chain`: what a stop between the changes of the top's file since `forget`
+//!   leaves, from before the first on. Of each it tells how many clusters leak, or what the checker finds, and the bytes of the range by
+//!   the files alone, with `COUNT:` in front of those that are the same, and `/` between others. The files are those that were opened.
+//! - `states OFFSET N LAYER [over LAYER] ..`: the same without these numbers.
+//!
 //! # Scripts of the program
 //!
 //! - `in_memory`, with the words of `chain`: a chain over copies of the files, of which these scripts are run, beside the disk.
@@ -51,9 +61,12 @@ mod copies;
 mod files;
 mod images;
 mod layers;
+mod logs;
+mod opened;
 mod openings;
 mod prefixes;
 mod scripts;
+mod stops;
 mod streams;
 
 use cases::{Notes, run};

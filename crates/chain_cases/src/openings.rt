@@ -65,8 +65,12 @@ fn layer_of<S: Storage, F: NamedStorages<S>>(
     })
 }
 
-// The files of all layers, the top first, with the word `over` between each and the next.
-fn layers_of<S: Storage, F: NamedStorages<S>>(
+/// The files of all layers, the top first, with the word `over` between each and the next.
+///
+/// # Errors
+///
+/// `Trouble::NoCall` where the words are no such words, and where there is no such file; `Trouble::Refused` for want of memory.
+pub fn layers_of<S: Storage, F: NamedStorages<S>>(
     alloc: Global,
     words: &[&str],
     files: &mut F,
