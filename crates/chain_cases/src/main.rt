@@ -25,7 +25,8 @@
 //! # Calls
 //!
 //! - Those of a disk and of the driver of its top layer that `access_calls::called` has.
-//! - `prepare OFFSET N [overwrite]`, `commit`, `cancel`; `mapping` tells the one that is kept, and `mapping STORAGE OFFSET N` makes one.
+//! - `prepare OFFSET N [overwrite]`, `commit`, `cancel`; `mapping` tells the one that is kept, and `mapping STORAGE OFFSET N` makes one;
+//!   `belongs`: whether it was prepared by an image of the top layer's number: `true` or `false`.
 //! - `counts`: how many calls the image file of each layer was asked for, the highest layer first. `asked`: what all storages were asked
 //!   for, since it was last told or `forget`.
 //! - `snapshot`: the files of the disk are copied as they stand. It tells of each layer, the highest first, the format and the length of

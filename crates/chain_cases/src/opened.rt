@@ -37,6 +37,25 @@ fn let_go(mapping: Option<Prepared>) {
     }
 }
 
+// Whether a mapping was prepared by the top layer of a disk, and the mapping.
+fn belongs<S: Storage>(mapping: Prepared, disk: &Disk<S>) -> (bool, Prepared) {
+    let (storage, offset, length) = (mapping.storage(), mapping.offset(), mapping.length());
+    let Some(state) = mapping.into_state() else {
+        return (
+            false,
+            PreparedDataMapping::existing(storage, offset, length),
+        );
+    };
+    let is_its = match disk.inner() {
+        ImageDriver::Qcow2(image) => state.belongs_to(image),
+        ImageDriver::Raw(_) | ImageDriver::Vmdk(_) => false,
+    };
+    (
+        is_its,
+        PreparedDataMapping::to_commit(storage, offset, length, state),
+    )
+}
+
 impl<S: Storage + Drop> Opened<S> {
     /// No disk yet.
     pub fn new() -> Self {
@@ -150,6 +169,19 @@ impl<S: Storage + Drop> Opened<S> {
         }
     }
 
+    // Whether the mapping was prepared by the top layer, as it says itself.
+    fn belongs(&mut self, alloc: Global) -> Result<String, Trouble> {
+        let Some(disk) = &self.disk else {
+            return Err(Trouble::NoCall);
+        };
+        let Some(mapping) = self.mapping.take() else {
+            return Err(Trouble::NoCall);
+        };
+        let (is_its, mapping) = belongs(mapping, disk);
+        self.keep(Some(mapping));
+        Ok(is_its.to_string(alloc)?)
+    }
+
     // A mapping of these words, without state.
     fn make_mapping(&mut self, alloc: Global, words: [&str; 3]) -> Result<String, Trouble> {
         let [storage, offset, n] = words;
@@ -164,6 +196,7 @@ impl<S: Storage + Drop> Opened<S> {
             ["prepare", offset, rest @ ..] => self.prepare(alloc, offset, rest),
             ["commit"] => self.commit(alloc),
             ["cancel"] => self.cancel(alloc),
+            ["belongs"] => self.belongs(alloc),
             ["mapping"] => self.told_mapping(alloc),
             ["mapping", storage, offset, n] => self.make_mapping(alloc, [*storage, *offset, *n]),
             ["snapshot", rest @ ..] => copied(alloc, self.open()?, rest),
