@@ -1,0 +1,216 @@
+"""Writes to qcow2 images over other layers, in one guest cluster each. The image is laid out at random, with each cluster counted as often as
+it is named; what its disk shows is read out of the bytes by the rules of the format alone. From there on a disk is a list of bytes: a write
+changes its range at once, whatever the stop, and nothing leaks behind a flush.
+"""
+from random_cases.images import COMPRESSED, COPIED, ZERO, Chain, Qcow2, Raw, header, lines_of, some_runs
+from random_cases.texts import WIDTH, runs
+
+BARRED, OUTSIDE = "error 8", "error 2"
+STATES = " / "
+
+
+class Disk:
+    """The bytes that a chain shows, but for guest clusters that can't be read, as they are compressed."""
+
+    def __init__(self, layers):
+        top = layers[0]
+        self.size, self.cluster, self.packed = top.size(), top.cluster, set()
+        self.bytes = bytearray()
+        chain = Chain(layers)
+        while len(self.bytes) < self.size:
+            at = len(self.bytes)
+            kind, depth, place, length = chain.find(at, self.cluster - at % self.cluster)
+            if kind == "barred":
+                self.packed.add(at // self.cluster)
+            layer = layers[depth] if kind == "raw" else None
+            self.bytes += bytes(layer.byte(place[0], place[1] + i) for i in range(length)) if layer else bytes(length)
+
+    def shows(self, at, n):
+        if any(guest in self.packed for guest in range(at // self.cluster, (min(at + n, self.size) - 1) // self.cluster + 1)):
+            return BARRED
+        found = self.bytes[at:at + n]
+        return runs(found + bytes(n - len(found)))
+
+    def write(self, at, data):
+        """Why it is refused, or nothing."""
+        if at + len(data) > self.size:
+            return OUTSIDE
+        guest = at // self.cluster
+        start, end = guest * self.cluster, min(self.size, (guest + 1) * self.cluster)
+        if guest in self.packed and (at, at + len(data)) != (start, end):
+            return BARRED
+        self.packed.discard(guest)
+        self.bytes[at:at + len(data)] = data
+        return None
+
+
+class Layout:
+    """The clusters of an image: who takes one, and how often each is counted."""
+
+    def __init__(self, rng, bits, order):
+        self.rng, self.bits, self.most = rng, bits, min(1 << (1 << order), 1 << 16) - 1
+        self.counts, self.shared = [1, 1, 1], []
+        self.data = bytearray(3 << bits)
+
+    def take(self):
+        """A new cluster, behind some that are free, and hold anything."""
+        for count in [0] * self.rng.choice([0, 0, 0, 1, 2]) + [1]:
+            self.counts.append(count)
+            self.data += some_runs(self.rng, 1 << self.bits)
+        return len(self.counts) - 1
+
+    def share(self):
+        """A cluster that others name, too, or a new one."""
+        if self.shared and self.rng.random() < 0.6 and self.counts[self.shared[-1]] < self.most:
+            self.counts[self.shared[-1]] += 1
+        else:
+            self.shared.append(self.take())
+        return self.shared[-1]
+
+    def put(self, at, word):
+        self.data[at:at + 8] = word.to_bytes(8, "big")
+
+
+def a_word(rng, layout, version):
+    """The L2 word of a guest cluster."""
+    kinds = ["unmapped"] * 3 + ["data"] * 3 + ["single", "shared", "packed"] + (["zero", "kept", "left"] if version > 2 else [])
+    kind = rng.choice(kinds)
+    if kind == "packed":
+        return COMPRESSED | layout.take() << layout.bits | rng.randrange(512)
+    if kind in ("unmapped", "zero"):
+        return ZERO if kind == "zero" else 0
+    place = layout.share() if kind == "shared" else layout.take()
+    return place << layout.bits | {"data": COPIED, "kept": COPIED | ZERO, "left": ZERO}.get(kind, 0)
+
+
+def a_sound_image(rng, backed):
+    """The bytes of an image that a checker takes, of which nothing leaks."""
+    version = rng.choice([2, 3, 3, 3])
+    order = 4 if version == 2 else rng.choice([0, 1, 2, 3, 4, 4, 5, 6])
+    bits = rng.choice([9, 9, 9, 10, 12])
+    words = 1 << bits - 3
+    layout = Layout(rng, bits, order)
+    count = rng.choice([rng.randint(1, 14), words + rng.randint(1, 6) if bits == 9 else rng.randint(1, 14)])
+    size = (count << bits) - rng.choice([0, 0, 1, rng.randrange(1 << bits)])
+    tables = -(-count // words)
+    l1_words = tables if tables == 1 or rng.random() < 0.7 else tables - 1
+    l1 = layout.take()
+    layout.data[l1 << bits:] = bytes(1 << bits)
+    for index in range(l1_words):
+        if rng.random() < 0.2:
+            continue
+        table = layout.take()
+        layout.data[table << bits:] = bytes(1 << bits)
+        layout.put((l1 << bits) + 8 * index, table << bits | rng.choice([COPIED, COPIED, 0]))
+        for place in rng.sample(range(min(words, count - index * words)), min(8, count - index * words)):
+            layout.put((table << bits) + 8 * place, a_word(rng, layout, version))
+    layout.data[:1 << bits] = bytes(1 << bits)
+    made = header(version, bits, size, l1_words, l1 << bits, order=order, backing=b"below" if backed else b"")
+    layout.data[:len(made)] = made
+    layout.put(1 << bits, 2 << bits)
+    layout.data[2 << bits:3 << bits] = counters(layout.counts, order, 1 << bits)
+    return bytes(layout.data)
+
+
+def counters(counts, order, length):
+    """The bytes of a refcount block: counters of less than 8 bits stand in a byte from its lowest bits on."""
+    width = 1 << order
+    if width >= 8:
+        data = b"".join(count.to_bytes(width // 8, "big") for count in counts)
+    else:
+        per = 8 // width
+        data = bytes(sum(count << width * i for i, count in enumerate(counts[at:at + per])) for at in range(0, len(counts), per))
+    return data + bytes(length - len(data))
+
+
+def a_chain(rng):
+    """Layers, the highest first, with the words of each and the lines that make their files."""
+    layers, words, lines = [], [], []
+    if rng.random() < 0.7:
+        data = some_runs(rng, rng.randint(1, 6000))
+        layers.append(Raw(data))
+        words.append("raw low")
+        lines.append(f"file low {runs(data)}")
+    for name in rng.choice([["top"], ["top"], ["mid", "top"]]):
+        while True:
+            data = a_sound_image(rng, bool(layers))
+            image = Qcow2(data, bool(layers))
+            if name == "top" or not Disk([image] + layers).packed:
+                break
+        layers.insert(0, image)
+        words.insert(0, f"qcow2 {name}")
+        lines += lines_of(name, data)
+    return layers, words, lines
+
+
+def a_write(rng, disk):
+    """A write or zeroes in one guest cluster, or a bit past the disk's end: its line, and the call's answer."""
+    count = -(-disk.size // disk.cluster)
+    guest = rng.choice([rng.randrange(count), rng.randrange(count), *sorted(disk.packed)])
+    start, end = guest * disk.cluster, min(disk.size, (guest + 1) * disk.cluster)
+    at = start if rng.random() < 0.4 else rng.randrange(start, end)
+    n = end - at if rng.random() < 0.4 else rng.randint(1, end - at)
+    if end == disk.size and rng.random() < 0.1:
+        n += 1
+    if rng.random() < 0.2:
+        call, data = f"zeroes {at} {n}", bytes(n)
+    else:
+        data = some_runs(rng, n)
+        while len(runs(data)) > 100:
+            data = some_runs(rng, n)
+        call = f"write {at} {runs(data)}"
+    refused = disk.write(at, data)
+    return at, n, call if refused is None else f"{call} = {refused}"
+
+
+def fitting(line_of, n):
+    """The line of a range of n bytes, or of the first ones of these, if it would be too long."""
+    while n > 1 and len(line_of(n)) > WIDTH:
+        n = n // 2
+    return line_of(n)
+
+
+def some_writes(rng, disk, chain):
+    """A few writes, and what each stop of them shows near one of their ends."""
+    places, seen = [], [(disk.bytes[:], set(disk.packed))]
+    for _ in range(rng.randint(1, 3)):
+        at, n, line = a_write(rng, disk)
+        yield line
+        places += [at, at + n]
+        seen.append((disk.bytes[:], set(disk.packed)))
+        if rng.random() < 0.2:
+            yield "flush"
+    at = max(0, rng.choice(places) - rng.randint(1, 6))
+    yield fitting(lambda n: f"states {at} {n} {chain} = {states(disk, seen, at, n)}", rng.randint(7, 16))
+
+
+def states(disk, seen, at, n):
+    """What a range shows in one state behind the other."""
+    now, texts = (disk.bytes, disk.packed), []
+    for disk.bytes, disk.packed in seen:
+        text = disk.shows(at, n)
+        if texts[-1:] != [text]:
+            texts.append(text)
+    disk.bytes, disk.packed = now
+    return STATES.join(texts)
+
+
+def written(rng):
+    """A chain whose top is written, by files of requests of 1 and 4,096 bytes, each stop of which is judged."""
+    layers, words, lines = a_chain(rng)
+    disk, chain = Disk(layers), " over ".join(words)
+    yield from lines
+    yield "keep_logs 1 4096"
+    for layer in reversed(words[1:]):
+        yield f"layer {layer}"
+    yield f"layer {words[0]} writing{rng.choice(['', ' caches 2 2'])}"
+    for _ in range(rng.randint(3, 7)):
+        yield from some_writes(rng, disk, chain)
+        yield "forget"
+        at = rng.randrange(disk.size)
+        yield fitting(lambda n: f"read {at} {n} = {disk.shows(at, n)}", rng.randint(1, 3 * disk.cluster))
+    yield "flush"
+    yield "forget"
+    for _ in range(4):
+        at = rng.randrange(disk.size)
+        yield fitting(lambda n: f"stops {at} {n} {chain} = 1: 0 {disk.shows(at, n)}", rng.randint(1, 3 * disk.cluster))
