@@ -141,12 +141,12 @@ cause_more less more olds news Storage over why = why
 cause_more less more olds news e over why = absurd why
 
 -- why a read of a storage is refused is why one of the first of several is
-pub first_cause : (s t : StorageState) (ss : List StorageState) (offset n : ℕ) (e : Fault) → Kept s t → NotRead s t offset n e
+pub cause_of_first : (s t : StorageState) (ss : List StorageState) (offset n : ℕ) (e : Fault) → Kept s t → NotRead s t offset n e
     → FileReadCause (Overflows (unit_of s.shape) offset n) (s ∷ ss) (t ∷ ss) e
-first_cause s t ss offset n RangeOverflow kept why = why.0
-first_cause s t ss offset n Memory kept why = ((why, kept.refusals), faultless_all_same ss)
-first_cause s t ss offset n Storage kept why = inl why
-first_cause s t ss offset n e kept why = absurd why
+cause_of_first s t ss offset n RangeOverflow kept why = why.0
+cause_of_first s t ss offset n Memory kept why = ((why, kept.refusals), faultless_all_same ss)
+cause_of_first s t ss offset n Storage kept why = inl why
+cause_of_first s t ss offset n e kept why = absurd why
 
 -- ---- Where a range overflows.
 

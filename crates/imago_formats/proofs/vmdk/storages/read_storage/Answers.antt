@@ -5,7 +5,7 @@ use Rattle.imago_storage.specs.State.{unit_of}
 use Rattle.imago_storage.specs.Through.{NotRead, Overflows}
 use Rattle.imago_access.specs.FileReads.{FileReadCause}
 use Rattle.imago_access.specs.Files.{OverflowsIn}
-use Rattle.imago_access.proofs.FileReads.{cause_more, first_cause}
+use Rattle.imago_access.proofs.FileReads.{cause_more, cause_of_first}
 use Rattle.imago_formats.specs.VmdkFiles.{states}
 use Rattle.imago_access.proofs.FilePairs.{kept_all_same, faultless_all_same}
 use Rattle.imago_formats.proofs.StorageLemmas.{kept_first, read_first_whole, read_at_cause, read_at_kept, read_at_whole, byte_beyond, byte_within, passes_within, same_at, overflow_beyond, overflow_within, zero_at, on_ok_reads}
@@ -30,7 +30,7 @@ returns-then-storage-eq0-clause-cause g c =
     let n = length c.args.buf.now in
     rw c.if-storage-eq0.true (IfErr-weaker c.read.result (NotRead image new c.args.place n)
     (FileReadCause (Overflows (unit_of image.shape) c.args.place n) olds (new ∷ fs))
-    (λ e. first_cause image new fs c.args.place n e c.read.ensures.kept) c.read.ensures.err)
+    (λ e. cause_of_first image new fs c.args.place n e c.read.ensures.kept) c.read.ensures.err)
 
 pub returns-then-storage-files-clause-kept : goal.returns-then-storage-files-clause-kept
 returns-then-storage-files-clause-kept g c = let state = g.S.Storage.state in kept_all_same (state c.args.image.now ∷ map state c.args.files.now)
