@@ -87,14 +87,6 @@ pub unit_first : (s : StorageState) (ss : List StorageState) → unit_of s.shape
 unit_first s ss = omega (arith, greatest_first (λ t. t.shape.req_align) s ss, greatest_first (λ t. t.shape.mem_align) s ss)
 
 module _ {A : Type 0} (state : A → StorageState) where
-  greatest_at : (measure : StorageState → ℕ) (s : StorageState) (xs : List A) (i : ℕ) (d : A) → i < length xs → measure (state (get_or xs i d)) ≤ greatest measure s (map state xs)
-  greatest_at measure s [] i d h = absurd (omega arith)
-  greatest_at measure s (y ∷ ys) zero d h = omega (arith, greatest_first measure (state y) (map state ys))
-  greatest_at measure s (y ∷ ys) (suc i) d h = omega (arith, greatest_at measure (state y) ys i d (omega arith))
-
-  unit_at : (s : StorageState) (xs : List A) (i : ℕ) (d : A) → i < length xs → unit_of (state (get_or xs i d)).shape ≤ unit_of_all (s ∷ map state xs)
-  unit_at s xs i d h = omega (arith, greatest_at (λ t. t.shape.req_align) s xs i d h, greatest_at (λ t. t.shape.mem_align) s xs i d h)
-
   pub all_aligned : ((x : A) → IsAligned (state x).shape) → (s : A) (xs : List A) → IsAlignment (unit_of_all (state s ∷ map state xs))
   all_aligned aligned s xs = let both = aligned_files state aligned s xs in alignment_max _ _ both.0 both.1
 
