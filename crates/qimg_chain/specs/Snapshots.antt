@@ -33,7 +33,7 @@ with_bytes (name ∷ names) number files = (name, file_bytes_in files number) �
 abbrev pub filled : Names → List StorageState → FileBytes
 filled names files = record { format = names.format; bytes = file_bytes_in files 0; extras = with_bytes names.further 1 files }
 
--- why files aren't copied: want of memory, or a storage that failed
+-- why files aren't copied: want of memory, where no storage failed, or a storage that failed
 abbrev pub WhyNotCopied : List StorageState → List StorageState → Fault → Type 0
 WhyNotCopied olds news Memory = Pairs IsFaultless olds news
 WhyNotCopied olds news Storage = SomeRose olds news

@@ -49,8 +49,8 @@ pub struct Vmdk<S> {
 }
 
 impl<S: Storage> Vmdk<S> {
-    /// Opens a descriptor, without the files that it names: while one is missing, each call of the disk but getters is refused with
-    /// `Fault::MissingData`.
+    /// Opens a descriptor, without the files that it names: while one is missing, each call of the driver is refused with
+    /// `Fault::MissingData`, but for its getters, a cancel, and reads of the files as they stand.
     ///
     /// It refuses with `Fault::DamagedDescriptor`, `Fault::Unsupported`, `Fault::Memory`, and `Fault::Storage` where the storage may fail.
     pub fn open_image(alloc: Global, image: S) -> Result<Self, Fault>
