@@ -1,8 +1,13 @@
 -- What a call tells by its answer.
-use Rattle.std.proofs.Common.{◌≡◌, refl, sym, subst}
-use Rattle.std.specs.Prelude.{Result, Ok, Err, IsOk, IfOk, OnOk, IfErr}
+use Rattle.std.proofs.Common.{◌≡◌, ◌∙◌, ap, refl, sym, subst}
+use Rattle.std.proofs.lemmas.Result.{err_from_is_err_and}
+use Rattle.std.specs.Prelude.{Result, Ok, Err, IsErrAnd, IsOk, IfOk, OnOk, IfErr}
 use Rattle.imago_storage.specs.declared.fault.Fault.{Fault}
 use Rattle.imago_access.specs.Files.{IsMild, WasNotCutOff}
+
+-- what a `?` hands on
+pub handed_on : {T : Type 0} (result : Result T Fault) (fault : Fault) → IsErrAnd result (λ e. e ≡ fault) → result ≡ Err fault
+handed_on result fault is_err = let p = err_from_is_err_and result is_err in p.1 ∙ ap Err p.2
 
 pub ok_holds : {T : Type 0} (r : Result T Fault) (P : Type 0) → IsOk r → OnOk r P → P
 ok_holds (Ok v) P is h = h

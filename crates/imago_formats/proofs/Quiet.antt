@@ -1,6 +1,6 @@
 -- Calls of a driver that leave all as it was, but for counts of faults.
 use Rattle.std.proofs.Common.{◌≡◌, ℕ, ◌<◌, ◌≤◌, Bool, true, false, List, [], ◌∷◌, Result, Ok, Err, refl, sym, ap, ◌∙◌, subst, inl, inr, arith}
-use Rattle.std.specs.Prelude.{⊤, max, ◌⊎◌, ◌-◌, length, MatchResult, IsOk, IsErrOf, IsSome, Option, Some, None, IsTrue, IsFalse, IfErr, OnOk, if◌then◌else◌, eqb}
+use Rattle.std.specs.Prelude.{⊤, max, ◌-◌, length, MatchResult, IsOk, IsErrAnd, Option, Some, None, IsTrue, IsFalse, IfErr, OnOk, if◌then◌else◌, eqb}
 use Rattle.imago_storage.specs.State.{StorageState}
 use Rattle.imago_storage.specs.Calls.{IsFaultless}
 use Rattle.imago_storage.specs.Steps.{IsIn}
@@ -24,6 +24,7 @@ use Rattle.imago_access.specs.PreparingCalls.{Prepares, RunRefused, WritesMapped
 use Rattle.imago_access.specs.ResizeCalls.{Grows, GrowthRefused, Resizes, ShrinkRefused, Shrinks}
 use Rattle.imago_access.specs.Spending.{Spends, IsMine, claim_of}
 use Rattle.imago_access.specs.PartCalls.{PartCall, ensures_zero, LeavesPart, DoesPart, PartRefused, PartGives}
+use Rattle.imago_access.proofs.Answers.{handed_on}
 use Rattle.imago_access.proofs.FilePairs.{kept_all_same, later_all_same, faultless_all_same}
 use Rattle.imago_access.proofs.Stopping.{passes_none}
 use Rattle.imago_formats.specs.VmdkFiles.{IsStopped, Keeps, Refuses}
@@ -237,6 +238,12 @@ module _ {D St T : Type 0} (g : Ghosts D St) where
     idle = λ none runs. absurd (cc (runs, barred));
     unchanged = λ h. unchanged_same g d;
   }
+
+  -- the same of what a `?` hands on
+  pub at_once_handed : (nothing : Type 0) (result : Result T Fault) (e : Fault) (d : D) → IsErrAnd result (λ x. x ≡ e) → barrier (g.layer d) ≡ Some e →
+      AtOnce g (barrier (g.layer d)) nothing result d d
+  at_once_handed nothing result e d is_err barred =
+      subst (λ (r : Result T Fault). AtOnce g (barrier (g.layer d)) nothing r d d) (sym (handed_on result e is_err)) (at_once_unusable nothing e d barred)
 
   pub at_once_none : (offset n : ℕ) (v : T) (d : D) → barrier (g.layer d) ≡ None → n ≡ 0 → AtOnce g (own_refusal (g.layer d) offset n) (n ≡ 0) (Ok v) d d
   at_once_none offset n v d runs none = record {

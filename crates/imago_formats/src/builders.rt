@@ -181,14 +181,9 @@ impl<S: Storage> FormatDriverBuilder<S> for VmdkOpenBuilder<S> {
             return Err(Fault::Unsupported);
         }
         let image = self.base.open_image(gate)?;
-        let mut vmdk = match Vmdk::open_image(alloc, image) {
-            Ok(vmdk) => vmdk,
-            Err(fault) => return Err(fault),
-        };
-        match vmdk.open_implicit_dependencies_gated(alloc, gate) {
-            Ok(()) => Ok(vmdk),
-            Err(fault) => Err(fault),
-        }
+        let mut vmdk = Vmdk::open_image(alloc, image)?;
+        vmdk.open_implicit_dependencies_gated(alloc, gate)?;
+        Ok(vmdk)
     }
 
     fn get_writable(&self) -> bool {
@@ -267,14 +262,9 @@ impl<S: Storage> FormatCreateBuilder<S> for RawCreateBuilder<S> {
         let size = self.base.get_size();
         let mode = storage_mode(self.base.get_preallocate());
         let mut image = self.base.get_image();
-        match grow_storage(&mut image, 0, size, mode) {
-            Ok(()) => {}
-            Err(fault) => return Err(fault),
-        }
-        match image.flush() {
-            Ok(()) => Ok(image),
-            Err(fault) => Err(fault),
-        }
+        grow_storage(&mut image, 0, size, mode)?;
+        image.flush()?;
+        Ok(image)
     }
 
     fn create_open<G: ImplicitOpenGate<S>, F: MakeOpenBuilder<S, RawOpenBuilder<S>> + Drop>(
@@ -294,14 +284,9 @@ impl<S: Storage> FormatCreateBuilder<S> for RawCreateBuilder<S> {
         // The gate isn't asked.
         ensures gate { gate.new ≡ gate.old }
     {
-        let image = match self.create(alloc) {
-            Ok(image) => image,
-            Err(fault) => return Err(fault),
-        };
-        match open_builder.make(image) {
-            Ok(builder) => builder.write(true).open(alloc, gate),
-            Err(fault) => Err(fault),
-        }
+        let image = self.create(alloc)?;
+        let builder = open_builder.make(image)?;
+        builder.write(true).open(alloc, gate)
     }
 }
 

@@ -165,14 +165,9 @@ impl<S: Storage> Raw<S> {
         if length == 0 {
             return Ok((offset, 0));
         }
-        match self.check_change(offset, length) {
-            Ok(()) => {}
-            Err(fault) => return Err(fault),
-        }
-        match zero_range(&mut self.storage, alloc, zeroes, offset, length) {
-            Ok(()) => Ok((offset, length)),
-            Err(fault) => Err(fault),
-        }
+        self.check_change(offset, length)?;
+        zero_range(&mut self.storage, alloc, zeroes, offset, length)?;
+        Ok((offset, length))
     }
 }
 
@@ -204,13 +199,9 @@ impl<S: Storage> Raw<S> {
         ensures later { Later (S.state self.old.storage) (S.state self.new.storage) }
         ensures writable { self.new.writable ≡ self.old.writable }
     {
-        match grow_storage(&mut self.storage, self.size, size, mode) {
-            Ok(()) => {
-                self.size = size;
-                Ok(())
-            }
-            Err(fault) => Err(fault),
-        }
+        grow_storage(&mut self.storage, self.size, size, mode)?;
+        self.size = size;
+        Ok(())
     }
 
     // Makes the disk shorter, and its storage as short. Refused, it leaves the size and each byte.
@@ -223,13 +214,9 @@ impl<S: Storage> Raw<S> {
         ensures later { Later (S.state self.old.storage) (S.state self.new.storage) }
         ensures writable { self.new.writable ≡ self.old.writable }
     {
-        match self.storage.resize(size, StorageMode::None) {
-            Ok(()) => {
-                self.size = size;
-                Ok(())
-            }
-            Err(fault) => Err(fault),
-        }
+        self.storage.resize(size, StorageMode::None)?;
+        self.size = size;
+        Ok(())
     }
 }
 
@@ -453,10 +440,8 @@ impl<S: Storage> FormatDriverInstance for Raw<S> {
         if length == 0 {
             return Ok(PreparedDataMapping::existing(0, 0, 0));
         }
-        match self.check_change(offset, length) {
-            Ok(()) => Ok(PreparedDataMapping::existing(0, offset, length)),
-            Err(fault) => Err(fault),
-        }
+        self.check_change(offset, length)?;
+        Ok(PreparedDataMapping::existing(0, offset, length))
     }
 
     fn commit_data_mapping(
@@ -496,10 +481,7 @@ impl<S: Storage> FormatDriverInstance for Raw<S> {
         if length == 0 {
             return Ok(());
         }
-        match self.check_change(guest, length) {
-            Ok(()) => {}
-            Err(fault) => return Err(fault),
-        }
+        self.check_change(guest, length)?;
         if guest != place {
             return Err(Fault::Outdated);
         }
@@ -557,10 +539,7 @@ impl<S: Storage> FormatDriverInstance for Raw<S> {
         if length == 0 {
             return Ok((offset, 0));
         }
-        match self.check_change(offset, length) {
-            Ok(()) => {}
-            Err(fault) => return Err(fault),
-        }
+        self.check_change(offset, length)?;
         match self.storage.discard(offset, length) {
             Ok(()) => {
                 // What is given up is bytes still.
@@ -624,10 +603,8 @@ impl<S: Storage> FormatDriverInstance for Raw<S> {
         if !self.writable {
             return Err(Fault::ReadOnly);
         }
-        match self.grow_to(size, storage_mode(mode)) {
-            Ok(()) => Ok(()),
-            Err(fault) => Err(fault),
-        }
+        self.grow_to(size, storage_mode(mode))?;
+        Ok(())
     }
 
     fn resize_shrink(&mut self, _alloc: Global, size: u64) -> Result<(), Fault>
@@ -645,10 +622,8 @@ impl<S: Storage> FormatDriverInstance for Raw<S> {
         if !self.writable {
             return Err(Fault::ReadOnly);
         }
-        match self.shrink_to(size) {
-            Ok(()) => Ok(()),
-            Err(fault) => Err(fault),
-        }
+        self.shrink_to(size)?;
+        Ok(())
     }
 }
 
@@ -678,10 +653,7 @@ fn cut_storage<S: Storage>(storage: &mut S, from: u64) -> Result<(), Fault>
     if storage.size() == from {
         return Ok(());
     }
-    match storage.resize(from, StorageMode::None) {
-        Ok(()) => Ok(()),
-        Err(fault) => Err(fault),
-    }
+    storage.resize(from, StorageMode::None)
 }
 
 // Makes a storage longer. What it has behind the first length was written as padding: it is cut off before, so that all new bytes
@@ -698,14 +670,8 @@ pub(crate) fn grow_storage<S: Storage>(
     ensures shape { (S.state storage.new).shape ≡ (S.state storage.old).shape }
     ensures later { Later (S.state storage.old) (S.state storage.new) }
 {
-    match cut_storage(storage, from) {
-        Ok(()) => {}
-        Err(fault) => return Err(fault),
-    }
-    match storage.resize(to, mode) {
-        Ok(()) => Ok(()),
-        Err(fault) => Err(fault),
-    }
+    cut_storage(storage, from)?;
+    storage.resize(to, mode)
 }
 
 // How the storage grows for a growth of the image.

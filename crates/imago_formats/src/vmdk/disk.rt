@@ -36,17 +36,13 @@ impl Disk {
         ensures ok { IfOk result (λ d. (d.extents ≡ extents) × (size_of extents.items < 2 ^ 63)) }
         ensures err { IfErr result (λ e. (e ≡ DamagedDescriptor) × (2 ^ 63 ≤ size_of extents.items)) }
     {
-        match total_size(&extents) {
-            Ok(size) => {
-                let asked = files_asked(&extents);
-                Ok(Disk {
-                    extents,
-                    size,
-                    asked,
-                })
-            }
-            Err(fault) => Err(fault),
-        }
+        let size = total_size(&extents)?;
+        let asked = files_asked(&extents);
+        Ok(Disk {
+            extents,
+            size,
+            asked,
+        })
     }
 
     /// Its size in bytes.

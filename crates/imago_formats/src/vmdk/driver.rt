@@ -60,14 +60,12 @@ impl<S: Storage> Vmdk<S> {
         ensures err { IfErr result (RefusesOpening S.state (descriptor_of (S.state image).bytes)) }
     {
         let mut image = image;
-        match read_descriptor(alloc, &mut image) {
-            Ok(disk) => Ok(Vmdk {
-                image,
-                disk,
-                files: Vec::new(alloc),
-            }),
-            Err(fault) => Err(fault),
-        }
+        let disk = read_descriptor(alloc, &mut image)?;
+        Ok(Vmdk {
+            image,
+            disk,
+            files: Vec::new(alloc),
+        })
     }
 
     /// Whether a storage is a VMDK descriptor, by its first line.
@@ -102,10 +100,7 @@ impl<S: Storage> Vmdk<S> {
         ensures err { let names = kept_names self.old.disk.extents.items in let Reach = ⟦<Vmdk<S> as Seen>⟧.sees self.new in
             IfErr result (NotAllOpened G.answers names Reach (self.old.files.items, gate.old) (self.new.files.items, gate.new)) }
     {
-        match open_files(alloc, gate, self.disk.extents(), &mut self.files) {
-            Ok(()) => {}
-            Err(fault) => return Err(fault),
-        }
+        open_files(alloc, gate, self.disk.extents(), &mut self.files)?;
         let unit = larger_alignment(self.req_align(), self.mem_align());
         check_reach(self.disk.extents(), unit as u64)
     }
@@ -153,10 +148,8 @@ impl<S: Storage> Vmdk<S> {
         ensures whole { let d = ⟦<Vmdk<S> as Seen>⟧ in WasNotCutOff result → Pairs IsFaultless (files d self.old) (files d self.new) }
         ensures err { IfErr result (RefusesFlush ⟦<Vmdk<S> as Seen>⟧ self.old self.new) }
     {
-        match self.ready() {
-            Ok(()) => keep_up(&mut self.image, &mut self.files, upkeep),
-            Err(fault) => Err(fault),
-        }
+        self.ready()?;
+        keep_up(&mut self.image, &mut self.files, upkeep)
     }
 
     // Reads a storage from a place on.
@@ -187,10 +180,8 @@ impl<S: Storage> Vmdk<S> {
         ensures at_once { RangeAtOnce ⟦<Vmdk<S> as Seen>⟧ offset length result self.old self.new }
         ensures refused { (call : PartCall) → PartRefused call ⟦<Vmdk<S> as Seen>⟧ offset length result self.old self.new }
     {
-        match self.check_change(length) {
-            Ok(()) => Ok((offset, 0)),
-            Err(fault) => Err(fault),
-        }
+        self.check_change(length)?;
+        Ok((offset, 0))
     }
 }
 
@@ -397,10 +388,8 @@ impl<S: Storage> FormatDriverInstance for Vmdk<S> {
         // A run ends with the range or the disk, or with its extent.
         ensures whole { IfOk result (λ r. IsWholeRun self.old.disk.extents.items offset max_length r.1) }
     {
-        match self.ready() {
-            Ok(()) => Ok(self.run_from(offset, max_length)),
-            Err(fault) => Err(fault),
-        }
+        self.ready()?;
+        Ok(self.run_from(offset, max_length))
     }
 
     fn read_mapped(
@@ -410,17 +399,13 @@ impl<S: Storage> FormatDriverInstance for Vmdk<S> {
         place: u64,
         buf: &mut [u8],
     ) -> Result<(), Fault> {
-        match self.ready() {
-            Ok(()) => self.read(alloc, storage, place, buf),
-            Err(fault) => Err(fault),
-        }
+        self.ready()?;
+        self.read(alloc, storage, place, buf)
     }
 
     fn read_special(&mut self, _buf: &mut [u8], _offset: u64) -> Result<(), Fault> {
-        match self.ready() {
-            Ok(()) => Err(Fault::Barred),
-            Err(fault) => Err(fault),
-        }
+        self.ready()?;
+        Err(Fault::Barred)
     }
 
     fn prepare_data_mapping<B: ReadBelow>(
@@ -431,10 +416,8 @@ impl<S: Storage> FormatDriverInstance for Vmdk<S> {
         length: u64,
         _overwrite: bool,
     ) -> Result<PreparedDataMapping<NoState>, Fault> {
-        match self.check_change(length) {
-            Ok(()) => Ok(PreparedDataMapping::existing(0, 0, 0)),
-            Err(fault) => Err(fault),
-        }
+        self.check_change(length)?;
+        Ok(PreparedDataMapping::existing(0, 0, 0))
     }
 
     fn commit_data_mapping(

@@ -20,14 +20,11 @@ pub(crate) fn read_line(line: &[u8]) -> Result<Option<Extent<&str>>, Fault>
     }
     let (first, rest) = split_word(text);
     match access_of(first) {
-        Some(access) => match read_extent(access, rest) {
-            Ok(extent) => Ok(Some(extent)),
-            Err(fault) => Err(fault),
-        },
-        None => match check_setting(text) {
-            Ok(()) => Ok(None),
-            Err(fault) => Err(fault),
-        },
+        Some(access) => Ok(Some(read_extent(access, rest)?)),
+        None => {
+            check_setting(text)?;
+            Ok(None)
+        }
     }
 }
 
@@ -60,18 +57,13 @@ fn read_extent(access: Access, text: &[u8]) -> Result<Extent<&str>, Fault>
     ensures err { IfErr result (λ e. extent_of access text.now ≡ Err e) }
 {
     let (count, rest) = split_word(text);
-    let sectors = match decimal(count) {
-        Ok(sectors) => sectors,
-        Err(fault) => return Err(fault),
-    };
-    match read_source(sectors, rest) {
-        Ok(source) => Ok(Extent {
-            access,
-            sectors,
-            source,
-        }),
-        Err(fault) => Err(fault),
-    }
+    let sectors = decimal(count)?;
+    let source = read_source(sectors, rest)?;
+    Ok(Extent {
+        access,
+        sectors,
+        source,
+    })
 }
 
 // Where its bytes come from, by what follows the number of its sectors.

@@ -39,10 +39,7 @@ pub(crate) fn open_files<S: Drop, G: ImplicitOpenGate<S>>(
         if number <= files.len() {
             continue;
         }
-        match open_file(alloc, gate, name, files) {
-            Ok(()) => {}
-            Err(fault) => return Err(fault),
-        }
+        open_file(alloc, gate, name, files)?;
     }
     Ok(())
 }
@@ -63,10 +60,7 @@ fn open_file<S: Drop, G: ImplicitOpenGate<S>>(
         Ok(()) => {}
         Err(_) => return Err(Fault::Memory),
     }
-    let file = match gate.open_storage(alloc, name) {
-        Ok(file) => file,
-        Err(fault) => return Err(fault),
-    };
+    let file = gate.open_storage(alloc, name)?;
     files.push_reserved(file);
     Ok(())
 }

@@ -26,22 +26,13 @@ pub(crate) fn read_text(alloc: Global, text: &[u8]) -> Result<Disk, Fault>
     ensures ok { IfOk result (λ d. read_from text.now ≡ Ok (kept_extents d.extents.items)) }
     ensures err { IfErr result (λ e. (e ≡ Memory) ⊎ (read_from text.now ≡ Err e)) }
 {
-    match text_of(text) {
-        Ok(_) => {}
-        Err(fault) => return Err(fault),
-    }
+    text_of(text)?;
     let (first, rest) = split_line(text);
     if text.len() > MOST_BYTES || !is_signature(first) {
         return Err(Fault::DamagedDescriptor);
     }
-    let extents = match read_lines(alloc, rest) {
-        Ok(extents) => extents,
-        Err(fault) => return Err(fault),
-    };
-    match Disk::new(extents) {
-        Ok(disk) => Ok(disk),
-        Err(fault) => Err(fault),
-    }
+    let extents = read_lines(alloc, rest)?;
+    Disk::new(extents)
 }
 
 /// Whether a line is the first of a descriptor.
@@ -60,10 +51,7 @@ fn read_lines(alloc: Global, text: &[u8]) -> Result<Vec<Extent<String>>, Fault>
     let mut rest = text;
     while !rest.is_empty() {
         let (line, more) = split_line(rest);
-        match add_line(alloc, &mut extents, line) {
-            Ok(()) => {}
-            Err(fault) => return Err(fault),
-        }
+        add_line(alloc, &mut extents, line)?;
         rest = more;
     }
     Ok(extents)
@@ -74,18 +62,11 @@ fn add_line(alloc: Global, extents: &mut Vec<Extent<String>>, line: &[u8]) -> Re
     ensures ok { OnOk result (AddsLine line.now (kept_extents extents.old.items) (kept_extents extents.new.items)) }
     ensures err { IfErr result (λ e. (e ≡ Memory) ⊎ (said_by line.now ≡ Err e)) }
 {
-    let found = match read_line(line) {
-        Ok(found) => found,
-        Err(fault) => return Err(fault),
-    };
-    let extent = match found {
+    let extent = match read_line(line)? {
         Some(extent) => extent,
         None => return Ok(()),
     };
-    let kept = match keep(alloc, extent) {
-        Ok(kept) => kept,
-        Err(fault) => return Err(fault),
-    };
+    let kept = keep(alloc, extent)?;
     match extents.push(kept) {
         Ok(()) => Ok(()),
         Err(_) => Err(Fault::Memory),

@@ -54,10 +54,8 @@ pub(crate) fn keep_up<S: Storage>(
     ensures ok { OnOk result (Pairs IsFaultless (states S.state image.old files.old) (states S.state image.new files.new)) }
     ensures err { IfErr result (IsStopped (states S.state image.old files.old) (states S.state image.new files.new)) }
 {
-    match keep_one(image, upkeep) {
-        Ok(()) => keep_files(files, upkeep),
-        Err(fault) => Err(fault),
-    }
+    keep_one(image, upkeep)?;
+    keep_files(files, upkeep)
 }
 
 // Asks each of the files, in order, up to the first that refuses.
@@ -67,10 +65,7 @@ fn keep_files<S: Storage>(files: &mut [S], upkeep: Upkeep) -> Result<(), Fault>
     ensures err { IfErr result (IsStopped (map S.state files.old) (map S.state files.new)) }
 {
     for i in 0..files.len() {
-        match keep_one(&mut files[i], upkeep) {
-            Ok(()) => {}
-            Err(fault) => return Err(fault),
-        }
+        keep_one(&mut files[i], upkeep)?;
     }
     Ok(())
 }

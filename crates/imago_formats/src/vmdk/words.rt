@@ -88,12 +88,9 @@ pub(crate) fn decimal(digits: &[u8]) -> Result<u64, Fault>
     if !digits.iter().all(|b| b.is_ascii_digit()) {
         return Err(Fault::DamagedDescriptor);
     }
-    match text_of(digits) {
-        Ok(text) => match text.parse::<u64>() {
-            Ok(number) => Ok(number),
-            Err(_) => Err(Fault::DamagedDescriptor),
-        },
-        Err(fault) => Err(fault),
+    match text_of(digits)?.parse::<u64>() {
+        Ok(number) => Ok(number),
+        Err(_) => Err(Fault::DamagedDescriptor),
     }
 }
 

@@ -1,8 +1,9 @@
+use Rattle.std.proofs.lemmas.Result.{IfErr-weaker, on_ok_weaker}
 use Rattle.imago_formats.proofs.Growing.{grown_behind, not_grown_behind}
 use Rattle.imago_formats.proofs.raw.grow_storage.Goals as goal
 
-pub returns-in-Ok-resize-clause-ok : goal.returns-in-Ok-resize-clause-ok
-returns-in-Ok-resize-clause-ok g c = grown_behind (g.S.Storage.state c.args.storage.now) (g.S.Storage.state c.cut_storage.new.storage) (g.S.Storage.state c.resize.new.self) c.args.from c.args.to c.requires c.in-Ok.ensures.ok c.in-Ok-resize.ensures.ok
+pub returns-clause-ok : goal.returns-clause-ok
+returns-clause-ok g c = on_ok_weaker c.resize.result (grown_behind (g.S.Storage.state c.args.storage.now) (g.S.Storage.state c.cut_storage.new.storage) (g.S.Storage.state c.resize.new.self) c.args.from c.args.to c.requires c.in_ok-cut_storage.ensures.ok) c.resize.ensures.ok
 
-pub returns-in-Err-resize-clause-err : goal.returns-in-Err-resize-clause-err
-returns-in-Err-resize-clause-err g c = not_grown_behind (g.S.Storage.state c.args.storage.now) (g.S.Storage.state c.cut_storage.new.storage) (g.S.Storage.state c.resize.new.self) c.args.from c.in-Ok.ensures.ok c.in-Err-resize.fault c.in-Err-resize.ensures.err
+pub returns-clause-err : goal.returns-clause-err
+returns-clause-err g c = IfErr-weaker c.resize.result _ _ (not_grown_behind (g.S.Storage.state c.args.storage.now) (g.S.Storage.state c.cut_storage.new.storage) (g.S.Storage.state c.resize.new.self) c.args.from c.in_ok-cut_storage.ensures.ok) c.resize.ensures.err

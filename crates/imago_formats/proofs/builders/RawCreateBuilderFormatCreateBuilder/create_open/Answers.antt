@@ -1,15 +1,15 @@
 use Rattle.std.proofs.lemmas.Result.{IfOk-weaker}
 use Rattle.imago_formats.proofs.builders.RawCreateBuilderFormatCreateBuilder.create_open.Goals as goal
 
-pub returns-in-Ok-make-clause-ok : goal.returns-in-Ok-make-clause-ok
-returns-in-Ok-make-clause-ok g c =
+pub returns-clause-ok : goal.returns-clause-ok
+returns-clause-ok g c =
     IfOk-weaker c.open.result _ _
     (λ d opened. (
-      c.in-Ok.image,
-      c.in-Ok-make.builder,
+      c.in_ok-image.image,
+      c.in_ok-builder.builder,
       c.write.result,
-      c.in-Ok.ensures.ok,
-      c.in-Ok-make.ensures,
+      c.in_ok-image.ensures.ok,
+      c.in_ok-builder.ensures,
       c.write.ensures.made,
       opened,
     ))

@@ -3,11 +3,11 @@ use Rattle.imago_access.specs.Stops.{GivesBelowPast}
 use Rattle.imago_formats.proofs.RawSteps.{shrunk_stops}
 use Rattle.imago_formats.proofs.raw.RawFormatDriverInstance.resize_shrink.Goals as goal
 
-pub returns-in-Ok-clause-shrinks : goal.returns-in-Ok-clause-shrinks
-returns-in-Ok-clause-shrinks g c = let r = c.args.self.now in record {
+pub returns-clause-shrinks : goal.returns-clause-shrinks
+returns-clause-shrinks g c = let r = c.args.self.now in record {
   ok = search rules;
   err = search rules;
   stops = λ safe below backed. shrunk_stops below (g.S.Storage.state r.storage) (g.S.Storage.state c.shrink_to.new.self.storage) r.size c.args.size r.writable
-      (GivesBelowPast below c.args.size) safe.1 c.in-Ok.ensures.ok;
+      (GivesBelowPast below c.args.size) safe.1 c.in_ok-shrink_to.ensures.ok;
   went = search rules;
 }

@@ -3,8 +3,8 @@ use Rattle.imago_access.specs.Stops.{GivesBytes}
 use Rattle.imago_formats.proofs.RawSteps.{written_stops, mixed_bytes}
 use Rattle.imago_formats.proofs.raw.RawFormatDriverInstance.write_mapped.Goals as goal
 
-pub returns-in-Ok-write-clause-writes : goal.returns-in-Ok-write-clause-writes
-returns-in-Ok-write-clause-writes g c = let r = c.args.self.now in record {
+pub returns-in-Ok-clause-writes : goal.returns-in-Ok-clause-writes
+returns-in-Ok-clause-writes g c = let r = c.args.self.now in record {
   mapped = search rules;
   empty = search rules;
   like = search rules;
@@ -17,8 +17,8 @@ returns-in-Ok-write-clause-writes g c = let r = c.args.self.now in record {
   began = search rules;
 }
 
-pub returns-in-Err-write-clause-writes : goal.returns-in-Err-write-clause-writes
-returns-in-Err-write-clause-writes g c = let r = c.args.self.now in record {
+pub returns-in-Err-clause-writes : goal.returns-in-Err-clause-writes
+returns-in-Err-clause-writes g c = let r = c.args.self.now in record {
   mapped = search rules;
   empty = search rules;
   like = search rules;

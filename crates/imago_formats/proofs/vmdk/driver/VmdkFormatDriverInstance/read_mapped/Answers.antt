@@ -1,7 +1,7 @@
 use Rattle.std.proofs.Common.{◌≡◌, length, map}
 use Rattle.std.proofs.lemmas.Result.{IfErr-weaker}
 use Rattle.imago_access.specs.FileReads.{FileReadCause}
-use Rattle.imago_access.specs.Files.{IsMild, OverflowsIn, WasNotCutOff}
+use Rattle.imago_access.specs.Files.{OverflowsIn, WasNotCutOff}
 use Rattle.imago_access.specs.Refusals.{ReadMappedCause}
 use Rattle.imago_access.proofs.Looking.{looked_same}
 use Rattle.imago_formats.specs.VmdkFiles.{states}
@@ -10,20 +10,20 @@ use Rattle.imago_formats.proofs.StorageLemmas.{mapped_cause, overflow_all}
 use Rattle.imago_formats.proofs.Quiet.{at_once_runs, quiet_looked}
 use Rattle.imago_formats.proofs.vmdk.driver.VmdkFormatDriverInstance.read_mapped.Goals as goal
 
-pub returns-in-Ok-clause-looked : goal.returns-in-Ok-clause-looked
-returns-in-Ok-clause-looked g c =
+pub returns-clause-looked : goal.returns-clause-looked
+returns-clause-looked g c =
     quiet_looked _ (WasNotCutOff c.read.result) c.args.self.now c.read.new.self c.read.ensures.keeps
     c.read.ensures.whole
 
-pub returns-in-Ok-clause-at_once : goal.returns-in-Ok-clause-at_once
-returns-in-Ok-clause-at_once g c =
-    at_once_runs _ (length c.args.buf.now ≡ 0) c.read.result c.args.self.now c.read.new.self c.in-Ok.ensures.ok c.read.ensures.empty
+pub returns-clause-at_once : goal.returns-clause-at_once
+returns-clause-at_once g c =
+    at_once_runs _ (length c.args.buf.now ≡ 0) c.read.result c.args.self.now c.read.new.self c.in_ok-ready.ensures.ok c.read.ensures.empty
 
-pub returns-in-Err-clause-looked : goal.returns-in-Err-clause-looked
-returns-in-Err-clause-looked g c = looked_same _ (IsMild c.in-Err.fault) c.args.self.now
+pub returns-in_err-ready-clause-looked : goal.returns-in_err-ready-clause-looked
+returns-in_err-ready-clause-looked g c = looked_same _ (WasNotCutOff c.from_residual.result) c.args.self.now
 
-pub returns-in-Ok-clause-cause : goal.returns-in-Ok-clause-cause
-returns-in-Ok-clause-cause g c =
+pub returns-clause-cause : goal.returns-clause-cause
+returns-clause-cause g c =
     let state = g.S.Storage.state in
     let old = c.args.self.now in let new = c.read.new.self in let n = length c.args.buf.now in
     let olds = states state old.image old.files.items in let news = states state new.image new.files.items in
