@@ -1,4 +1,4 @@
-use Rattle.std.proofs.Common.{refl, inr, ◌⊎◌, ◌≡◌, ◌∷◌, arith, true, IfErr, map}
+use Rattle.std.proofs.Common.{refl, inr, ◌⊎◌, ◌≡◌, ◌∷◌, arith, IfErr, map}
 use Rattle.std.proofs.lemmas.Result.{IfErr-weaker}
 use Rattle.imago_storage.specs.Steps.{Call, discard_to_zero, IsOut}
 use Rattle.imago_storage.proofs.Parts.{passed}

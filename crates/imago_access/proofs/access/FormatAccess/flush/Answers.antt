@@ -1,4 +1,4 @@
-use Rattle.std.proofs.Common.{◌≡◌, map}
+use Rattle.std.proofs.Common.{map}
 use Rattle.std.specs.Prelude.{IsOk}
 use Rattle.imago_access.specs.Layers.{layers}
 use Rattle.imago_access.specs.Files.{WasNotCutOff}

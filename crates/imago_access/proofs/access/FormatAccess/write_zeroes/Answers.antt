@@ -1,4 +1,4 @@
-use Rattle.std.proofs.Common.{refl, inl, ◌⊎◌, ◌≡◌, ◌∷◌, arith, true, IfErr, map}
+use Rattle.std.proofs.Common.{refl, inl, ◌⊎◌, ◌≡◌, ◌∷◌, arith, IfErr, map}
 use Rattle.std.proofs.lemmas.Result.{IfErr-weaker}
 use Rattle.imago_storage.specs.Steps.{Call, write_zeroes, IsOut}
 use Rattle.std.specs.Prelude.{⊤}
