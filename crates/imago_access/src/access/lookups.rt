@@ -121,10 +121,7 @@ impl<D: FormatDriverInstance> FormatAccess<D> {
         ensures marks { IfErr result (MarksSome D.Seen (driver.old ∷ layers below.old) (driver.new ∷ layers below.new)) }
         ensures cause { LookRefused D.Seen offset max_length result (driver.old ∷ layers below.old) (driver.new ∷ layers below.new) }
     {
-        let (mapping, length) = match driver.get_mapping(alloc, offset, max_length) {
-            Ok(run) => run,
-            Err(fault) => return Err(fault),
-        };
+        let (mapping, length) = driver.get_mapping(alloc, offset, max_length)?;
         match mapping {
             ShallowMapping::Raw {
                 storage,
@@ -143,10 +140,8 @@ impl<D: FormatDriverInstance> FormatAccess<D> {
                 if length == 0 {
                     return Ok((Mapping::Zero { explicit: false }, 0));
                 }
-                match Self::map_under(alloc, below, offset, length) {
-                    Ok((mapping, length)) => Ok((mapping.lowered(writable), length)),
-                    Err(fault) => Err(fault),
-                }
+                let (mapping, length) = Self::map_under(alloc, below, offset, length)?;
+                Ok((mapping.lowered(writable), length))
             }
             ShallowMapping::Zero { explicit } => Ok((Mapping::Zero { explicit }, length)),
             ShallowMapping::Eof => Ok((Mapping::Eof, length)),
@@ -180,16 +175,14 @@ impl<D: FormatDriverInstance> FormatAccess<D> {
     {
         match below {
             None => Ok((Mapping::Zero { explicit: false }, max_length)),
-            Some(layer) => match layer.get_mapping(alloc, offset, max_length) {
-                Ok((mapping, length)) => {
-                    if mapping.is_eof() {
-                        Ok((Mapping::Zero { explicit: false }, max_length))
-                    } else {
-                        Ok((mapping, length))
-                    }
+            Some(layer) => {
+                let (mapping, length) = layer.get_mapping(alloc, offset, max_length)?;
+                if mapping.is_eof() {
+                    Ok((Mapping::Zero { explicit: false }, max_length))
+                } else {
+                    Ok((mapping, length))
                 }
-                Err(fault) => Err(fault),
-            },
+            }
         }
     }
 }

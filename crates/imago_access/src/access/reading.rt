@@ -66,10 +66,7 @@ impl<D: FormatDriverInstance> FormatAccess<D> {
         let mut done = 0;
         while done < buf.len() {
             let part = &mut buf[done..];
-            match self.read_run(alloc, part, offset + done as u64) {
-                Ok(n) => done += n,
-                Err(fault) => return Err(fault),
-            }
+            done += self.read_run(alloc, part, offset + done as u64)?;
         }
         Ok(())
     }
@@ -108,10 +105,7 @@ impl<D: FormatDriverInstance> FormatAccess<D> {
         ensures cause { ReadRefused D.Seen offset (length buf.old) result (driver.old ∷ layers below.old) (driver.new ∷ layers below.new) }
     {
         let most = buf.len();
-        let (mapping, length) = match driver.get_mapping(alloc, offset, most as u64) {
-            Ok(run) => run,
-            Err(fault) => return Err(fault),
-        };
+        let (mapping, length) = driver.get_mapping(alloc, offset, most as u64)?;
         let n = length as usize;
         match mapping {
             ShallowMapping::Raw {
@@ -119,15 +113,11 @@ impl<D: FormatDriverInstance> FormatAccess<D> {
                 offset: place,
                 ..
             } => {
-                if let Err(fault) = driver.read_mapped(alloc, storage, place, &mut buf[..n]) {
-                    return Err(fault);
-                }
+                driver.read_mapped(alloc, storage, place, &mut buf[..n])?;
                 Ok(n)
             }
             ShallowMapping::Indirect { .. } => {
-                if let Err(fault) = Self::read_under(alloc, below, &mut buf[..n], offset) {
-                    return Err(fault);
-                }
+                Self::read_under(alloc, below, &mut buf[..n], offset)?;
                 Ok(n)
             }
             ShallowMapping::Zero { .. } => {

@@ -128,10 +128,8 @@ impl<D: FormatDriverInstance> FormatAccess<D> {
         ensures marks { IfErr result (MarksSome D.Seen (driver.old ∷ layers below.old) (driver.new ∷ layers below.new)) }
         ensures cause { IfErr result (RefusesReloads D.Seen (driver.old ∷ layers below.old) (driver.new ∷ layers below.new)) }
     {
-        match driver.invalidate_cache(alloc) {
-            Ok(()) => Self::invalidate_under(alloc, below),
-            Err(fault) => Err(fault),
-        }
+        driver.invalidate_cache(alloc)?;
+        Self::invalidate_under(alloc, below)
     }
 
     // The same of the layers below, if there are any.

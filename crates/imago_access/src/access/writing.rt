@@ -103,10 +103,10 @@ pub(crate) fn write_run<D: FormatDriverInstance, B: ReadBelow>(
     };
     let n = mapping.length() as usize;
     match driver.write_mapped(alloc, offset, mapping.offset(), &bytes[..n]) {
-        Ok(()) => match settle(driver, alloc, mapping) {
-            Ok(()) => Ok(n),
-            Err(fault) => Err(fault),
-        },
+        Ok(()) => {
+            settle(driver, alloc, mapping)?;
+            Ok(n)
+        }
         Err(fault) => {
             abandon(driver, mapping);
             Err(fault)
@@ -135,10 +135,7 @@ pub(crate) fn write_all<D: FormatDriverInstance, B: ReadBelow>(
     let _size = driver.size();
     let mut done = 0;
     while done < bytes.len() {
-        match write_run(alloc, driver, below, &bytes[done..], offset + done as u64) {
-            Ok(n) => done += n,
-            Err(fault) => return Err(fault),
-        }
+        done += write_run(alloc, driver, below, &bytes[done..], offset + done as u64)?;
     }
     Ok(())
 }

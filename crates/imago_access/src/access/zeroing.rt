@@ -97,10 +97,8 @@ fn write_mapped_zeroes<D: FormatDriverInstance>(
     while done < n {
         let at = place + done;
         let count = (PIECE - at % PIECE).min(n - done);
-        match driver.write_mapped(alloc, guest + done, at, zero_bytes(count)) {
-            Ok(()) => done += count,
-            Err(fault) => return Err(fault),
-        }
+        driver.write_mapped(alloc, guest + done, at, zero_bytes(count))?;
+        done += count;
     }
     Ok(())
 }
@@ -130,10 +128,10 @@ fn write_zero_run<D: FormatDriverInstance, B: ReadBelow>(
     };
     let count = mapping.length();
     match write_mapped_zeroes(alloc, driver, offset, mapping.offset(), count) {
-        Ok(()) => match settle(driver, alloc, mapping) {
-            Ok(()) => Ok(count),
-            Err(fault) => Err(fault),
-        },
+        Ok(()) => {
+            settle(driver, alloc, mapping)?;
+            Ok(count)
+        }
         Err(fault) => {
             abandon(driver, mapping);
             Err(fault)
@@ -159,10 +157,7 @@ fn write_zero_bytes<D: FormatDriverInstance, B: ReadBelow>(
 {
     let mut done = 0;
     while done < n {
-        match write_zero_run(alloc, driver, below, offset + done, n - done) {
-            Ok(count) => done += count,
-            Err(fault) => return Err(fault),
-        }
+        done += write_zero_run(alloc, driver, below, offset + done, n - done)?;
     }
     Ok(())
 }
@@ -225,14 +220,9 @@ fn zero_run<D: FormatDriverInstance, B: ReadBelow>(
     ensures does { DoesWork D.Seen B.SeenBelow (zeroing_by zeroing offset n) result (driver.old, below.old) (driver.new, below.new) }
     ensures refused { WorkRefused D.Seen B.SeenBelow (zeroing_by zeroing offset n) result (driver.old, below.old) (driver.new, below.new) }
 {
-    let (start, end) = match zero_by_driver(alloc, driver, zeroing, offset, n) {
-        Ok(part) => part,
-        Err(fault) => return Err(fault),
-    };
-    match write_zero_bytes(alloc, driver, below, offset, start - offset) {
-        Ok(()) => Ok(end),
-        Err(fault) => Err(fault),
-    }
+    let (start, end) = zero_by_driver(alloc, driver, zeroing, offset, n)?;
+    write_zero_bytes(alloc, driver, below, offset, start - offset)?;
+    Ok(end)
 }
 
 // Zeroes all of a range that lies in the disk, or is empty.
@@ -258,10 +248,7 @@ fn zero_all<D: FormatDriverInstance, B: ReadBelow>(
     let end = offset + n;
     let mut at = offset;
     while at < end {
-        match zero_run(alloc, driver, below, zeroing, at, end - at) {
-            Ok(next) => at = next,
-            Err(fault) => return Err(fault),
-        }
+        at = zero_run(alloc, driver, below, zeroing, at, end - at)?;
     }
     Ok(())
 }

@@ -1,10 +1,12 @@
 use Rattle.std.proofs.Common.{rules, arith, inr, length, sym, subst, ◌≡◌, ◌∷◌, map}
 use Rattle.std.specs.Prelude.{⊤}
+use Rattle.imago_access.specs.Going.{Looked}
 use Rattle.imago_access.specs.Chain.{at}
 use Rattle.imago_access.specs.Layers.{layers}
-use Rattle.imago_access.specs.Files.{ImageCause, IsMild, WasNotCutOff, files_of, files, byte_in}
+use Rattle.imago_access.specs.Files.{ImageCause, IsMild, WasNotCutOff, files_of, files, byte_in, Pairs}
 use Rattle.imago_access.specs.Mappings.{AreStated, NamesHome, DeepNames, IsOneOf, IsThere, stored_at, lower}
 use Rattle.imago_access.specs.declared.mapping.Mapping.{Mapping}
+use Rattle.imago_access.proofs.Answers.{handed_on}
 use Rattle.imago_access.proofs.Looking.{all_looked_same, chain_same}
 use Rattle.imago_access.proofs.ReadCauses.{indirect_free}
 use Rattle.imago_access.proofs.LookedUp.{deep_step}
@@ -16,89 +18,91 @@ use Rattle.imago_access.proofs.access.FormatAccess.+map.Goals as goal
 pub get_mapping-returns-clause-home : goal.get_mapping-returns-clause-home
 get_mapping-returns-clause-home g t c = rw (← c.self.view_is) c.map_part.ensures.home
 
-pub map_part-returns-in-Err-clause-looked : goal.map_part-returns-in-Err-clause-looked
-map_part-returns-in-Err-clause-looked g t c = let d = g.D.Seen in (c.in-Err.ensures.looked, all_looked_same d (IsMild c.in-Err.fault) (layers c.args.below.now))
+pub map_part-returns-in_err-mapping-clause-looked : goal.map_part-returns-in_err-mapping-clause-looked
+map_part-returns-in_err-mapping-clause-looked g t c = let d = g.D.Seen in let ds = layers c.args.below.now in
+    subst (λ r. Pairs (Looked d (WasNotCutOff r)) (c.args.driver.now ∷ ds) (c.get_mapping.new.self ∷ ds)) (sym (handed_on _ _ c.from_residual.ensures.1))
+    (c.in_err-mapping.ensures.looked, all_looked_same d (IsMild c.in_err-mapping.field-0.0) ds)
 
-pub map_part-returns-in-Err-clause-failed : goal.map_part-returns-in-Err-clause-failed
-map_part-returns-in-Err-clause-failed g t c = let d = g.D.Seen in
+pub map_part-returns-in_err-mapping-clause-failed : goal.map_part-returns-in_err-mapping-clause-failed
+map_part-returns-in_err-mapping-clause-failed g t c = rw (handed_on _ _ c.from_residual.ensures.1) (let d = g.D.Seen in
     let a0 = c.args.driver.now in let a1 = c.get_mapping.new.self in let others = files_of d (layers c.args.below.now) in
-    failed_left (files d a0) (files d a1) others others c.in-Err.fault c.in-Err.ensures.failed
+    failed_left (files d a0) (files d a1) others others c.in_err-mapping.field-0.0 c.in_err-mapping.ensures.failed)
 
-pub map_part-returns-in-Err-clause-marks : goal.map_part-returns-in-Err-clause-marks
-map_part-returns-in-Err-clause-marks g t c = let d = g.D.Seen in
+pub map_part-returns-in_err-mapping-clause-marks : goal.map_part-returns-in_err-mapping-clause-marks
+map_part-returns-in_err-mapping-clause-marks g t c = rw (handed_on _ _ c.from_residual.ensures.1) (let d = g.D.Seen in
     let a0 = c.args.driver.now in let a1 = c.get_mapping.new.self in let ds = layers c.args.below.now in
-    marked_top d a0 a1 ds ds c.in-Err.fault (λ is. subst (ImageCause (files d a0) (files d a1)) is c.in-Err.ensures.failed) c.in-Err.ensures.marks
+    marked_top d a0 a1 ds ds c.in_err-mapping.field-0.0 (λ is. subst (ImageCause (files d a0) (files d a1)) is c.in_err-mapping.ensures.failed) c.in_err-mapping.ensures.marks)
 
-pub map_part-returns-in-Err-clause-cause : goal.map_part-returns-in-Err-clause-cause
-map_part-returns-in-Err-clause-cause g t c = λ see. let d = g.D.Seen in deep_look_top (d.layer c.args.driver.now) (map d.layer (layers c.args.below.now)) c.args.offset c.args.max_length (files d c.args.driver.now) (files d c.get_mapping.new.self) (files_of d (layers c.args.below.now)) (files_of d (layers c.args.below.now)) c.in-Err.fault (c.in-Err.ensures.cause see.0)
+pub map_part-returns-in_err-mapping-clause-cause : goal.map_part-returns-in_err-mapping-clause-cause
+map_part-returns-in_err-mapping-clause-cause g t c = rw (handed_on _ _ c.from_residual.ensures.1) (λ see. let d = g.D.Seen in deep_look_top (d.layer c.args.driver.now) (map d.layer (layers c.args.below.now)) c.args.offset c.args.max_length (files d c.args.driver.now) (files d c.get_mapping.new.self) (files_of d (layers c.args.below.now)) (files_of d (layers c.args.below.now)) c.in_err-mapping.field-0.0 (c.in_err-mapping.ensures.cause see.0))
 
 pub map_part-returns-then-length-eq0-clause-looked : goal.map_part-returns-then-length-eq0-clause-looked
-map_part-returns-then-length-eq0-clause-looked g t c = let d = g.D.Seen in (c.in-Ok.ensures.looked, all_looked_same d ⊤ (layers c.args.below.now))
+map_part-returns-then-length-eq0-clause-looked g t c = let d = g.D.Seen in (c.in_ok-mapping.ensures.looked, all_looked_same d ⊤ (layers c.args.below.now))
 
 pub map_part-returns-in-Raw-clause-looked : goal.map_part-returns-in-Raw-clause-looked
-map_part-returns-in-Raw-clause-looked g t c = let d = g.D.Seen in (c.in-Ok.ensures.looked, all_looked_same d ⊤ (layers c.args.below.now))
+map_part-returns-in-Raw-clause-looked g t c = let d = g.D.Seen in (c.in_ok-mapping.ensures.looked, all_looked_same d ⊤ (layers c.args.below.now))
 
 pub map_part-returns-in-Zero-clause-looked : goal.map_part-returns-in-Zero-clause-looked
-map_part-returns-in-Zero-clause-looked g t c = let d = g.D.Seen in (c.in-Ok.ensures.looked, all_looked_same d ⊤ (layers c.args.below.now))
+map_part-returns-in-Zero-clause-looked g t c = let d = g.D.Seen in (c.in_ok-mapping.ensures.looked, all_looked_same d ⊤ (layers c.args.below.now))
 
 pub map_part-returns-in-Eof-clause-looked : goal.map_part-returns-in-Eof-clause-looked
-map_part-returns-in-Eof-clause-looked g t c = let d = g.D.Seen in (c.in-Ok.ensures.looked, all_looked_same d ⊤ (layers c.args.below.now))
+map_part-returns-in-Eof-clause-looked g t c = let d = g.D.Seen in (c.in_ok-mapping.ensures.looked, all_looked_same d ⊤ (layers c.args.below.now))
 
 pub map_part-returns-in-Special-clause-looked : goal.map_part-returns-in-Special-clause-looked
-map_part-returns-in-Special-clause-looked g t c = let d = g.D.Seen in (c.in-Ok.ensures.looked, all_looked_same d ⊤ (layers c.args.below.now))
+map_part-returns-in-Special-clause-looked g t c = let d = g.D.Seen in (c.in_ok-mapping.ensures.looked, all_looked_same d ⊤ (layers c.args.below.now))
 
-pub map_part-returns-in-Ok-map_under-clause-run : goal.map_part-returns-in-Ok-map_under-clause-run
-map_part-returns-in-Ok-map_under-clause-run g t c = let d = g.D.Seen in let run = indirect_run (d.layer c.args.driver.now) c.args.offset c.args.max_length (c.in-Ok.run').1 c.in-Indirect.offset c.in-Indirect.writable (c.in-Ok.run').0 c.in-Indirect.is c.in-Ok.ensures.run in
-    run_inside (d.layer c.args.driver.now).size c.args.offset c.args.max_length (c.in-Ok.run').1 c.in-Ok-map_under.length c.in-Ok-map_under.mapping c.lowered.result c.in-Ok-map_under.ensures.run c.lowered.ensures.end run.0 run.2 run.1 run.3
+pub map_part-returns-in_ok-mapping-in-Indirect-clause-run : goal.map_part-returns-in_ok-mapping-in-Indirect-clause-run
+map_part-returns-in_ok-mapping-in-Indirect-clause-run g t c = let d = g.D.Seen in let run = indirect_run (d.layer c.args.driver.now) c.args.offset c.args.max_length c.in_ok-mapping.length c.in-Indirect.offset c.in-Indirect.writable c.in_ok-mapping.mapping c.in-Indirect.is c.in_ok-mapping.ensures.run in
+    run_inside (d.layer c.args.driver.now).size c.args.offset c.args.max_length c.in_ok-mapping.length c.in_ok-mapping-in-Indirect.length c.in_ok-mapping-in-Indirect.mapping c.lowered.result c.in_ok-mapping-in-Indirect.ensures.run c.lowered.ensures.end run.0 run.2 run.1 run.3
 
-pub map_part-returns-in-Ok-map_under-clause-names : goal.map_part-returns-in-Ok-map_under-clause-names
-map_part-returns-in-Ok-map_under-clause-names g t c = λ few see. let d = g.D.Seen in let looks = c.in-Ok.ensures.looks see.0 in
-    let m = c.in-Ok-map_under.mapping in
-    let n = (c.in-Ok.run').1 in
-    let run = indirect_run (d.layer c.args.driver.now) c.args.offset c.args.max_length n c.in-Indirect.offset c.in-Indirect.writable (c.in-Ok.run').0 c.in-Indirect.is c.in-Ok.ensures.run in
-    let free = indirect_free (d.layer c.args.driver.now) (byte_in (files d c.get_mapping.new.self)) c.args.offset c.args.max_length (c.in-Ok.run').0 n looks c.in-Indirect.offset c.in-Indirect.writable c.in-Indirect.is in
+pub map_part-returns-in_ok-mapping-in-Indirect-clause-names : goal.map_part-returns-in_ok-mapping-in-Indirect-clause-names
+map_part-returns-in_ok-mapping-in-Indirect-clause-names g t c = λ few see. let d = g.D.Seen in let looks = c.in_ok-mapping.ensures.looks see.0 in
+    let m = c.in_ok-mapping-in-Indirect.mapping in
+    let n = c.in_ok-mapping.length in
+    let run = indirect_run (d.layer c.args.driver.now) c.args.offset c.args.max_length n c.in-Indirect.offset c.in-Indirect.writable c.in_ok-mapping.mapping c.in-Indirect.is c.in_ok-mapping.ensures.run in
+    let free = indirect_free (d.layer c.args.driver.now) (byte_in (files d c.get_mapping.new.self)) c.args.offset c.args.max_length c.in_ok-mapping.mapping n looks c.in-Indirect.offset c.in-Indirect.writable c.in-Indirect.is in
     let lowered : c.lowered.result ≡ lower c.in-Indirect.writable m = c.lowered.ensures.value (search (rules)) in
-    subst (λ (x : Mapping). DeepNames (d.layer c.args.driver.now ∷ map d.layer (layers c.args.below.now)) (at (d.layer c.args.driver.now ∷ map d.layer (layers c.args.below.now))) (stored_at d (c.get_mapping.new.self ∷ layers c.map_under.new.below)) c.args.offset c.in-Ok-map_under.length x) (sym lowered)
-    (names_lower d c.get_mapping.new.self (layers c.map_under.new.below) (d.layer c.args.driver.now) (map d.layer (layers c.args.below.now)) c.args.offset c.in-Ok-map_under.length n c.in-Indirect.writable free run.2
-    (indirect_writable (d.layer c.args.driver.now) (byte_in (files d c.get_mapping.new.self)) c.args.offset n c.in-Indirect.offset c.in-Indirect.writable (c.in-Ok.run').0 c.in-Indirect.is looks.names) m c.in-Ok-map_under.ensures.run (c.in-Ok-map_under.ensures.names (omega (arith, few)) see.1))
+    subst (λ (x : Mapping). DeepNames (d.layer c.args.driver.now ∷ map d.layer (layers c.args.below.now)) (at (d.layer c.args.driver.now ∷ map d.layer (layers c.args.below.now))) (stored_at d (c.get_mapping.new.self ∷ layers c.map_under.new.below)) c.args.offset c.in_ok-mapping-in-Indirect.length x) (sym lowered)
+    (names_lower d c.get_mapping.new.self (layers c.map_under.new.below) (d.layer c.args.driver.now) (map d.layer (layers c.args.below.now)) c.args.offset c.in_ok-mapping-in-Indirect.length n c.in-Indirect.writable free run.2
+    (indirect_writable (d.layer c.args.driver.now) (byte_in (files d c.get_mapping.new.self)) c.args.offset n c.in-Indirect.offset c.in-Indirect.writable c.in_ok-mapping.mapping c.in-Indirect.is looks.names) m c.in_ok-mapping-in-Indirect.ensures.run (c.in_ok-mapping-in-Indirect.ensures.names (omega (arith, few)) see.1))
 
-pub map_part-returns-in-Ok-map_under-clause-there : goal.map_part-returns-in-Ok-map_under-clause-there
-map_part-returns-in-Ok-map_under-clause-there g t c = λ few. let d = g.D.Seen in
-    let m = c.in-Ok-map_under.mapping in
+pub map_part-returns-in_ok-mapping-in-Indirect-clause-there : goal.map_part-returns-in_ok-mapping-in-Indirect-clause-there
+map_part-returns-in_ok-mapping-in-Indirect-clause-there g t c = λ few. let d = g.D.Seen in
+    let m = c.in_ok-mapping-in-Indirect.mapping in
     let lowered : c.lowered.result ≡ lower c.in-Indirect.writable m = c.lowered.ensures.value (search (rules)) in
     subst (IsThere d (c.args.driver.now ∷ layers c.args.below.now)) (sym lowered)
-    (there_lower d c.args.driver.now (layers c.args.below.now) c.in-Indirect.writable m (c.in-Ok-map_under.ensures.there (omega (arith, few))))
+    (there_lower d c.args.driver.now (layers c.args.below.now) c.in-Indirect.writable m (c.in_ok-mapping-in-Indirect.ensures.there (omega (arith, few))))
 
-pub map_part-returns-in-Ok-map_under-clause-stated : goal.map_part-returns-in-Ok-map_under-clause-stated
-map_part-returns-in-Ok-map_under-clause-stated g t c = λ see.
+pub map_part-returns-in_ok-mapping-in-Indirect-clause-stated : goal.map_part-returns-in_ok-mapping-in-Indirect-clause-stated
+map_part-returns-in_ok-mapping-in-Indirect-clause-stated g t c = λ see.
     let stated = g.D.Seen.stated c.args.driver.now in
-    let asked = (c.in-Ok.run').1 in
-    let n = c.in-Ok-map_under.length in
-    let none = indirect_unstated stated c.args.offset asked c.in-Indirect.offset c.in-Indirect.writable (c.in-Ok.run').0 c.in-Indirect.is (c.in-Ok.ensures.stated see) in
-    subst (AreStated stated c.args.offset n) (sym c.lowered.ensures.explicit) (unstated_below stated c.args.offset asked n c.in-Ok-map_under.mapping none c.in-Ok-map_under.ensures.run)
+    let asked = c.in_ok-mapping.length in
+    let n = c.in_ok-mapping-in-Indirect.length in
+    let none = indirect_unstated stated c.args.offset asked c.in-Indirect.offset c.in-Indirect.writable c.in_ok-mapping.mapping c.in-Indirect.is (c.in_ok-mapping.ensures.stated see) in
+    subst (AreStated stated c.args.offset n) (sym c.lowered.ensures.explicit) (unstated_below stated c.args.offset asked n c.in_ok-mapping-in-Indirect.mapping none c.in_ok-mapping-in-Indirect.ensures.run)
 
 pub map_part-returns-in-Raw-clause-there : goal.map_part-returns-in-Raw-clause-there
-map_part-returns-in-Raw-clause-there g t c = λ few. let d = g.D.Seen in subst (IsOneOf (length (files d c.args.driver.now))) c.in-Raw.is c.in-Ok.ensures.there
+map_part-returns-in-Raw-clause-there g t c = λ few. let d = g.D.Seen in subst (IsOneOf (length (files d c.args.driver.now))) c.in-Raw.is c.in_ok-mapping.ensures.there
 
 pub map_part-returns-in-Raw-clause-writable : goal.map_part-returns-in-Raw-clause-writable
 map_part-returns-in-Raw-clause-writable g t c = λ few see. let d = g.D.Seen in
     writable_here (d.layer c.args.driver.now) (map d.layer (layers c.args.below.now)) c.args.offset c.args.max_length c.in-Raw.storage c.in-Raw.place c.in-Raw.writable
-    (subst (NamesHome (d.layer c.args.driver.now) c.args.offset c.args.max_length) c.in-Raw.is (c.in-Ok.ensures.looks see.0).home)
+    (subst (NamesHome (d.layer c.args.driver.now) c.args.offset c.args.max_length) c.in-Raw.is (c.in_ok-mapping.ensures.looks see.0).home)
 
-pub map_part-returns-in-Err-map_under-clause-failed : goal.map_part-returns-in-Err-map_under-clause-failed
-map_part-returns-in-Err-map_under-clause-failed g t c = let d = g.D.Seen in
+pub map_part-returns-in_err-mapping-in-Indirect-clause-failed : goal.map_part-returns-in_err-mapping-in-Indirect-clause-failed
+map_part-returns-in_err-mapping-in-Indirect-clause-failed g t c = rw (handed_on _ _ c.from_residual-in_err-mapping-in-Indirect.ensures.1) (let d = g.D.Seen in
     let a0 = c.args.driver.now in let a1 = c.get_mapping.new.self in
-    failed_right (files d a0) (files d a1) (files_of d (layers c.args.below.now)) (files_of d (layers c.map_under.new.below)) c.in-Err-map_under.fault c.in-Ok.ensures.looked.later c.in-Err-map_under.ensures.failed
+    failed_right (files d a0) (files d a1) (files_of d (layers c.args.below.now)) (files_of d (layers c.map_under.new.below)) c.in_err-mapping-in-Indirect.field-0.0 c.in_ok-mapping.ensures.looked.later c.in_err-mapping-in-Indirect.ensures.failed)
 
-pub map_part-returns-in-Err-map_under-clause-marks : goal.map_part-returns-in-Err-map_under-clause-marks
-map_part-returns-in-Err-map_under-clause-marks g t c = λ is. inr (c.in-Err-map_under.ensures.marks is)
+pub map_part-returns-in_err-mapping-in-Indirect-clause-marks : goal.map_part-returns-in_err-mapping-in-Indirect-clause-marks
+map_part-returns-in_err-mapping-in-Indirect-clause-marks g t c = rw (handed_on _ _ c.from_residual-in_err-mapping-in-Indirect.ensures.1) (λ is. inr (c.in_err-mapping-in-Indirect.ensures.marks is))
 
-pub map_part-returns-in-Err-map_under-clause-cause : goal.map_part-returns-in-Err-map_under-clause-cause
-map_part-returns-in-Err-map_under-clause-cause g t c = λ see. let d = g.D.Seen in let looks = c.in-Ok.ensures.looks see.0 in
-    let n = (c.in-Ok.run').1 in
-    let run = indirect_run (d.layer c.args.driver.now) c.args.offset c.args.max_length n c.in-Indirect.offset c.in-Indirect.writable (c.in-Ok.run').0 c.in-Indirect.is c.in-Ok.ensures.run in
-    let free = indirect_free (d.layer c.args.driver.now) (byte_in (files d c.get_mapping.new.self)) c.args.offset c.args.max_length (c.in-Ok.run').0 n looks c.in-Indirect.offset c.in-Indirect.writable c.in-Indirect.is in
-    deep_look_below (d.layer c.args.driver.now) (map d.layer (layers c.args.below.now)) c.args.offset n c.args.max_length (files d c.args.driver.now) (files d c.get_mapping.new.self) (files_of d (layers c.args.below.now)) (files_of d (layers c.map_under.new.below)) c.in-Err-map_under.fault (c.in-Err-map_under.ensures.cause see.1) free run.2 run.1 c.in-Ok.ensures.looked.later
+pub map_part-returns-in_err-mapping-in-Indirect-clause-cause : goal.map_part-returns-in_err-mapping-in-Indirect-clause-cause
+map_part-returns-in_err-mapping-in-Indirect-clause-cause g t c = rw (handed_on _ _ c.from_residual-in_err-mapping-in-Indirect.ensures.1) (λ see. let d = g.D.Seen in let looks = c.in_ok-mapping.ensures.looks see.0 in
+    let n = c.in_ok-mapping.length in
+    let run = indirect_run (d.layer c.args.driver.now) c.args.offset c.args.max_length n c.in-Indirect.offset c.in-Indirect.writable c.in_ok-mapping.mapping c.in-Indirect.is c.in_ok-mapping.ensures.run in
+    let free = indirect_free (d.layer c.args.driver.now) (byte_in (files d c.get_mapping.new.self)) c.args.offset c.args.max_length c.in_ok-mapping.mapping n looks c.in-Indirect.offset c.in-Indirect.writable c.in-Indirect.is in
+    deep_look_below (d.layer c.args.driver.now) (map d.layer (layers c.args.below.now)) c.args.offset n c.args.max_length (files d c.args.driver.now) (files d c.get_mapping.new.self) (files_of d (layers c.args.below.now)) (files_of d (layers c.map_under.new.below)) c.in_err-mapping-in-Indirect.field-0.0 (c.in_err-mapping-in-Indirect.ensures.cause see.1) free run.2 run.1 c.in_ok-mapping.ensures.looked.later)
 
 pub get_mapping-returns-clause-ok : goal.get_mapping-returns-clause-ok
 get_mapping-returns-clause-ok g t c = let d = g.D.Seen in

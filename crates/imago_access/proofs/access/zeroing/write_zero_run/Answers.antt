@@ -9,6 +9,7 @@ use Rattle.imago_access.specs.Room.{IsApart}
 use Rattle.imago_access.specs.Running.{Ran}
 use Rattle.imago_access.specs.Spending.{claim_of}
 use Rattle.imago_access.specs.Stops.{GivesNone, GivesBytes, GivesZero}
+use Rattle.imago_access.proofs.Answers.{handed_on}
 use Rattle.imago_access.proofs.ChangeCauses.{part_cause_alone, mapped_cause}
 use Rattle.imago_access.proofs.FilePairs.{later_all_both}
 use Rattle.imago_access.proofs.Holding.{mine_on, spends_more}
@@ -23,8 +24,8 @@ use Rattle.imago_access.proofs.Marking.{top_over, top_alone, alone_before}
 use Rattle.imago_access.proofs.access.zeroing.write_zero_run.Goals as goal
 use Rattle.imago_storage.specs.Disk.{byte}
 
-pub returns-in-Ok-settle-clause-does : goal.returns-in-Ok-settle-clause-does
-returns-in-Ok-settle-clause-does g c = record {
+pub returns-in_ok-settle-in-Ok-write_mapped_zeroes-clause-does : goal.returns-in_ok-settle-in-Ok-write_mapped_zeroes-clause-does
+returns-in_ok-settle-in-Ok-write_mapped_zeroes-clause-does g c = record {
   ran = let d = g.D.Seen in let b = g.B.SeenBelow in let m = c.in-Ok.mapping in let n = c.length-count.result in let place = c.offset.result in
       let a0 = c.args.driver.now in let a1 = c.prepare_data_mapping.new.self in let a2 = c.write_mapped_zeroes.new.driver in let a3 = c.settle.new.driver in let x0 = c.args.below.now in let x1 = c.prepare_data_mapping.new.below in
       let asked = c.args.n in let bytes = replicate asked 0 in let long : length bytes ≡ asked = zeroes_long asked bytes refl in let run : n ≤ asked = rw c.length-count.ensures c.in-Ok.ensures.run.0.0 in let wrote = c.in-Ok-write_mapped_zeroes.ensures in
@@ -37,10 +38,10 @@ returns-in-Ok-settle-clause-does g c = record {
       (λ safe. subst (Wrote (d.layer a1) (d.layer a2) c.args.offset) first_zeroes (wrote.ok safe))
       (subst (λ (z : List ℕ). Ran d b ⊤ (GivesBytes c.args.offset z) (a1, x1) (a2, x1)) first_zeroes
       (ran_seen_over d b ⊤ (GivesBytes c.args.offset (replicate n 0)) a1 a2 x1 (wrote.ran (b.under x1))))
-      (ran_settled d b m.state ⊤ a2 a3 x1 g.met.D.FormatDriverInstance.free_loose c.in-Ok-settle.ensures.size c.in-Ok-settle.ensures.went
-      (mine_on d m.state (d.layer a1) (d.layer a2) wrote.like c.in-Ok.ensures.mine.0) stateless (c.in-Ok-settle.ensures.free stateless)
-      (λ w safe. spends_more d m.state (d.layer a2) (d.layer a3) (d.safe a2 → Committed (d.layer a2) (d.layer a3)) (Committed (d.layer a2) (d.layer a3)) (λ h. h safe) c.in-Ok-settle.ensures.ok)
-      c.in-Ok-settle.ensures.stops));
+      (ran_settled d b m.state ⊤ a2 a3 x1 g.met.D.FormatDriverInstance.free_loose c.in_ok-settle-in-Ok-write_mapped_zeroes.ensures.size c.in_ok-settle-in-Ok-write_mapped_zeroes.ensures.went
+      (mine_on d m.state (d.layer a1) (d.layer a2) wrote.like c.in-Ok.ensures.mine.0) stateless (c.in_ok-settle-in-Ok-write_mapped_zeroes.ensures.free stateless)
+      (λ w safe. spends_more d m.state (d.layer a2) (d.layer a3) (d.safe a2 → Committed (d.layer a2) (d.layer a3)) (Committed (d.layer a2) (d.layer a3)) (λ h. h safe) c.in_ok-settle-in-Ok-write_mapped_zeroes.ensures.ok)
+      c.in_ok-settle-in-Ok-write_mapped_zeroes.ensures.stops));
   room = λ i mild. let d = g.D.Seen in let b = g.B.SeenBelow in
       let a0 = c.args.driver.now in let a1 = c.prepare_data_mapping.new.self in let a2 = c.write_mapped_zeroes.new.driver in let a3 = c.settle.new.driver in let n = c.length-count.result in
       let run : n ≤ c.args.n = rw c.length-count.ensures c.in-Ok.ensures.run.0.0 in
@@ -48,33 +49,33 @@ returns-in-Ok-settle-clause-does g c = record {
       let wrote = c.in-Ok-write_mapped_zeroes.ensures in
       takes_run d (IsApart (d.layer a0).fixed.unit c.args.offset c.args.n) a0 a1 a2 a3 (c.in-Ok.ensures.does.room i.is_safe i.is_seen tt) (wrote.room safe1 tt)
       (zeroes_loose (d.layer a0).fixed.unit c.args.offset c.args.n n (d.layer a1) (d.layer a2) run (c.in-Ok.ensures.does.near i.is_safe i.is_seen) (wrote.ok safe1))
-      (c.in-Ok-settle.ensures.room ((wrote.ran []).went.safely (tt, tt) safe1) tt);
-  began = λ e call begun part. c.in-Ok-settle.ensures.began e call (c.in-Ok-write_mapped_zeroes.ensures.began e call (c.in-Ok.ensures.does.began e call begun part tt));
+      (c.in_ok-settle-in-Ok-write_mapped_zeroes.ensures.room ((wrote.ran []).went.safely (tt, tt) safe1) tt);
+  began = λ e call begun part. c.in_ok-settle-in-Ok-write_mapped_zeroes.ensures.began e call (c.in-Ok-write_mapped_zeroes.ensures.began e call (c.in-Ok.ensures.does.began e call begun part tt));
 }
 
-pub returns-in-Ok-settle-clause-refused : goal.returns-in-Ok-settle-clause-refused
-returns-in-Ok-settle-clause-refused g c = record {
+pub returns-in_ok-settle-in-Ok-write_mapped_zeroes-clause-refused : goal.returns-in_ok-settle-in-Ok-write_mapped_zeroes-clause-refused
+returns-in_ok-settle-in-Ok-write_mapped_zeroes-clause-refused g c = record {
   failed = tt;
   marks = tt;
   cause = λ i e call begun part says. tt;
 }
 
-pub returns-in-Err-settle-clause-does : goal.returns-in-Err-settle-clause-does
-returns-in-Err-settle-clause-does g c = record {
+pub returns-in_err-settle-in-Ok-write_mapped_zeroes-clause-does : goal.returns-in_err-settle-in-Ok-write_mapped_zeroes-clause-does
+returns-in_err-settle-in-Ok-write_mapped_zeroes-clause-does g c = rw (handed_on _ _ c.from_residual.ensures.1) (record {
   ran = let d = g.D.Seen in let b = g.B.SeenBelow in let m = c.in-Ok.mapping in let n = c.length-count.result in let place = c.offset.result in
       let a0 = c.args.driver.now in let a1 = c.prepare_data_mapping.new.self in let a2 = c.write_mapped_zeroes.new.driver in let a3 = c.settle.new.driver in let x0 = c.args.below.now in let x1 = c.prepare_data_mapping.new.below in
-      let asked = c.args.n in let bytes = replicate asked 0 in let long : length bytes ≡ asked = zeroes_long asked bytes refl in let run : n ≤ asked = rw c.length-count.ensures c.in-Ok.ensures.run.0.0 in let wrote = c.in-Ok-write_mapped_zeroes.ensures in
-      let first_zeroes : replicate n 0 ≡ take n bytes = sym (take-replicate n asked 0 run) in
+      let asked = c.args.n in let bytes = replicate {A = ℕ} asked 0 in let long : length bytes ≡ asked = zeroes_long asked bytes refl in let run : n ≤ asked = rw c.length-count.ensures c.in-Ok.ensures.run.0.0 in let wrote = c.in-Ok-write_mapped_zeroes.ensures in
+      let first_zeroes : replicate {A = ℕ} n 0 ≡ take n bytes = sym (take-replicate n asked 0 run) in
       let stateless : m.state ≡ None → IsFree (d.layer a2) = λ none. wrote.like.unspent ∙ c.in-Ok.ensures.mine.1 none in
-      ran_gives d b (IsMild c.in-Err-settle.fault) (GivesBytes c.args.offset bytes) (GivesZero c.args.offset asked) a0 a3 x0 x1
+      ran_gives d b (IsMild c.in_err-settle-in-Ok-write_mapped_zeroes.field-0.0) (GivesBytes c.args.offset bytes) (GivesZero c.args.offset asked) a0 a3 x0 x1
       (bytes_zero c.args.offset asked c.args.offset bytes (zeroes_zero asked bytes refl) (omega arith) (omega (arith, long)))
-      (ran_spent d b m.state (IsMild c.in-Err-settle.fault) a0 a1 a2 a3 x0 x1 c.args.offset asked m.storage place n bytes (omega (arith, run, long))
+      (ran_spent d b m.state (IsMild c.in_err-settle-in-Ok-write_mapped_zeroes.field-0.0) a0 a1 a2 a3 x0 x1 c.args.offset asked m.storage place n bytes (omega (arith, run, long))
       (g.met.D.FormatDriverInstance.free_loose a0 c.requires.free) c.in-Ok.ensures.size c.in-Ok.ensures.does.went c.in-Ok.ensures.below (rw (c.length-count.ensures, c.offset.ensures) c.in-Ok.ensures.does.ok) c.in-Ok.ensures.does.stops
       (λ safe. subst (Wrote (d.layer a1) (d.layer a2) c.args.offset) first_zeroes (wrote.ok safe))
       (subst (λ (z : List ℕ). Ran d b ⊤ (GivesBytes c.args.offset z) (a1, x1) (a2, x1)) first_zeroes
       (ran_seen_over d b ⊤ (GivesBytes c.args.offset (replicate n 0)) a1 a2 x1 (wrote.ran (b.under x1))))
-      (ran_unsettled d b m.state (IsMild c.in-Err-settle.fault) a2 a3 x1 g.met.D.FormatDriverInstance.free_loose c.in-Err-settle.ensures.size c.in-Err-settle.ensures.went
-      (mine_on d m.state (d.layer a1) (d.layer a2) wrote.like c.in-Ok.ensures.mine.0) (c.in-Err-settle.ensures.free stateless) (λ mild safe. c.in-Err-settle.ensures.err safe mild) c.in-Err-settle.ensures.stops));
+      (ran_unsettled d b m.state (IsMild c.in_err-settle-in-Ok-write_mapped_zeroes.field-0.0) a2 a3 x1 g.met.D.FormatDriverInstance.free_loose c.in_err-settle-in-Ok-write_mapped_zeroes.ensures.size c.in_err-settle-in-Ok-write_mapped_zeroes.ensures.went
+      (mine_on d m.state (d.layer a1) (d.layer a2) wrote.like c.in-Ok.ensures.mine.0) (c.in_err-settle-in-Ok-write_mapped_zeroes.ensures.free stateless) (λ mild safe. c.in_err-settle-in-Ok-write_mapped_zeroes.ensures.err safe mild) c.in_err-settle-in-Ok-write_mapped_zeroes.ensures.stops));
   room = λ i mild. let d = g.D.Seen in let b = g.B.SeenBelow in
       let a0 = c.args.driver.now in let a1 = c.prepare_data_mapping.new.self in let a2 = c.write_mapped_zeroes.new.driver in let a3 = c.settle.new.driver in let n = c.length-count.result in
       let run : n ≤ c.args.n = rw c.length-count.ensures c.in-Ok.ensures.run.0.0 in
@@ -82,20 +83,20 @@ returns-in-Err-settle-clause-does g c = record {
       let wrote = c.in-Ok-write_mapped_zeroes.ensures in
       takes_run d (IsApart (d.layer a0).fixed.unit c.args.offset c.args.n) a0 a1 a2 a3 (c.in-Ok.ensures.does.room i.is_safe i.is_seen tt) (wrote.room safe1 tt)
       (zeroes_loose (d.layer a0).fixed.unit c.args.offset c.args.n n (d.layer a1) (d.layer a2) run (c.in-Ok.ensures.does.near i.is_safe i.is_seen) (wrote.ok safe1))
-      (c.in-Err-settle.ensures.room ((wrote.ran []).went.safely (tt, tt) safe1) mild);
+      (c.in_err-settle-in-Ok-write_mapped_zeroes.ensures.room ((wrote.ran []).went.safely (tt, tt) safe1) mild);
   began = λ e call begun part. tt;
-}
+})
 
-pub returns-in-Err-settle-clause-refused : goal.returns-in-Err-settle-clause-refused
-returns-in-Err-settle-clause-refused g c = record {
+pub returns-in_err-settle-in-Ok-write_mapped_zeroes-clause-refused : goal.returns-in_err-settle-in-Ok-write_mapped_zeroes-clause-refused
+returns-in_err-settle-in-Ok-write_mapped_zeroes-clause-refused g c = rw (handed_on _ _ c.from_residual.ensures.1) (record {
   failed = let d = g.D.Seen in let b = g.B.SeenBelow in
       let a0 = c.args.driver.now in let a1 = c.prepare_data_mapping.new.self in let a2 = c.write_mapped_zeroes.new.driver in let a3 = c.settle.new.driver in
-      failed_alone (files d a0) (files d a2) (files d a3) (b.files_under c.args.below.now) (b.files_under c.prepare_data_mapping.new.below) c.in-Err-settle.fault
-      (later_all_both (files d a0) (files d a1) (files d a2) c.in-Ok.ensures.does.went.later (c.in-Ok-write_mapped_zeroes.ensures.ran []).went.later) c.in-Ok.ensures.below.later c.in-Err-settle.ensures.failed;
+      failed_alone (files d a0) (files d a2) (files d a3) (b.files_under c.args.below.now) (b.files_under c.prepare_data_mapping.new.below) c.in_err-settle-in-Ok-write_mapped_zeroes.field-0.0
+      (later_all_both (files d a0) (files d a1) (files d a2) c.in-Ok.ensures.does.went.later (c.in-Ok-write_mapped_zeroes.ensures.ran []).went.later) c.in-Ok.ensures.below.later c.in_err-settle-in-Ok-write_mapped_zeroes.ensures.failed;
   marks = let d = g.D.Seen in let b = g.B.SeenBelow in let a0 = c.args.driver.now in let a1 = c.prepare_data_mapping.new.self in let x0 = c.args.below.now in let x1 = c.prepare_data_mapping.new.below in
       let a2 = c.write_mapped_zeroes.new.driver in let a3 = c.settle.new.driver in
-      top_alone d b a0 a2 a3 x0 x1 c.in-Err-settle.fault (c.in-Ok-write_mapped_zeroes.ensures.like.fixed ∙ c.in-Ok.ensures.does.went.fixed)
-      (λ i. (c.in-Ok-write_mapped_zeroes.ensures.ran []).went.safely (tt, tt) (c.in-Ok.ensures.does.went.safely (tt, i.is_seen) i.is_safe)) c.in-Err-settle.ensures.marks;
+      top_alone d b a0 a2 a3 x0 x1 c.in_err-settle-in-Ok-write_mapped_zeroes.field-0.0 (c.in-Ok-write_mapped_zeroes.ensures.like.fixed ∙ c.in-Ok.ensures.does.went.fixed)
+      (λ i. (c.in-Ok-write_mapped_zeroes.ensures.ran []).went.safely (tt, tt) (c.in-Ok.ensures.does.went.safely (tt, i.is_seen) i.is_safe)) c.in_err-settle-in-Ok-write_mapped_zeroes.ensures.marks;
   cause = λ i e call begun part says. let d = g.D.Seen in let b = g.B.SeenBelow in
       let a0 = c.args.driver.now in let a1 = c.prepare_data_mapping.new.self in let a2 = c.write_mapped_zeroes.new.driver in let a3 = c.settle.new.driver in let x0 = c.args.below.now in let x1 = c.prepare_data_mapping.new.below in
       let wrote = c.in-Ok-write_mapped_zeroes.ensures in
@@ -104,8 +105,8 @@ returns-in-Err-settle-clause-refused g c = record {
       (wrote.like.fixed ∙ c.in-Ok.ensures.does.went.fixed) (wrote.like.size ∙ c.in-Ok.ensures.size) (g.met.D.FormatDriverInstance.safe_runs a0 i.is_safe) (g.met.D.FormatDriverInstance.safe_runs a2 safe)
       (layer_aligned d.layer g.met.D.FormatDriverInstance.aligned a0).positive (omega arith) (omega arith)
       (later_all_both (files d a0) (files d a1) (files d a2) c.in-Ok.ensures.does.went.later (wrote.ran []).went.later) c.in-Ok.ensures.below.later
-      (d.own_cause e (b.under x0) call) (λ _. ⊥) c.in-Err-settle.fault (λ none. absurd none) (c.in-Err-settle.ensures.cause safe (b.under x0) c.args.offset c.args.n c.requires.some);
-}
+      (d.own_cause e (b.under x0) call) (λ _. ⊥) c.in_err-settle-in-Ok-write_mapped_zeroes.field-0.0 (λ none. absurd none) (c.in_err-settle-in-Ok-write_mapped_zeroes.ensures.cause safe (b.under x0) c.args.offset c.args.n c.requires.some);
+})
 
 pub returns-in-Err-write_mapped_zeroes-clause-does : goal.returns-in-Err-write_mapped_zeroes-clause-does
 returns-in-Err-write_mapped_zeroes-clause-does g c = record {
@@ -169,14 +170,14 @@ returns-in-Err-clause-refused g c = record {
   cause = λ i e call begun part says. c.in-Err.ensures.does.refused.cause i.is_safe i.is_seen e call begun part says;
 }
 
-pub returns-in-Ok-settle-clause-uncut : goal.returns-in-Ok-settle-clause-uncut
-returns-in-Ok-settle-clause-uncut g c = λ i. rw c.length-count.ensures (c.in-Ok.ensures.does.uncut i.is_safe i.is_seen)
+pub returns-in_ok-settle-in-Ok-write_mapped_zeroes-clause-uncut : goal.returns-in_ok-settle-in-Ok-write_mapped_zeroes-clause-uncut
+returns-in_ok-settle-in-Ok-write_mapped_zeroes-clause-uncut g c = λ i. rw c.length-count.ensures (c.in-Ok.ensures.does.uncut i.is_safe i.is_seen)
 
-pub returns-in-Ok-settle-clause-shown : goal.returns-in-Ok-settle-clause-shown
-returns-in-Ok-settle-clause-shown g c = λ i k low. let d = g.D.Seen in let b = g.B.SeenBelow in let m = c.in-Ok.mapping in let n = c.length-count.result in let place = c.offset.result in
+pub returns-in_ok-settle-in-Ok-write_mapped_zeroes-clause-shown : goal.returns-in_ok-settle-in-Ok-write_mapped_zeroes-clause-shown
+returns-in_ok-settle-in-Ok-write_mapped_zeroes-clause-shown g c = λ i k low. let d = g.D.Seen in let b = g.B.SeenBelow in let m = c.in-Ok.mapping in let n = c.length-count.result in let place = c.offset.result in
     let a1 = c.prepare_data_mapping.new.self in let a2 = c.write_mapped_zeroes.new.driver in let a3 = c.settle.new.driver in
     let asked = c.args.n in let bytes = replicate asked 0 in let long : length bytes ≡ asked = zeroes_long asked bytes refl in let run : n ≤ asked = rw c.length-count.ensures c.in-Ok.ensures.run.0.0 in
-    let wrote = c.in-Ok-write_mapped_zeroes.ensures in let settled = c.in-Ok-settle.ensures in
+    let wrote = c.in-Ok-write_mapped_zeroes.ensures in let settled = c.in_ok-settle-in-Ok-write_mapped_zeroes.ensures in
     let first_zeroes : replicate n 0 ≡ take n bytes = sym (take-replicate n asked 0 run) in
     let safe1 = c.in-Ok.ensures.does.went.safely (tt, i.is_seen) i.is_safe in
     let in_disk : c.args.offset + n ≤ (d.layer a3).size = rw c.length-count.ensures (omega (arith, c.in-Ok.ensures.run.0.2 c.requires.some, c.in-Ok.ensures.size, wrote.like.size, settled.size)) in
