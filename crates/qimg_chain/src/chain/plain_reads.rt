@@ -39,8 +39,9 @@ pub fn plain_read<S: Storage>(
         return Err(Fault::RangeOverflow);
     }
     let inside = chain.size().saturating_sub(offset).min(buf.len() as u64) as usize;
-    blank(buf);
-    read_in_order(alloc, &mut chain, offset, &mut buf[..inside])
+    let (shown, rest) = buf.split_at_mut(inside);
+    blank(rest);
+    read_in_order(alloc, &mut chain, offset, shown)
 }
 
 // Fills the buffer with zeroes.
