@@ -106,7 +106,11 @@ fn wholes(alloc: Global, times: u64, files: &[ChainFile<MemStorage>]) -> Result<
 }
 
 /// Fills a buffer by a plain read, from the disk's start on.
-fn plain_once(alloc: Global, files: &[ChainFile<MemStorage>], buf: &mut [u8]) -> Result<(), Failure> {
+fn plain_once(
+    alloc: Global,
+    files: &[ChainFile<MemStorage>],
+    buf: &mut [u8],
+) -> Result<(), Failure> {
     let mut views = Vec::new(alloc);
     for file in files {
         views.push(ChainFile {
@@ -156,7 +160,12 @@ fn opened(alloc: Global, mode: &str, times: u64, mut chain: Chain) -> Result<u64
     Ok(storage.size())
 }
 
-fn measured(alloc: Global, mode: &str, times: u64, files: Vec<ChainFile<MemStorage>>) -> Result<u64, Failure> {
+fn measured(
+    alloc: Global,
+    mode: &str,
+    times: u64,
+    files: Vec<ChainFile<MemStorage>>,
+) -> Result<u64, Failure> {
     if mode == "copy" {
         return copies(alloc, times, &files);
     }
