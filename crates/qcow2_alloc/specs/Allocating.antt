@@ -13,10 +13,8 @@ use Rattle.qcow2_metadata.specs.Tables.{TableValue}
 use Rattle.qcow2_metadata.specs.Blocks.{Block, with_counter}
 use Rattle.qcow2_metadata.specs.Places.{IsInReach}
 use Rattle.qcow2_alloc.specs.declared.cache.CacheDependency.TheVariants.{L2DependsOnRb}
-use Rattle.qcow2_alloc.specs.declared.cache.MetadataCaches.{MetadataCaches}
-use Rattle.qcow2_alloc.specs.declared.file.ImageFile.{ImageFile}
 use Rattle.qcow2_alloc.specs.Allocators.{named_block, UsesBlock}
-use Rattle.qcow2_alloc.specs.Caches.{order_of, KeepsTables}
+use Rattle.qcow2_alloc.specs.Caches.{CachedFile, order_of, KeepsTables}
 use Rattle.qcow2_alloc.specs.FreeList.{covers}
 use Rattle.qcow2_alloc.specs.Freeing.{IsLoose, WhyNotCounted}
 use Rattle.qcow2_alloc.specs.Going.{WasNotCutOff}
@@ -31,12 +29,11 @@ pub record Raises (index : ℕ) (block : Block) (result : Result Unit Fault) (bl
   pub none : index < length block.counters → slice_index block.counters index ≡ 0 → (result ≡ Ok tt) × (block' ≡ with_counter block index 1)
 
 -- A cluster that isn't counted is counted in its block, as a word of the refcount table names it; where none does the table is damaged.
-abbrev pub RaisesCluster : {S : Type 0} → (S → StorageState) → TableValue → ℕ → MetadataCaches S → ImageFile S → Result Unit Fault
-    → MetadataCaches S → ImageFile S → Type 0
-RaisesCluster state table cluster old before result new after = MatchOption
-    (named_block table (cluster / counters_of_block before.header.fields))
-    ((result ≡ Err DamagedTable) × (new ≡ old) × (after ≡ before))
-    (λ key. UsesBlock state key (Raises (cluster % counters_of_block before.header.fields)) old before result new after)
+abbrev pub RaisesCluster : {S : Type 0} → (S → StorageState) → TableValue → ℕ → CachedFile S → Result Unit Fault → CachedFile S → Type 0
+RaisesCluster state table cluster old result new = MatchOption
+    (named_block table (cluster / counters_of_block old.file.header.fields))
+    ((result ≡ Err DamagedTable) × (new.caches ≡ old.caches) × (new.file ≡ old.file))
+    (λ key. UsesBlock state key (Raises (cluster % counters_of_block old.file.header.fields)) old result new)
 
 -- Counts are raised from 0 to 1 alone.
 abbrev pub OnlyRaised : Metadata → Metadata → Type 0

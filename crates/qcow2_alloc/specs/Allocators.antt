@@ -17,7 +17,7 @@ use Rattle.qcow2_alloc.specs.declared.allocation.Allocator.{Allocator}
 use Rattle.qcow2_alloc.specs.declared.cache.MetadataCaches.{MetadataCaches}
 use Rattle.qcow2_alloc.specs.declared.file.ImageFile.{ImageFile}
 use Rattle.qcow2_alloc.specs.Cache.{hit}
-use Rattle.qcow2_alloc.specs.Caches.{cached_in, order_of}
+use Rattle.qcow2_alloc.specs.Caches.{CachedFile, cached_in, order_of}
 use Rattle.qcow2_alloc.specs.CachesLending.{with_tables, with_blocks}
 use Rattle.qcow2_alloc.specs.Finding.{TableFound, BlockFound}
 use Rattle.qcow2_alloc.specs.Going.{WasNotCutOff}
@@ -48,37 +48,37 @@ metadata_of state file caches table pending = record {
 
 -- The block in a cluster is found and used so.
 pub record BlockUsed {S T : Type 0} (state : S → StorageState) (cluster : ℕ) (does : Block → Result T Fault → Block → Type 0)
-    (old : MetadataCaches S) (before : ImageFile S) (result : Result T Fault) (new : MetadataCaches S) (after : ImageFile S) : Type 0 where
+    (old : CachedFile S) (result : Result T Fault) (new : CachedFile S) : Type 0 where
   pub mid : MetadataCaches S
-  pub found : BlockFound state cluster old before (Ok tt) mid after
+  pub found : BlockFound state cluster old.caches old.file (Ok tt) mid new.file
   pub block : Block
   pub block' : Block
   pub there : option_map (λ s. s.value) (lookup (nat_eq cluster) (cached_in mid).blocks) ≡ Some block
   pub used : does block result block'
-  pub left : new ≡ with_blocks mid (hit (nat_eq cluster) (cached_in mid).blocks block')
+  pub left : new.caches ≡ with_blocks mid (hit (nat_eq cluster) (cached_in mid).blocks block')
 
 -- It is found and used so, or the search is refused.
-abbrev pub UsesBlock : {S T : Type 0} → (S → StorageState) → ℕ → (Block → Result T Fault → Block → Type 0) → MetadataCaches S → ImageFile S
-    → Result T Fault → MetadataCaches S → ImageFile S → Type 0
-UsesBlock state cluster does old before result new after = ((fault : Fault) × (result ≡ Err fault)
-    × BlockFound state cluster old before (Err fault) new after) ⊎ BlockUsed state cluster does old before result new after
+abbrev pub UsesBlock : {S T : Type 0} → (S → StorageState) → ℕ → (Block → Result T Fault → Block → Type 0) → CachedFile S → Result T Fault
+    → CachedFile S → Type 0
+UsesBlock state cluster does old result new = ((fault : Fault) × (result ≡ Err fault)
+    × BlockFound state cluster old.caches old.file (Err fault) new.caches new.file) ⊎ BlockUsed state cluster does old result new
 
 -- The same of the L2 table in a cluster: it is found, lent, used and put back,
 pub record TableUsed {S T : Type 0} (state : S → StorageState) (cluster : ℕ) (does : TableValue → Result T Fault → TableValue → Type 0)
-    (old : MetadataCaches S) (before : ImageFile S) (result : Result T Fault) (new : MetadataCaches S) (after : ImageFile S) : Type 0 where
+    (old : CachedFile S) (result : Result T Fault) (new : CachedFile S) : Type 0 where
   pub mid : MetadataCaches S
-  pub found : TableFound state cluster old before (Ok tt) mid after
+  pub found : TableFound state cluster old.caches old.file (Ok tt) mid new.file
   pub table : TableValue
   pub table' : TableValue
   pub there : option_map (λ s. s.value) (lookup (nat_eq cluster) (cached_in mid).tables) ≡ Some table
   pub used : does table result table'
-  pub left : new ≡ with_tables mid (hit (nat_eq cluster) (cached_in mid).tables table')
+  pub left : new.caches ≡ with_tables mid (hit (nat_eq cluster) (cached_in mid).tables table')
 
 -- or the search is refused.
-abbrev pub UsesTable : {S T : Type 0} → (S → StorageState) → ℕ → (TableValue → Result T Fault → TableValue → Type 0) → MetadataCaches S
-    → ImageFile S → Result T Fault → MetadataCaches S → ImageFile S → Type 0
-UsesTable state cluster does old before result new after = ((fault : Fault) × (result ≡ Err fault)
-    × TableFound state cluster old before (Err fault) new after) ⊎ TableUsed state cluster does old before result new after
+abbrev pub UsesTable : {S T : Type 0} → (S → StorageState) → ℕ → (TableValue → Result T Fault → TableValue → Type 0) → CachedFile S
+    → Result T Fault → CachedFile S → Type 0
+UsesTable state cluster does old result new = ((fault : Fault) × (result ≡ Err fault)
+    × TableFound state cluster old.caches old.file (Err fault) new.caches new.file) ⊎ TableUsed state cluster does old result new
 
 -- How a counter of a block is lowered by 1: it is refused where there is no such counter or where it is 0.
 pub record Lowers (index : ℕ) (block : Block) (result : Result Unit Fault) (block' : Block) : Type 0 where
@@ -88,12 +88,11 @@ pub record Lowers (index : ℕ) (block : Block) (result : Result Unit Fault) (bl
       × (block' ≡ with_counter block index (slice_index block.counters index - 1))
 
 -- A cluster is counted down in the block that counts it, as a word of the refcount table names it; where none does the table is damaged.
-abbrev pub LowersCluster : {S : Type 0} → (S → StorageState) → TableValue → ℕ → MetadataCaches S → ImageFile S → Result Unit Fault
-    → MetadataCaches S → ImageFile S → Type 0
-LowersCluster state table cluster old before result new after = MatchOption
-    (named_block table (cluster / counters_of_block before.header.fields))
-    ((result ≡ Err DamagedTable) × (new ≡ old) × (after ≡ before))
-    (λ key. UsesBlock state key (Lowers (cluster % counters_of_block before.header.fields)) old before result new after)
+abbrev pub LowersCluster : {S : Type 0} → (S → StorageState) → TableValue → ℕ → CachedFile S → Result Unit Fault → CachedFile S → Type 0
+LowersCluster state table cluster old result new = MatchOption
+    (named_block table (cluster / counters_of_block old.file.header.fields))
+    ((result ≡ Err DamagedTable) × (new.caches ≡ old.caches) × (new.file ≡ old.file))
+    (λ key. UsesBlock state key (Lowers (cluster % counters_of_block old.file.header.fields)) old result new)
 
 -- The refcount table begins with a cluster that words can name.
 pub record IsTablePlaced (h : Fields) : Type 0 where

@@ -6,8 +6,7 @@ use Rattle.qcow2_types.specs.Words.{block_offset}
 use Rattle.qcow2_types.specs.Counts.{counters_of_block}
 use Rattle.qcow2_metadata.specs.Tables.{TableValue}
 use Rattle.qcow2_alloc.specs.declared.allocation.searching.Run.{Run}
-use Rattle.qcow2_alloc.specs.declared.cache.MetadataCaches.{MetadataCaches}
-use Rattle.qcow2_alloc.specs.declared.file.ImageFile.{ImageFile}
+use Rattle.qcow2_alloc.specs.Caches.{CachedFile}
 use Rattle.qcow2_alloc.specs.MakingRoom.{rank}
 use Rattle.qcow2_alloc.specs.SearchingClusters.{Looked, IsSafeWith, counts_in}
 
@@ -45,20 +44,20 @@ needed_for table k n run = n + lacking table k run.first run.len
 
 module _ {S : Type 0} (state : S → StorageState) where
   -- The search goes on: with as many clusters as are needed where these aren't counted, and else behind the first.
-  pub record GrowsRoom (table : TableValue) (n needed : ℕ) (was : Run) (old : MetadataCaches S) (before : ImageFile S)
-      (result : Result Run Fault) (new : MetadataCaches S) (after : ImageFile S) : Type 0 where
-    pub looked : Looked state table old before result new after
-    pub further : IfOk result (λ now. ((now.first ≡ was.first) × (now.len ≡ needed))
-        ⊎ ((was.first < now.first) × (was.first < length table.words * counters_of_block before.header.fields) × (now.len ≡ n)))
-    pub near : IfOk result (λ now. now.first ≤ max (was.first + 1) (length table.words * counters_of_block before.header.fields))
-    pub so_far : IsSafeWith state table old before
-        → IfOk result (λ now. (from : ℕ) → needed ≡ needed_for table (counters_of_block before.header.fields) n was
-        → IsRoomSoFar table (counters_of_block before.header.fields) (counts_in state old before) from n was
-        → IsRoomSoFar table (counters_of_block before.header.fields) (counts_in state old before) from n now)
+  pub record GrowsRoom (table : TableValue) (n : ℕ) (was : Run) (old : CachedFile S) (result : Result Run Fault)
+      (new : CachedFile S) : Type 0 where
+    pub looked : Looked state table old result new
+    pub further : IfOk result (λ now.
+        ((now.first ≡ was.first) × (now.len ≡ needed_for table (counters_of_block old.file.header.fields) n was))
+        ⊎ ((was.first < now.first) × (was.first < length table.words * counters_of_block old.file.header.fields) × (now.len ≡ n)))
+    pub near : IfOk result (λ now. now.first ≤ max (was.first + 1) (length table.words * counters_of_block old.file.header.fields))
+    pub so_far : IsSafeWith state table old.caches old.file → IfOk result (λ now. (from : ℕ)
+        → IsRoomSoFar table (counters_of_block old.file.header.fields) (counts_in state old.caches old.file) from n was
+        → IsRoomSoFar table (counters_of_block old.file.header.fields) (counts_in state old.caches old.file) from n now)
 
   -- So is the room searched for.
-  pub record LooksForRoom (table : TableValue) (from n : ℕ) (old : MetadataCaches S) (before : ImageFile S) (result : Result Run Fault)
-      (new : MetadataCaches S) (after : ImageFile S) : Type 0 where
-    pub looked : Looked state table old before result new after
-    pub found : IsSafeWith state table old before → IfOk result (λ room.
-        IsFirstRoom table (counters_of_block before.header.fields) (counts_in state old before) from n room.first room.len)
+  pub record LooksForRoom (table : TableValue) (from n : ℕ) (old : CachedFile S) (result : Result Run Fault)
+      (new : CachedFile S) : Type 0 where
+    pub looked : Looked state table old result new
+    pub found : IsSafeWith state table old.caches old.file → IfOk result (λ room. IsFirstRoom table
+        (counters_of_block old.file.header.fields) (counts_in state old.caches old.file) from n room.first room.len)

@@ -7,8 +7,7 @@ use Rattle.qcow2_types.specs.Counts.{counters_of_block}
 use Rattle.qcow2_metadata.specs.Tables.{TableValue}
 use Rattle.qcow2_metadata.specs.Blocks.{Block}
 use Rattle.qcow2_alloc.specs.declared.allocation.searching.Run.{Run}
-use Rattle.qcow2_alloc.specs.declared.cache.MetadataCaches.{MetadataCaches}
-use Rattle.qcow2_alloc.specs.declared.file.ImageFile.{ImageFile}
+use Rattle.qcow2_alloc.specs.Caches.{CachedFile}
 use Rattle.qcow2_alloc.specs.SearchingClusters.{counts_in, IsSafeWith, Looked}
 
 -- the cluster behind a run
@@ -51,13 +50,13 @@ pub record Reads {T : Type 0} (k : ℕ) (P : List ℕ → T → Type 0) (block :
   pub even : length block.counters ≡ k → MatchResult result (P block.counters) (λ fault. ⊥)
 
 -- A run is extended, from the cluster behind it on, by clusters that one block counts.
-pub record ExtendsRun {S : Type 0} (state : S → StorageState) (table : TableValue) (n : ℕ) (was : Run) (old : MetadataCaches S)
-    (before : ImageFile S) (result : Result Run Fault) (new : MetadataCaches S) (after : ImageFile S) : Type 0 where
-  pub looked : Looked state table old before result new after
+pub record ExtendsRun {S : Type 0} (state : S → StorageState) (table : TableValue) (n : ℕ) (was : Run) (old : CachedFile S)
+    (result : Result Run Fault) (new : CachedFile S) : Type 0 where
+  pub looked : Looked state table old result new
   pub more : IfOk result (λ now. next_of was < next_of now)
   pub rising : IfOk result (λ now. was.first ≤ now.first)
-  pub near : IfOk result (λ now. next_of now ≤ (next_of was / counters_of_block before.header.fields + 1) * counters_of_block
-      before.header.fields)
-  pub so_far : IsSafeWith state table old before
-      → IfOk result (λ now. (from : ℕ) → IsRunSoFar (counts_in state old before) from n was
-      → IsRunSoFar (counts_in state old before) from n now)
+  pub near : IfOk result (λ now. next_of now ≤ (next_of was / counters_of_block old.file.header.fields + 1) * counters_of_block
+      old.file.header.fields)
+  pub so_far : IsSafeWith state table old.caches old.file
+      → IfOk result (λ now. (from : ℕ) → IsRunSoFar (counts_in state old.caches old.file) from n was
+      → IsRunSoFar (counts_in state old.caches old.file) from n now)

@@ -8,7 +8,7 @@ use Rattle.qcow2_types.specs.Counts.{block_at, count, counters_of_block}
 use Rattle.qcow2_metadata.specs.Tables.{TableValue}
 use Rattle.qcow2_alloc.specs.declared.cache.MetadataCaches.{MetadataCaches}
 use Rattle.qcow2_alloc.specs.declared.file.ImageFile.{ImageFile}
-use Rattle.qcow2_alloc.specs.Caches.{cached_in, order_of, KeepsTables}
+use Rattle.qcow2_alloc.specs.Caches.{CachedFile, cached_in, order_of, KeepsTables}
 use Rattle.qcow2_alloc.specs.Freeing.{IsLoose, WhyNotFreed}
 use Rattle.qcow2_alloc.specs.Going.{Going, Always, WasNotCutOff}
 use Rattle.qcow2_alloc.specs.Memory.{memory}
@@ -49,27 +49,27 @@ module _ {S : Type 0} (state : S → StorageState) where
     pub table_of_file : IsTableOf (bytes_of (state file.image).bytes) file.header.fields table
 
   -- What a search does: blocks are loaded, in the place of others where the cache is full.
-  pub record Looked {T : Type 0} (table : TableValue) (old : MetadataCaches S) (before : ImageFile S) (result : Result T Fault)
-      (new : MetadataCaches S) (after : ImageFile S) : Type 0 where
-    pub going : Going before.header (order_of old) Always (WasNotCutOff result) (state before.image) (cached_in old) (state after.image)
-        (cached_in new)
-    pub order : new.order ≡ old.order
-    pub header : after.header ≡ before.header
-    pub loose : (any : Bool) → IsLoose table old any → IsLoose table new any
-    pub room : KeepsTables old new
-    pub cause : MatchResult result (λ _. (state after.image).faults ≡ (state before.image).faults)
-        (WhyNotFreed (IsSafeWith table old before) (IsLoose table old true) (state before.image).faults (state after.image).faults)
+  pub record Looked {T : Type 0} (table : TableValue) (old : CachedFile S) (result : Result T Fault) (new : CachedFile S) : Type 0 where
+    pub going : Going old.file.header (order_of old.caches) Always (WasNotCutOff result) (state old.file.image) (cached_in old.caches)
+        (state new.file.image) (cached_in new.caches)
+    pub order : new.caches.order ≡ old.caches.order
+    pub header : new.file.header ≡ old.file.header
+    pub loose : (any : Bool) → IsLoose table old.caches any → IsLoose table new.caches any
+    pub room : KeepsTables old.caches new.caches
+    pub cause : MatchResult result (λ _. (state new.file.image).faults ≡ (state old.file.image).faults)
+        (WhyNotFreed (IsSafeWith table old.caches old.file) (IsLoose table old.caches true) (state old.file.image).faults
+        (state new.file.image).faults)
 
   -- The first run of n clusters that aren't counted, from one on, is searched for;
-  pub record LooksForRun (table : TableValue) (from n : ℕ) (old : MetadataCaches S) (before : ImageFile S) (result : Result ℕ Fault)
-      (new : MetadataCaches S) (after : ImageFile S) : Type 0 where
-    pub looked : Looked table old before result new after
-    pub near : IfOk result (λ z. (from ≤ z) × (z ≤ max from (length table.words * counters_of_block before.header.fields)))
-    pub found : IsSafeWith table old before → IfOk result (IsFirstRun (counts_in old before) from n)
+  pub record LooksForRun (table : TableValue) (from n : ℕ) (old : CachedFile S) (result : Result ℕ Fault)
+      (new : CachedFile S) : Type 0 where
+    pub looked : Looked table old result new
+    pub near : IfOk result (λ z. (from ≤ z) × (z ≤ max from (length table.words * counters_of_block old.file.header.fields)))
+    pub found : IsSafeWith table old.caches old.file → IfOk result (IsFirstRun (counts_in old.caches old.file) from n)
 
   -- or the first of a range that a block counts.
-  pub record LooksForFree (table : TableValue) (from end : ℕ) (old : MetadataCaches S) (before : ImageFile S)
-      (result : Result (Option ℕ) Fault) (new : MetadataCaches S) (after : ImageFile S) : Type 0 where
-    pub looked : Looked table old before result new after
-    pub found : IsSafeWith table old before → IfOk result
-        (FindsFree (bytes_of (state before.image).bytes) before.header.fields (counts_in old before) from end)
+  pub record LooksForFree (table : TableValue) (from end : ℕ) (old : CachedFile S) (result : Result (Option ℕ) Fault)
+      (new : CachedFile S) : Type 0 where
+    pub looked : Looked table old result new
+    pub found : IsSafeWith table old.caches old.file → IfOk result
+        (FindsFree (bytes_of (state old.file.image).bytes) old.file.header.fields (counts_in old.caches old.file) from end)

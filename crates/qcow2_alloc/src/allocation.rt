@@ -5,7 +5,7 @@ ghost use Rattle.qcow2_metadata.specs.Blocks.{Block, with_counter};
 ghost use Rattle.qcow2_alloc.specs.Allocators.{table_of, mark_of, named_block, UsesBlock, Lowers, LowersCluster, LoadsAllocator};
 ghost use Rattle.std.specs.List.{remove};
 ghost use Rattle.qcow2_alloc.specs.declared.cache.CacheDependency.TheVariants.{RbDependsOnL2};
-ghost use Rattle.qcow2_alloc.specs.Caches.{cached_in, order_of, HasRoomOf};
+ghost use Rattle.qcow2_alloc.specs.Caches.{cached_in, order_of, HasRoomOf, cached_file};
 ghost use Rattle.qcow2_alloc.specs.Dropping.{Dropped, StaysSafe};
 ghost use Rattle.qcow2_alloc.specs.Safety.{AreBlocksClean};
 ghost use Rattle.qcow2_alloc.specs.FreeList.{entry_at, shortened};
@@ -101,7 +101,8 @@ impl Allocator {
         ensures table { table_of self.new ≡ table_of self.old }
         ensures marked { OnOk result (mark_of self.new ≡ min (mark_of self.old) cluster) }
         ensures stays { OnErr result (mark_of self.new ≡ mark_of self.old) }
-        ensures lowered { LowersCluster S.state (table_of self.old) cluster caches.old file.old result caches.new file.new }
+        ensures lowered { LowersCluster S.state (table_of self.old) cluster (cached_file caches.old file.old) result
+            (cached_file caches.new file.new) }
     {
         let (rt_index, rb_index) = cluster.rt_rb_indices(file.header.rb_bits());
         let Some(rb_cluster) = self.block_cluster(rt_index) else {
@@ -311,7 +312,7 @@ fn lower_in<S: Storage>(
     rb_cluster: HostCluster,
     index: usize,
 ) -> Result<(), Fault>
-    ensures { UsesBlock S.state rb_cluster (Lowers index) caches.old file.old result caches.new file.new }
+    ensures { UsesBlock S.state rb_cluster (Lowers index) (cached_file caches.old file.old) result (cached_file caches.new file.new) }
 {
     let block = caches.rb_get_or_insert(file, rb_cluster)?;
     lower_counter(block, index)

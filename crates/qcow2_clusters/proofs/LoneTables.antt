@@ -16,7 +16,7 @@ use Rattle.qcow2_alloc.specs.declared.cache.MetadataCaches.{MetadataCaches}
 use Rattle.qcow2_alloc.specs.declared.file.ImageFile.{ImageFile}
 use Rattle.qcow2_alloc.specs.Allocators.{UsesTable}
 use Rattle.qcow2_alloc.specs.Cache.{hit}
-use Rattle.qcow2_alloc.specs.Caches.{cached_in}
+use Rattle.qcow2_alloc.specs.Caches.{cached_in, cached_file}
 use Rattle.qcow2_alloc.specs.CachesLending.{with_tables}
 use Rattle.qcow2_alloc.specs.Finding.{IsPinnedFull, TableFound, with_room}
 use Rattle.qcow2_alloc.specs.Memory.{Cached, written_block, written_table}
@@ -115,7 +115,7 @@ module _ {S : Type 0} (state : S → StorageState) (key : ℕ) (old : MetadataCa
       record { tables = there.0; blocks = there.1 }
 
   pub used-unpinned : {T : Type 0} (does : TableValue → Result T Fault → TableValue → Type 0) (result : Result T Fault) (new : MetadataCaches S)
-      (after : ImageFile S) → UsesTable state key does old before result new after → AreUnpinned new
+      (after : ImageFile S) → UsesTable state key does (cached_file old before) result (cached_file new after) → AreUnpinned new
   used-unpinned does result new after (inl r) = unpinned-as new nothing_cached (refused-empty r.0 new after r.2) (tt, tt)
   used-unpinned does result new after (inr u) =
       unpinned-as new (lone_table key u.table') (used-alone u.mid after u.table' new u.found u.left) ((refl, tt), tt)

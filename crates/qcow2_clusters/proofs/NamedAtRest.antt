@@ -18,7 +18,7 @@ use Rattle.qcow2_metadata.specs.Tables.{TableValue, table_in}
 use Rattle.qcow2_alloc.specs.declared.cache.MetadataCaches.{MetadataCaches}
 use Rattle.qcow2_alloc.specs.declared.file.ImageFile.{ImageFile}
 use Rattle.qcow2_alloc.specs.Allocators.{TableUsed, UsesTable, metadata_of, table_of}
-use Rattle.qcow2_alloc.specs.Caches.{HasRoomOf, cached_in, order_of}
+use Rattle.qcow2_alloc.specs.Caches.{HasRoomOf, cached_in, order_of, cached_file}
 use Rattle.qcow2_alloc.specs.Finding.{TableFound, WhyNotFound}
 use Rattle.qcow2_alloc.specs.Going.{AreBlocksInReach, AreTablesInReach, IsMild, WasNotCutOff}
 use Rattle.qcow2_alloc.specs.Memory.{Cached}
@@ -220,7 +220,7 @@ module _ {S : Type 0} (state : S → StorageState) (table guest x n : ℕ) (c c'
         (listing t' c'.space.to_free)
 
     -- The table was found.
-    module _ (answer : Result Unit Fault) (u : TableUsed state table Does c.caches c.file answer mid between) where
+    module _ (answer : Result Unit Fault) (u : TableUsed state table Does (cached_file c.caches c.file) answer (cached_file mid between)) where
       abbrev read : TableValue
       read = table_in (bytes_of s1.bytes) c.file.header.fields table (words_of_cluster c.file.header.fields)
 
@@ -408,7 +408,7 @@ module _ {S : Type 0} (state : S → StorageState) (table guest x n : ℕ) (c c'
         (fits : guest % words_of_cluster c.file.header.fields + n ≤ words_of_cluster c.file.header.fields)
         (allocator : c'.space.allocator ≡ c.space.allocator) (held : c'.space.to_free.held ≡ c.space.to_free.held)
         (settles : Settles state done between mid result c'.file c'.caches) where
-      begun-by : (named : Result Unit Fault) → done ≡ named → UsesTable state table Does c.caches c.file named mid between → Begun
+      begun-by : (named : Result Unit Fault) → done ≡ named → UsesTable state table Does (cached_file c.caches c.file) named (cached_file mid between) → Begun
       begun-by named is (inl r) = refused-begun r.0 r.2 (is ∙ r.1) held settles
       begun-by (Ok v) is (inr u) = set-begun (Ok v) u held some near fits u.used.ok.1 allocator is settles
       begun-by (Err fault) is (inr u) = elim u.used.err [
@@ -418,5 +418,5 @@ module _ {S : Type 0} (state : S → StorageState) (table guest x n : ℕ) (c c'
             (used-read state table c.caches c.file rest u.mid between u.found u.table u.there)))
       ]
 
-      pub names-by : UsesTable state table Does c.caches c.file done mid between → NamesRun state table guest x n c result c'
+      pub names-by : UsesTable state table Does (cached_file c.caches c.file) done (cached_file mid between) → NamesRun state table guest x n c result c'
       names-by used = names-begun settles (begun-by done refl used)

@@ -3,6 +3,7 @@ ghost use Rattle.std.specs.Prelude.{◌≡◌, ◌≤◌, ◌<◌, ◌+◌, ◌-
 ghost use Rattle.qcow2_types.specs.Places.{l2_entries};
 ghost use Rattle.qcow2_metadata.specs.Places.{IsInReach};
 ghost use Rattle.qcow2_alloc.specs.Allocators.{UsesTable};
+ghost use Rattle.qcow2_alloc.specs.Caches.{cached_file};
 ghost use Rattle.qcow2_clusters.specs.Rest.{AreEmpty, HasEntries, lent};
 ghost use Rattle.qcow2_clusters.specs.Naming.{Names, NamesIn, NamesRun, NamesWord, NamesWords, PutsOff, listing};
 
@@ -115,7 +116,7 @@ fn name_in_table<S: Storage>(
     requires row { let words = l2_entries file.old.header.fields.cluster_bits in guest % words + count ≤ words }
     ensures named { let bits = file.old.header.fields.cluster_bits in UsesTable S.state table
         (λ t r t'. NamesIn bits (guest % l2_entries bits) cluster count (listing t to_free.old) r (listing t' to_free.new))
-        caches.old file.old result caches.new file.new }
+        (cached_file caches.old file.old) result (cached_file caches.new file.new) }
     ensures held { to_free.new.held ≡ to_free.old.held }
 {
     let cluster_bits = file.header.cluster_bits();

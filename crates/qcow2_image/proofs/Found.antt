@@ -19,7 +19,7 @@ use Rattle.qcow2_metadata.specs.Places.{IsInReach}
 use Rattle.qcow2_metadata.specs.declared.mapping.L2Mapping.{L2Mapping}
 use Rattle.qcow2_metadata.specs.declared.mapping.L2Mapping.TheVariants.{Backing}
 use Rattle.qcow2_alloc.specs.Cache.{hit}
-use Rattle.qcow2_alloc.specs.Caches.{cached_in}
+use Rattle.qcow2_alloc.specs.Caches.{cached_in, cached_file}
 use Rattle.qcow2_alloc.specs.CachesLending.{with_tables}
 use Rattle.qcow2_alloc.specs.Finding.{TableFound, WhyNotFound, IsPinnedFull, IsTableFine, Sought}
 use Rattle.qcow2_alloc.specs.Going as Going
@@ -101,7 +101,7 @@ module _ {S : Type 0} (g : Ghosts S) (guest most table : ℕ) (old new : Tables 
         }
 
   -- A table that is found and stays.
-  module _ {T : Type 0} (does : TableValue → Result T Fault → TableValue → Type 0) (result : Result T Fault) (u : TableUsed g.state table does old.caches old.file result new.caches new.file) (same : u.table' ≡ u.table) where
+  module _ {T : Type 0} (does : TableValue → Result T Fault → TableValue → Type 0) (result : Result T Fault) (u : TableUsed g.state table does (cached_file old.caches old.file) result (cached_file new.caches new.file)) (same : u.table' ≡ u.table) where
     left : new.caches ≡ with_tables u.mid (hit (nat_eq table) (cached_in u.mid).tables u.table)
     left = u.left ∙ ap (λ x. with_tables u.mid (hit (nat_eq table) (cached_in u.mid).tables x)) same
 
@@ -123,7 +123,7 @@ module _ {S : Type 0} (g : Ghosts S) (guest most table : ℕ) (old new : Tables 
         let there : place_of_table old.l1.words H.fields.cluster_bits (guest + k) ≡ Some table = ap (λ x. cluster_named H.fields.cluster_bits (slice_index old.l1.words x)) row ∙ named in
         entry-of-file (file_of g old) H.fields old.l1 u.table (guest + k) table seen.l1 there fits is.0 is.1 (in-row guest most (words_of_cluster H.fields) k whole lt)
 
-  looks-found : (run : L2Mapping × ℕ) → guest % words_of_cluster H.fields + most ≤ words_of_cluster H.fields → UsesTable g.state table (ReadsRun H.fields.cluster_bits guest most) old.caches old.file (Ok run) new.caches new.file → LooksAt g guest most old (Ok run) new
+  looks-found : (run : L2Mapping × ℕ) → guest % words_of_cluster H.fields + most ≤ words_of_cluster H.fields → UsesTable g.state table (ReadsRun H.fields.cluster_bits guest most) (cached_file old.caches old.file) (Ok run) (cached_file new.caches new.file) → LooksAt g guest most old (Ok run) new
   looks-found run whole (inl refused) = absurd (cc refused.1)
   looks-found run whole (inr u) =
       let used = u.used.ok in record {
@@ -155,7 +155,7 @@ module _ {S : Type 0} (g : Ghosts S) (guest most table : ℕ) (old new : Tables 
   never-full : IsPinnedFull old.caches.l2.slots.cap (cached_in old.caches).tables → ⊥
   never-full full = omega (arith, full-pinned (cached_in old.caches).tables full, old.loose.0, old.loose.2)
 
-  looks-refused : (fault : Fault) → UsesTable g.state table (ReadsRun H.fields.cluster_bits guest most) old.caches old.file (Err fault) new.caches new.file → LooksAt g guest most old (Err fault) new
+  looks-refused : (fault : Fault) → UsesTable g.state table (ReadsRun H.fields.cluster_bits guest most) (cached_file old.caches old.file) (Err fault) (cached_file new.caches new.file) → LooksAt g guest most old (Err fault) new
   looks-refused fault (inl r) =
       let found : TableFound g.state table old.caches old.file (Err fault) new.caches new.file = subst (λ x. TableFound g.state table old.caches old.file (Err x) new.caches new.file) (sym (cc r.1)) r.2 in
       let kept = (still new.caches (Err fault) found).0 in record {
@@ -186,13 +186,13 @@ module _ {S : Type 0} (g : Ghosts S) (guest most table : ℕ) (old new : Tables 
         cause = λ seen. absurd (err.1 (ap (λ (l : Layout). l.cluster_bits) (of-file (ReadsRun H.fields.cluster_bits guest most) (Err fault) u u.used.same seen).0));
       }
 
-  pub looks-used : (result : Result (L2Mapping × ℕ) Fault) → guest % words_of_cluster H.fields + most ≤ words_of_cluster H.fields → UsesTable g.state table (ReadsRun H.fields.cluster_bits guest most) old.caches old.file result new.caches new.file → LooksAt g guest most old result new
+  pub looks-used : (result : Result (L2Mapping × ℕ) Fault) → guest % words_of_cluster H.fields + most ≤ words_of_cluster H.fields → UsesTable g.state table (ReadsRun H.fields.cluster_bits guest most) (cached_file old.caches old.file) result (cached_file new.caches new.file) → LooksAt g guest most old result new
   looks-used (Ok run) whole used = looks-found run whole used
   looks-used (Err fault) whole used = looks-refused fault used
 
 -- What a look at a table leaves clean,
 pub clean-used : {S T : Type 0} (state : S → StorageState) (table : ℕ) (does : TableValue → Result T Fault → TableValue → Type 0) (old : MetadataCaches S) (before : ImageFile S) (result : Result T Fault) (new : MetadataCaches S) (after : ImageFile S)
-    → ((t t' : TableValue) (r : Result T Fault) → does t r t' → t' ≡ t) → AreTablesClean (cached_in old) × AreBlocksClean (cached_in old) → UsesTable state table does old before result new after → AreTablesClean (cached_in new) × AreBlocksClean (cached_in new)
+    → ((t t' : TableValue) (r : Result T Fault) → does t r t' → t' ≡ t) → AreTablesClean (cached_in old) × AreBlocksClean (cached_in old) → UsesTable state table does (cached_file old before) result (cached_file new after) → AreTablesClean (cached_in new) × AreBlocksClean (cached_in new)
 clean-used state table does old before result new after stays clean (inl r) = let still = r.2.still clean.0 clean.1 in (still.1, still.2)
 clean-used state table does old before result new after stays clean (inr u) =
     let still = u.found.still clean.0 clean.1 in
@@ -209,7 +209,7 @@ module _ {S : Type 0} (state : S → StorageState) (table : ℕ) (old : Metadata
     omega (arith, found.room.blocks, loose.3),
   )
 
-  pub loose-used : {T : Type 0} (does : TableValue → Result T Fault → TableValue → Type 0) (result : Result T Fault) (new : MetadataCaches S) (after : ImageFile S) → IsUnpinned old → UsesTable state table does old before result new after → IsUnpinned new
+  pub loose-used : {T : Type 0} (does : TableValue → Result T Fault → TableValue → Type 0) (result : Result T Fault) (new : MetadataCaches S) (after : ImageFile S) → IsUnpinned old → UsesTable state table does (cached_file old before) result (cached_file new after) → IsUnpinned new
   loose-used does result new after loose (inl r) = loose-found (Err r.0) new after r.2 loose
   loose-used does result new after loose (inr u) =
       let mid = loose-found (Ok tt) u.mid after u.found loose in

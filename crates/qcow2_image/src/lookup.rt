@@ -4,6 +4,7 @@ ghost use Rattle.qcow2_types.specs.Places.{l2_entries};
 ghost use Rattle.qcow2_metadata.specs.Tables.{mapping_in};
 ghost use Rattle.qcow2_metadata.specs.MappingView.{IsNamed};
 ghost use Rattle.qcow2_alloc.specs.Allocators.{UsesTable};
+ghost use Rattle.qcow2_alloc.specs.Caches.{cached_file};
 ghost use Rattle.qcow2_image.specs.Looking.{place_of_table, IsRunOf, ReadsRun, LooksAt};
 
 use crate::tables::Tables;
@@ -76,7 +77,7 @@ fn in_table<S: Storage>(
     requires some { 0 < most }
     requires fits { let bits = file.old.header.fields.cluster_bits in (guest + most) * 2 ^ bits < 2 ^ 64 + 2 ^ bits }
     ensures { let bits = file.old.header.fields.cluster_bits in
-        UsesTable S.state table (ReadsRun bits guest most) caches.old file.old result caches.new file.new }
+        UsesTable S.state table (ReadsRun bits guest most) (cached_file caches.old file.old) result (cached_file caches.new file.new) }
 {
     let cluster_bits = file.header.cluster_bits();
     match caches.l2_get_or_insert(file, table) {

@@ -23,7 +23,7 @@ use Rattle.qcow2_alloc.specs.declared.file.ImageFile.{ImageFile}
 use Rattle.qcow2_alloc.specs.Allocating.{Raises, RaisesCluster}
 use Rattle.qcow2_alloc.specs.Allocators.{metadata_of, named_block, UsesBlock, BlockUsed}
 use Rattle.qcow2_alloc.specs.Cache.{hit, victim}
-use Rattle.qcow2_alloc.specs.Caches.{cached_in, order_of}
+use Rattle.qcow2_alloc.specs.Caches.{cached_in, order_of, cached_file}
 use Rattle.qcow2_alloc.specs.Changes.{SetsCounter}
 use Rattle.qcow2_alloc.specs.Finding.{Sought, with_room}
 use Rattle.qcow2_alloc.specs.Memory.{Cached, memory, written_block}
@@ -103,7 +103,7 @@ module _ {S : Type 0} (state : S → StorageState) (table : TableValue) (pending
       ]
     ]
 
-    by-use : (key : ℕ) → named_block table i ≡ Some key → BlockUsed state key (Raises (c % counters_of_block before.header.fields)) old before (Ok tt) new after → Apart
+    by-use : (key : ℕ) → named_block table i ≡ Some key → BlockUsed state key (Raises (c % counters_of_block before.header.fields)) (cached_file old before) (Ok tt) (cached_file new after) → Apart
     by-use key names u =
         let f = bytes_of (state after.image).bytes in
         let mid : Cached = cached_in u.mid in
@@ -130,10 +130,10 @@ module _ {S : Type 0} (state : S → StorageState) (table : TableValue) (pending
         )
 
     -- The count of a cluster names nothing anew, and caches no block there.
-    pub counted-apart : RaisesCluster state table c old before (Ok tt) new after → Apart
+    pub counted-apart : RaisesCluster state table c (cached_file old before) (Ok tt) (cached_file new after) → Apart
     counted-apart = by-name (named_block table i) refl
       where
-        by-name : (o : Option ℕ) → named_block table i ≡ o → MatchOption o ((succeeded ≡ Err DamagedTable) × (new ≡ old) × (after ≡ before)) (λ key. UsesBlock state key (Raises (c % counters_of_block before.header.fields)) old before (Ok tt) new after) → Apart
+        by-name : (o : Option ℕ) → named_block table i ≡ o → MatchOption o ((succeeded ≡ Err DamagedTable) × (new ≡ old) × (after ≡ before)) (λ key. UsesBlock state key (Raises (c % counters_of_block before.header.fields)) (cached_file old before) (Ok tt) (cached_file new after)) → Apart
         by-name None names (is, same, same') = absurd (cc is)
         by-name (Some key) names (inl (fault, is, found)) = absurd (cc is)
         by-name (Some key) names (inr u) = by-use key names u

@@ -25,7 +25,7 @@ use Rattle.qcow2_alloc.specs.declared.file.ImageFile.{ImageFile}
 use Rattle.qcow2_alloc.specs.Allocating.{Raises, RaisesCluster, CountsRun}
 use Rattle.qcow2_alloc.specs.Allocators.{metadata_of, named_block, UsesBlock, BlockUsed}
 use Rattle.qcow2_alloc.specs.Cache.{hit}
-use Rattle.qcow2_alloc.specs.Caches.{cached_in, order_of}
+use Rattle.qcow2_alloc.specs.Caches.{cached_in, order_of, cached_file}
 use Rattle.qcow2_alloc.specs.CachesLending.{with_blocks}
 use Rattle.qcow2_alloc.specs.Changes.{CachesBlock, SetsCounter}
 use Rattle.qcow2_alloc.specs.Finding.{BlockFound, IsPinnedFull, WhyNotFound}
@@ -227,7 +227,7 @@ module _ {S : Type 0} (state : S → StorageState) (table : TableValue) (pending
           refl,
         )
 
-    used-run : (key : ℕ) → named_block table i ≡ Some key → BlockUsed state key Does old before result new after → CountsOne result new after
+    used-run : (key : ℕ) → named_block table i ≡ Some key → BlockUsed state key Does (cached_file old before) result (cached_file new after) → CountsOne result new after
     used-run key named u =
         let stays = used-stays state table key Does old before result new after u in
         let found = search-quietly state table key pending old before succeeded u.mid after u.found in
@@ -280,7 +280,7 @@ module _ {S : Type 0} (state : S → StorageState) (table : TableValue) (pending
         all-done (Ok done) = refl
         all-done (Err fault) = tt
 
-    pub one-counted : RaisesCluster state table c old before result new after → CountsOne result new after
+    pub one-counted : RaisesCluster state table c (cached_file old before) result (cached_file new after) → CountsOne result new after
     one-counted = by-name (named_block table i) refl
       where
         refused : named_block table i ≡ None → CountsOne (failed DamagedTable) old before
@@ -307,7 +307,7 @@ module _ {S : Type 0} (state : S → StorageState) (table : TableValue) (pending
             unnamed : (w bits : ℕ) → w ≢ 0 → (if w == 0 then None else Some (w / 2 ^ bits)) ≡ None → ⊥
             unnamed w bits some none = let no : Some (w / 2 ^ bits) ≡ None = sym (rw (ne_eqb w 0 some) refl) ∙ none in cc
 
-        by-name : (o : Option ℕ) → named_block table i ≡ o → MatchOption o ((result ≡ Err DamagedTable) × (new ≡ old) × (after ≡ before)) (λ key. UsesBlock state key Does old before result new after) → CountsOne result new after
+        by-name : (o : Option ℕ) → named_block table i ≡ o → MatchOption o ((result ≡ Err DamagedTable) × (new ≡ old) × (after ≡ before)) (λ key. UsesBlock state key Does (cached_file old before) result (cached_file new after)) → CountsOne result new after
         by-name None named (is, same, same') =
             subst (λ (q : Result Unit Fault). CountsOne q new after) (sym is)
             (subst (λ (m : MetadataCaches S). CountsOne (failed DamagedTable) m after) (sym same)
@@ -315,5 +315,5 @@ module _ {S : Type 0} (state : S → StorageState) (table : TableValue) (pending
         by-name (Some key) named (inl (fault, is, found)) = subst (λ (q : Result Unit Fault). CountsOne q new after) (sym is) (not-found key named fault found)
         by-name (Some key) named (inr u) = used-run key named u
 
-    pub cluster-counted : RaisesCluster state table c old before result new after → CountsRun state c 1 (lent table old before pending) result (lent table new after pending)
+    pub cluster-counted : RaisesCluster state table c (cached_file old before) result (cached_file new after) → CountsRun state c 1 (lent table old before pending) result (lent table new after pending)
     cluster-counted raises = (one-counted raises).0

@@ -23,7 +23,7 @@ use Rattle.qcow2_alloc.specs.declared.cache.MetadataCaches.{MetadataCaches}
 use Rattle.qcow2_alloc.specs.declared.file.ImageFile.{ImageFile}
 use Rattle.qcow2_alloc.specs.Allocating.{MakesBlock}
 use Rattle.qcow2_alloc.specs.Allocators.{metadata_of}
-use Rattle.qcow2_alloc.specs.Caches.{order_of}
+use Rattle.qcow2_alloc.specs.Caches.{order_of, cached_file}
 use Rattle.qcow2_alloc.specs.FillingBlocks.{IsBlockPlaced}
 use Rattle.qcow2_alloc.specs.FreeList.{listed}
 use Rattle.qcow2_alloc.specs.MakingBlocks.{NamesWritten}
@@ -127,7 +127,7 @@ module _ {S : Type 0} (state : S → StorageState) (mark index : ℕ) (s : Image
       elim (made.raised order keeps sound tt d) [ inl same ↦ absurd (omega (arith, same, up, own)) | inr both ↦ both.0 ]
 
   -- in a free cluster that another block counts,
-  pub placed-counted : (place : ℕ) (mid : MetadataCaches S) (between : ImageFile S) → LooksForFree state s.table mark (index * k) s.caches s.file (Ok (Some place)) mid between → place ≢ 0
+  pub placed-counted : (place : ℕ) (mid : MetadataCaches S) (between : ImageFile S) → LooksForFree state s.table mark (index * k) (cached_file s.caches s.file) (Ok (Some place)) (cached_file mid between) → place ≢ 0
       → block_offset (slice_index table'.words index) ≡ place * cluster_size s.file.header.fields → IsBlockPlaced mark index Old New
   placed-counted place mid between looks some named =
       let found = looks.found (sound-safe state s keeps sound) in
@@ -142,7 +142,7 @@ module _ {S : Type 0} (state : S → StorageState) (mark index : ℕ) (s : Image
       }
 
   -- or in the first one that it counts itself.
-  pub placed-own : (mid : MetadataCaches S) (between : ImageFile S) → LooksForFree state s.table mark (index * k) s.caches s.file (Ok None) mid between → index * k ≢ 0
+  pub placed-own : (mid : MetadataCaches S) (between : ImageFile S) → LooksForFree state s.table mark (index * k) (cached_file s.caches s.file) (Ok None) (cached_file mid between) → index * k ≢ 0
       → block_offset (slice_index table'.words index) ≡ index * k * cluster_size s.file.header.fields → IsBlockPlaced mark index Old New
   placed-own mid between looks some named =
       let all = looks.found (sound-safe state s keeps sound) in
@@ -155,7 +155,7 @@ module _ {S : Type 0} (state : S → StorageState) (mark index : ℕ) (s : Image
 
 -- The answer is not known yet.
 module _ {S : Type 0} (state : S → StorageState) (mark index : ℕ) (s : ImageState S) (mid : MetadataCaches S) (between : ImageFile S) (found : Option ℕ)
-    (looks : LooksForFree state s.table mark (index * counters_of_block s.file.header.fields) s.caches s.file (Ok found) mid between) (inside : index < length s.table.words) (empty : block_offset (slice_index s.table.words index) ≡ 0)
+    (looks : LooksForFree state s.table mark (index * counters_of_block s.file.header.fields) (cached_file s.caches s.file) (Ok found) (cached_file mid between)) (inside : index < length s.table.words) (empty : block_offset (slice_index s.table.words index) ≡ 0)
     (table' : TableValue) (new : MetadataCaches S) (after : ImageFile S) where
   abbrev Placed : Result Unit Fault → Type 0
   Placed result = order_of s.caches ≡ L2DependsOnRb → IsTrue (state s.file.image).shape.keeps → IsSound (metadata state s)
@@ -166,7 +166,7 @@ module _ {S : Type 0} (state : S → StorageState) (mark index : ℕ) (s : Image
   placed-found place is (Err fault) made at order keeps sound = tt
   placed-found place is (Ok done) made at order keeps sound =
       placed-counted state mark index s table' new after made inside empty order keeps sound place mid between
-      (subst (λ (o : Option ℕ). LooksForFree state s.table mark (index * counters_of_block s.file.header.fields) s.caches s.file (Ok o) mid between) is looks) at.0
+      (subst (λ (o : Option ℕ). LooksForFree state s.table mark (index * counters_of_block s.file.header.fields) (cached_file s.caches s.file) (Ok o) (cached_file mid between)) is looks) at.0
       (subst (λ (H : Header). block_offset (slice_index table'.words index) ≡ place * cluster_size H.fields) looks.looked.header at.1)
 
   pub placed-itself : found ≡ None → (result : Result Unit Fault) → MakesBlock state index s result (lent table' new after s.pending)
@@ -174,6 +174,6 @@ module _ {S : Type 0} (state : S → StorageState) (mark index : ℕ) (s : Image
   placed-itself is (Err fault) made at order keeps sound = tt
   placed-itself is (Ok done) made at order keeps sound =
       placed-own state mark index s table' new after made inside empty order keeps sound mid between
-      (subst (λ (o : Option ℕ). LooksForFree state s.table mark (index * counters_of_block s.file.header.fields) s.caches s.file (Ok o) mid between) is looks)
+      (subst (λ (o : Option ℕ). LooksForFree state s.table mark (index * counters_of_block s.file.header.fields) (cached_file s.caches s.file) (Ok o) (cached_file mid between)) is looks)
       (subst (λ (H : Header). index * counters_of_block H.fields ≢ 0) looks.looked.header at.0)
       (subst (λ (H : Header). block_offset (slice_index table'.words index) ≡ index * counters_of_block H.fields * cluster_size H.fields) looks.looked.header at.1)

@@ -23,7 +23,7 @@ use Rattle.qcow2_alloc.specs.declared.cache.MetadataCaches.{MetadataCaches}
 use Rattle.qcow2_alloc.specs.declared.file.ImageFile.{ImageFile}
 use Rattle.qcow2_alloc.specs.Allocating.{MakesBlock, OnlyRaised, RaisesCluster, CountsRun}
 use Rattle.qcow2_alloc.specs.Allocators.{metadata_of}
-use Rattle.qcow2_alloc.specs.Caches.{cached_in, order_of, HasRoomOf}
+use Rattle.qcow2_alloc.specs.Caches.{cached_in, order_of, HasRoomOf, cached_file}
 use Rattle.qcow2_alloc.specs.FreeList.{covers}
 use Rattle.qcow2_alloc.specs.Going.{Going, Always, WasNotCutOff, CountsWrites, AreTablesInReach, AreBlocksInReach, IsMild}
 use Rattle.qcow2_alloc.specs.MakingBlocks.{Begins, NamesWritten, IsFreePlace}
@@ -114,7 +114,7 @@ module _ {S : Type 0} (state : S → StorageState) (image : ImageState S) (i d :
   on keeps = keeps_on (state image.file.image) (state fA.image) begun.shape keeps
 
   -- The cluster is counted,
-  module _ (result : Result Unit Fault) (C : MetadataCaches S) (fC : ImageFile S) (raises : RaisesCluster state image.table d C1 fA result C fC) where
+  module _ (result : Result Unit Fault) (C : MetadataCaches S) (fC : ImageFile S) (raises : RaisesCluster state image.table d (cached_file C1 fA) result (cached_file C fC)) where
     abbrev run : CountsRun state d 1 (lent image.table C1 fA image.pending) result (lent image.table C fC image.pending)
     run = (one-counted state image.table image.pending d C1 fA result C fC raises).0
 
@@ -160,7 +160,7 @@ module _ {S : Type 0} (state : S → StorageState) (image : ImageState S) (i d :
       stays = record { header = run.header; order = run.order; loose = run.loose; room = run.room };
     }
 
-  pub uncounted-made : (fault : Fault) (C : MetadataCaches S) (fC : ImageFile S) → RaisesCluster state image.table d C1 fA (Err fault) C fC → MakesBlock state i image (Err fault) (lent image.table C fC image.pending)
+  pub uncounted-made : (fault : Fault) (C : MetadataCaches S) (fC : ImageFile S) → RaisesCluster state image.table d (cached_file C1 fA) (Err fault) (cached_file C fC) → MakesBlock state i image (Err fault) (lent image.table C fC image.pending)
   uncounted-made fault C fC raises =
       begins-refused state i image (λ _. 0) (more (Err fault) C fC raises) C1 fA C fC begin fault (counting (Err fault) C fC raises)
       (λ order keeps sound whole c. let none = more-none (Err fault) C fC raises (part-is (Err fault) C fC raises) c in omega (arith, none))
@@ -172,7 +172,7 @@ module _ {S : Type 0} (state : S → StorageState) (image : ImageState S) (i d :
       ))
       begin.loose begin.faults.0 fault (run (Err fault) C fC raises).cause)
 
-  module _ (C : MetadataCaches S) (fC : ImageFile S) (raises : RaisesCluster state image.table d C1 fA succeeded C fC) where
+  module _ (C : MetadataCaches S) (fC : ImageFile S) (raises : RaisesCluster state image.table d (cached_file C1 fA) succeeded (cached_file C fC)) where
     abbrev m2 : Metadata
     m2 = At C fC
 

@@ -10,7 +10,7 @@ use Rattle.qcow2_metadata.specs.Tables.{TableValue}
 use Rattle.qcow2_alloc.specs.declared.cache.MetadataCaches.{MetadataCaches}
 use Rattle.qcow2_alloc.specs.declared.file.ImageFile.{ImageFile}
 use Rattle.qcow2_alloc.specs.Allocators.{UsesBlock, BlockUsed, named_block}
-use Rattle.qcow2_alloc.specs.Caches.{cached_in, HasRoomOf, KeepsTables}
+use Rattle.qcow2_alloc.specs.Caches.{cached_in, HasRoomOf, KeepsTables, cached_file}
 use Rattle.qcow2_alloc.specs.Finding.{BlockFound, IsPinnedFull, PinsNothing, pinned_in}
 use Rattle.qcow2_alloc.specs.Freeing.{HasSpareRoom, IsLoose}
 use Rattle.qcow2_alloc.specs.Memory.{Cached, written, written_table}
@@ -96,7 +96,7 @@ module _ {S : Type 0} (state : S → StorageState) where
 
   -- and the use of what was found.
   pub used-keeps : {T : Type 0} (key : ℕ) (does : Block → Result T Fault → Block → Type 0) (old : MetadataCaches S) (before : ImageFile S) (result : Result T Fault) (new : MetadataCaches S) (after : ImageFile S)
-      → BlockUsed state key does old before result new after → KeepsPins old before new after
+      → BlockUsed state key does (cached_file old before) result (cached_file new after) → KeepsPins old before new after
   used-keeps key does old before result new after u =
       let mid = found-keeps key old before (Ok tt) u.mid after u.found in
       let room : KeepsTables old new = record {
@@ -114,17 +114,17 @@ module _ {S : Type 0} (state : S → StorageState) where
       }
 
   pub used-stays : {T : Type 0} (table : TableValue) (key : ℕ) (does : Block → Result T Fault → Block → Type 0) (old : MetadataCaches S) (before : ImageFile S) (result : Result T Fault) (new : MetadataCaches S) (after : ImageFile S)
-      → BlockUsed state key does old before result new after → StaysLoose table old before new after
+      → BlockUsed state key does (cached_file old before) result (cached_file new after) → StaysLoose table old before new after
   used-stays table key does old before result new after u = stays-loose table old before new after (used-keeps key does old before result new after u)
 
   pub uses-keeps : {T : Type 0} (key : ℕ) (does : Block → Result T Fault → Block → Type 0) (old : MetadataCaches S) (before : ImageFile S) (result : Result T Fault) (new : MetadataCaches S) (after : ImageFile S)
-      → UsesBlock state key does old before result new after → KeepsPins old before new after
+      → UsesBlock state key does (cached_file old before) result (cached_file new after) → KeepsPins old before new after
   uses-keeps key does old before result new after (inl (fault, is, found)) = found-keeps key old before (Err fault) new after found
   uses-keeps key does old before result new after (inr u) = used-keeps key does old before result new after u
 
   -- So does the use of a block that a word names, if it names one.
   pub named-keeps : {T : Type 0} (o : Option ℕ) (does : Block → Result T Fault → Block → Type 0) (Refused : Type 0) (old : MetadataCaches S) (before : ImageFile S) (result : Result T Fault) (new : MetadataCaches S) (after : ImageFile S)
-      → MatchOption o (Refused × (new ≡ old) × (after ≡ before)) (λ key. UsesBlock state key does old before result new after) → KeepsPins old before new after
+      → MatchOption o (Refused × (new ≡ old) × (after ≡ before)) (λ key. UsesBlock state key does (cached_file old before) result (cached_file new after)) → KeepsPins old before new after
   named-keeps None does Refused old before result new after (is, same, same') = record {
     header = ap (λ (f : ImageFile S). f.header) same';
     order = ap (λ (m : MetadataCaches S). m.order) same;

@@ -11,7 +11,7 @@ use Rattle.qcow2_alloc.specs.declared.cache.MetadataCaches.{MetadataCaches}
 use Rattle.qcow2_alloc.specs.declared.file.ImageFile.{ImageFile}
 use Rattle.qcow2_alloc.specs.Allocators.{UsesBlock}
 use Rattle.qcow2_alloc.specs.Cache.{hit}
-use Rattle.qcow2_alloc.specs.Caches.{cached_in}
+use Rattle.qcow2_alloc.specs.Caches.{cached_in, cached_file}
 use Rattle.qcow2_alloc.specs.CachesLending.{with_blocks}
 use Rattle.qcow2_alloc.specs.Finding.{BlockFound}
 use Rattle.qcow2_alloc.specs.State.{lent}
@@ -19,7 +19,7 @@ use Rattle.qcow2_alloc.specs.State.{lent}
 pub block-used : {S T : Type 0} (state : S → StorageState) (cluster : ℕ) (does : Block → Result T Fault → Block → Type 0) (old : MetadataCaches S) (before : ImageFile S) (new : MetadataCaches S) (after : ImageFile S) (lent : Result (MutBor Block) Fault) (block : MutBor Block) (result : Result T Fault) (block' : Block)
     → lent ≡ Ok block
     → (IsOk lent → (mid : MetadataCaches S) × BlockFound state cluster old before (Ok tt) mid after × IfOk lent (λ v. option_map (λ s. s.value) (lookup (nat_eq cluster) (cached_in mid).blocks) ≡ Some v.now) × (new ≡ with_blocks mid (hit (nat_eq cluster) (cached_in mid).blocks block')))
-    → does block.now result block' → UsesBlock state cluster does old before result new after
+    → does block.now result block' → UsesBlock state cluster does (cached_file old before) result (cached_file new after)
 block-used state cluster does old before new after lent block result block' is holds used =
     let h = subst (λ r. IsOk r → (mid : MetadataCaches _) × BlockFound state cluster old before (Ok tt) mid after × IfOk r (λ v. option_map (λ s. s.value) (lookup (nat_eq cluster) (cached_in mid).blocks) ≡ Some v.now) × (new ≡ with_blocks mid (hit (nat_eq cluster) (cached_in mid).blocks block'))) is holds refl in
     inr (record { mid = h.0; found = h.1; block = block.now; block' = block'; there = h.2; used = used; left = h.3 })

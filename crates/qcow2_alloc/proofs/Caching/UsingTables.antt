@@ -11,7 +11,7 @@ use Rattle.qcow2_alloc.specs.declared.cache.MetadataCaches.{MetadataCaches}
 use Rattle.qcow2_alloc.specs.declared.file.ImageFile.{ImageFile}
 use Rattle.qcow2_alloc.specs.Allocators.{UsesTable}
 use Rattle.qcow2_alloc.specs.Cache.{hit}
-use Rattle.qcow2_alloc.specs.Caches.{cached_in}
+use Rattle.qcow2_alloc.specs.Caches.{cached_in, cached_file}
 use Rattle.qcow2_alloc.specs.CachesLending.{with_tables}
 use Rattle.qcow2_alloc.specs.Finding.{TableFound}
 use Rattle.qcow2_alloc.specs.State.{lent}
@@ -19,7 +19,7 @@ use Rattle.qcow2_alloc.specs.State.{lent}
 pub table-used : {S T : Type 0} (state : S → StorageState) (cluster : ℕ) (does : TableValue → Result T Fault → TableValue → Type 0) (old : MetadataCaches S) (before : ImageFile S) (new : MetadataCaches S) (after : ImageFile S) (lent : Result (MutBor TableValue) Fault) (table : MutBor TableValue) (result : Result T Fault) (table' : TableValue)
     → lent ≡ Ok table
     → (IsOk lent → (mid : MetadataCaches S) × TableFound state cluster old before (Ok tt) mid after × IfOk lent (λ v. option_map (λ s. s.value) (lookup (nat_eq cluster) (cached_in mid).tables) ≡ Some v.now) × (new ≡ with_tables mid (hit (nat_eq cluster) (cached_in mid).tables table')))
-    → does table.now result table' → UsesTable state cluster does old before result new after
+    → does table.now result table' → UsesTable state cluster does (cached_file old before) result (cached_file new after)
 table-used state cluster does old before new after lent table result table' is holds used =
     let h = subst (λ r. IsOk r → (mid : MetadataCaches _) × TableFound state cluster old before (Ok tt) mid after × IfOk r (λ v. option_map (λ s. s.value) (lookup (nat_eq cluster) (cached_in mid).tables) ≡ Some v.now) × (new ≡ with_tables mid (hit (nat_eq cluster) (cached_in mid).tables table'))) is holds refl in
     inr (record { mid = h.0; found = h.1; table = table.now; table' = table'; there = h.2; used = used; left = h.3 })

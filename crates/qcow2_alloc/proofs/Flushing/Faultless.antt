@@ -10,6 +10,7 @@ use Rattle.qcow2_metadata.specs.Blocks.{Block}
 use Rattle.qcow2_alloc.specs.declared.cache.MetadataCaches.{MetadataCaches}
 use Rattle.qcow2_alloc.specs.declared.file.ImageFile.{ImageFile}
 use Rattle.qcow2_alloc.specs.Allocators.{UsesBlock}
+use Rattle.qcow2_alloc.specs.Caches.{cached_file}
 use Rattle.qcow2_alloc.specs.Cache.{is_mild, latest}
 use Rattle.qcow2_alloc.specs.Going.{IsMild, WasNotCutOff}
 
@@ -55,11 +56,11 @@ mild-later (Some earlier) (Err fault) mild = by-test (is_mild earlier) (is_mild 
 
 module _ {S T : Type 0} (state : S → StorageState) (does : Block → Result T Fault → Block → Type 0) (old : MetadataCaches S) (before : ImageFile S) (result : Result T Fault) (new : MetadataCaches S) (after : ImageFile S) where
   -- The use of a cached block fails no request where it wasn't cut off,
-  uses-faultless : (key : ℕ) → UsesBlock state key does old before result new after → WasNotCutOff result → IsFaultless (state before.image) (state after.image)
+  uses-faultless : (key : ℕ) → UsesBlock state key does (cached_file old before) result (cached_file new after) → WasNotCutOff result → IsFaultless (state before.image) (state after.image)
   uses-faultless key (inl (fault, is, found)) whole = found.going.faults (subst (λ (r : Result T Fault). WasNotCutOff r) is whole)
   uses-faultless key (inr used) whole = used.found.going.faults tt
 
   -- nor does that of one that a word names, if it names one.
-  pub named-faultless : (o : Option ℕ) (Refused : Type 0) → MatchOption o (Refused × (new ≡ old) × (after ≡ before)) (λ key. UsesBlock state key does old before result new after) → WasNotCutOff result → IsFaultless (state before.image) (state after.image)
+  pub named-faultless : (o : Option ℕ) (Refused : Type 0) → MatchOption o (Refused × (new ≡ old) × (after ≡ before)) (λ key. UsesBlock state key does (cached_file old before) result (cached_file new after)) → WasNotCutOff result → IsFaultless (state before.image) (state after.image)
   named-faultless None Refused refused whole = faultless-same (state before.image) (state after.image) (ap (λ (f : ImageFile S). state f.image) refused.2)
   named-faultless (Some key) Refused uses whole = uses-faultless key uses whole

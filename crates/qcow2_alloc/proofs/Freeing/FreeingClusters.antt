@@ -21,7 +21,7 @@ use Rattle.qcow2_alloc.specs.declared.cache.MetadataCaches.{MetadataCaches}
 use Rattle.qcow2_alloc.specs.declared.file.ImageFile.{ImageFile}
 use Rattle.qcow2_alloc.specs.Allocators.{metadata_of, named_block, Lowers, LowersCluster, UsesBlock, BlockUsed}
 use Rattle.qcow2_alloc.specs.Cache.{hit}
-use Rattle.qcow2_alloc.specs.Caches.{cached_in, order_of}
+use Rattle.qcow2_alloc.specs.Caches.{cached_in, order_of, cached_file}
 use Rattle.qcow2_alloc.specs.CachesLending.{with_blocks}
 use Rattle.qcow2_alloc.specs.Changes.{CachesBlock, IsStillCovered}
 use Rattle.qcow2_alloc.specs.Finding.{BlockFound, IsPinnedFull, WhyNotFound}
@@ -178,7 +178,7 @@ module _ {S : Type 0} (state : S → StorageState) (table : TableValue) where
       named-still : (key : ℕ) → named_block table (c / counters_of_block before.header.fields) ≡ Some key → after.header ≡ before.header → named_block table (c / counters_of_block after.header.fields) ≡ Some key
       named-still key named same = subst (λ (h : Header). named_block table (c / counters_of_block h.fields) ≡ Some key) (sym same) named
 
-      used-quietly : (key : ℕ) → named_block table (c / counters_of_block before.header.fields) ≡ Some key → BlockUsed state key (Lowers (c % counters_of_block before.header.fields)) old before result new after
+      used-quietly : (key : ℕ) → named_block table (c / counters_of_block before.header.fields) ≡ Some key → BlockUsed state key (Lowers (c % counters_of_block before.header.fields)) (cached_file old before) result (cached_file new after)
           → Quietly Done still still (state before.image) Old (state after.image) New
       used-quietly key named u =
           let header = u.found.others.1 in
@@ -188,7 +188,7 @@ module _ {S : Type 0} (state : S → StorageState) (table : TableValue) where
           (search-quietly key pending old before (Ok tt) u.mid after u.found)
           (lower-quietly key u.mid after (loses-still u.mid u.found.others.0) (named-still key named header) u.block u.there Done result u.block' lowers))
 
-      uses-quietly : (key : ℕ) → named_block table (c / counters_of_block before.header.fields) ≡ Some key → UsesBlock state key (Lowers (c % counters_of_block before.header.fields)) old before result new after
+      uses-quietly : (key : ℕ) → named_block table (c / counters_of_block before.header.fields) ≡ Some key → UsesBlock state key (Lowers (c % counters_of_block before.header.fields)) (cached_file old before) result (cached_file new after)
           → Quietly Done still still (state before.image) Old (state after.image) New
       uses-quietly key named (inl (fault, is, found)) =
           subst (λ (q : Result Unit Fault). Quietly (IsWholeOrCalm q (state before.image) (state after.image)) still still (state before.image) Old (state after.image) (At new after (left q))) (sym is) (search-calmly key pending old before (Err fault) new after found)
@@ -204,10 +204,10 @@ module _ {S : Type 0} (state : S → StorageState) (table : TableValue) where
           (subst (λ (f : ImageFile S). Quietly Done still still (state before.image) Old (state f.image) (At old f pending)) (sym same')
           (memory-quietly Done still still (state before.image) Old Old (λ sound whole. (sound, quiet-none Old sound)))))
 
-      pub cluster-freed : LowersCluster state table c old before result new after → Quietly Done still still (state before.image) Old (state after.image) New
+      pub cluster-freed : LowersCluster state table c (cached_file old before) result (cached_file new after) → Quietly Done still still (state before.image) Old (state after.image) New
       cluster-freed = by-name (named_block table (c / counters_of_block before.header.fields)) refl
         where
-          by-name : (o : Option ℕ) → named_block table (c / counters_of_block before.header.fields) ≡ o → MatchOption o Nothing (λ key. UsesBlock state key (Lowers (c % counters_of_block before.header.fields)) old before result new after)
+          by-name : (o : Option ℕ) → named_block table (c / counters_of_block before.header.fields) ≡ o → MatchOption o Nothing (λ key. UsesBlock state key (Lowers (c % counters_of_block before.header.fields)) (cached_file old before) result (cached_file new after))
               → Quietly Done still still (state before.image) Old (state after.image) New
           by-name None named nothing = stays-quietly nothing
           by-name (Some key) named uses = uses-quietly key named uses
@@ -233,7 +233,7 @@ module _ {S : Type 0} (state : S → StorageState) (table : TableValue) where
       by-search key named waits CacheFull why = λ spare. let full = full-pinned (cached_in old).blocks why in omega (arith, full, spare)
       by-search key named waits other why = absurd why
 
-      used-caused : (key : ℕ) → named_block table (c / counters_of_block before.header.fields) ≡ Some key → BlockUsed state key (Lowers (c % counters_of_block before.header.fields)) old before result new after → 0 < listed pending c → Counts result
+      used-caused : (key : ℕ) → named_block table (c / counters_of_block before.header.fields) ≡ Some key → BlockUsed state key (Lowers (c % counters_of_block before.header.fields)) (cached_file old before) result (cached_file new after) → 0 < listed pending c → Counts result
       used-caused key named u waits =
           let header = u.found.others.1 in
           let lowers : Lowers (c % counters_of_block after.header.fields) u.block result u.block' = subst (λ (h : Header). Lowers (c % counters_of_block h.fields) u.block result u.block') (sym header) u.used in
@@ -247,14 +247,14 @@ module _ {S : Type 0} (state : S → StorageState) (table : TableValue) where
             ]
           ]
 
-      pub freeing-caused : LowersCluster state table c old before result new after → 0 < listed pending c → Counts result
+      pub freeing-caused : LowersCluster state table c (cached_file old before) result (cached_file new after) → 0 < listed pending c → Counts result
       freeing-caused = by-name (named_block table (c / counters_of_block before.header.fields)) refl
         where
-          by-uses : (key : ℕ) → named_block table (c / counters_of_block before.header.fields) ≡ Some key → UsesBlock state key (Lowers (c % counters_of_block before.header.fields)) old before result new after → 0 < listed pending c → Counts result
+          by-uses : (key : ℕ) → named_block table (c / counters_of_block before.header.fields) ≡ Some key → UsesBlock state key (Lowers (c % counters_of_block before.header.fields)) (cached_file old before) result (cached_file new after) → 0 < listed pending c → Counts result
           by-uses key named (inl (fault, is, found)) waits = subst (λ (q : Result Unit Fault). Counts q) (sym is) (by-search key named waits fault found.cause)
           by-uses key named (inr u) waits = used-caused key named u waits
 
-          by-name : (o : Option ℕ) → named_block table (c / counters_of_block before.header.fields) ≡ o → MatchOption o Nothing (λ key. UsesBlock state key (Lowers (c % counters_of_block before.header.fields)) old before result new after) → 0 < listed pending c → Counts result
+          by-name : (o : Option ℕ) → named_block table (c / counters_of_block before.header.fields) ≡ o → MatchOption o Nothing (λ key. UsesBlock state key (Lowers (c % counters_of_block before.header.fields)) (cached_file old before) result (cached_file new after)) → 0 < listed pending c → Counts result
           by-name None named nothing waits = subst (λ (q : Result Unit Fault). Counts q) (sym nothing.0) (λ holds.
               let was = holds.1.covered c in
               let there = counted-block Old holds.1 c (omega (arith, was, waits)) in
@@ -262,7 +262,7 @@ module _ {S : Type 0} (state : S → StorageState) (table : TableValue) where
           by-name (Some key) named uses waits = by-uses key named uses waits
 
       -- Other clusters are counted as they were.
-      pub counts-stay : LowersCluster state table c old before result new after → Holds → Done → (d : ℕ) → d ≢ c → counted New d ≡ counted Old d
+      pub counts-stay : LowersCluster state table c (cached_file old before) result (cached_file new after) → Holds → Done → (d : ℕ) → d ≢ c → counted New d ≡ counted Old d
       counts-stay = by-name (named_block table (c / counters_of_block before.header.fields)) refl
         where
           in-mid : (key : ℕ) (answer : Result Unit Fault) (mid : MetadataCaches S) → BlockFound state key old before answer mid after → Holds → IsWholeOrCalm answer (state before.image) (state after.image) → (d : ℕ) → counted (At mid after pending) d ≡ counted Old d
@@ -270,7 +270,7 @@ module _ {S : Type 0} (state : S → StorageState) (table : TableValue) where
               let settled = found.going.holds holds.0 holds.1.safe tt why in
               subst (λ (h : Header). count (memory (bytes_of (state after.image).bytes) h.fields (cached_in mid)) h.fields d ≡ counted Old d) (sym found.others.1) (ap (λ g. count g before.header.fields d) settled.memory_same)
 
-          by-used : (key : ℕ) → named_block table (c / counters_of_block before.header.fields) ≡ Some key → BlockUsed state key (Lowers (c % counters_of_block before.header.fields)) old before result new after → Holds → (d : ℕ) → d ≢ c → counted New d ≡ counted Old d
+          by-used : (key : ℕ) → named_block table (c / counters_of_block before.header.fields) ≡ Some key → BlockUsed state key (Lowers (c % counters_of_block before.header.fields)) (cached_file old before) result (cached_file new after) → Holds → (d : ℕ) → d ≢ c → counted New d ≡ counted Old d
           by-used key named u holds d away =
               let header = u.found.others.1 in
               let lowers : Lowers (c % counters_of_block after.header.fields) u.block result u.block' = subst (λ (h : Header). Lowers (c % counters_of_block h.fields) u.block result u.block') (sym header) u.used in
@@ -278,15 +278,15 @@ module _ {S : Type 0} (state : S → StorageState) (table : TableValue) where
               (others-counted key u.mid after (loses-still u.mid u.found.others.0) (named-still key named header) u.block u.there ((search-quietly key pending old before (Ok tt) u.mid after u.found).holds holds.0 holds.1 tt).0 result u.block' lowers d away
               ∙ in-mid key (Ok tt) u.mid u.found holds (inl tt) d)
 
-          by-uses : (key : ℕ) → named_block table (c / counters_of_block before.header.fields) ≡ Some key → UsesBlock state key (Lowers (c % counters_of_block before.header.fields)) old before result new after → Holds → Done → (d : ℕ) → d ≢ c → counted New d ≡ counted Old d
+          by-uses : (key : ℕ) → named_block table (c / counters_of_block before.header.fields) ≡ Some key → UsesBlock state key (Lowers (c % counters_of_block before.header.fields)) (cached_file old before) result (cached_file new after) → Holds → Done → (d : ℕ) → d ≢ c → counted New d ≡ counted Old d
           by-uses key named (inl (fault, is, found)) holds why d away = in-mid key (Err fault) new found holds (subst (λ (q : Result Unit Fault). IsWholeOrCalm q (state before.image) (state after.image)) is why) d
           by-uses key named (inr u) holds why d away = by-used key named u holds d away
 
-          by-name : (o : Option ℕ) → named_block table (c / counters_of_block before.header.fields) ≡ o → MatchOption o Nothing (λ key. UsesBlock state key (Lowers (c % counters_of_block before.header.fields)) old before result new after)
+          by-name : (o : Option ℕ) → named_block table (c / counters_of_block before.header.fields) ≡ o → MatchOption o Nothing (λ key. UsesBlock state key (Lowers (c % counters_of_block before.header.fields)) (cached_file old before) result (cached_file new after))
               → Holds → Done → (d : ℕ) → d ≢ c → counted New d ≡ counted Old d
           by-name None named (is, same, same') holds why d away =
               subst (λ (m : MetadataCaches S). counted (At m after (left result)) d ≡ counted Old d) (sym same) (subst (λ (f : ImageFile S). counted (At old f (left result)) d ≡ counted Old d) (sym same') refl)
           by-name (Some key) named uses holds why d away = by-uses key named uses holds why d away
 
-      pub freeing-stays : LowersCluster state table c old before result new after → KeepsPins old before new after
+      pub freeing-stays : LowersCluster state table c (cached_file old before) result (cached_file new after) → KeepsPins old before new after
       freeing-stays = named-keeps state (named_block table (c / counters_of_block before.header.fields)) (Lowers (c % counters_of_block before.header.fields)) (result ≡ Err DamagedTable) old before result new after

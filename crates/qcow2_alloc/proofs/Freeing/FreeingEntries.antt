@@ -18,7 +18,7 @@ use Rattle.qcow2_alloc.specs.declared.cache.CacheDependency.{CacheDependency}
 use Rattle.qcow2_alloc.specs.declared.cache.MetadataCaches.{MetadataCaches}
 use Rattle.qcow2_alloc.specs.declared.file.ImageFile.{ImageFile}
 use Rattle.qcow2_alloc.specs.Allocators.{metadata_of, LowersCluster, named_block, Lowers}
-use Rattle.qcow2_alloc.specs.Caches.{cached_in, order_of}
+use Rattle.qcow2_alloc.specs.Caches.{cached_in, order_of, cached_file}
 use Rattle.qcow2_alloc.specs.Freeing.{IsUnbarred, Frees, MayFree, WhyNotFreed, WhyNotCounted, CountsFreeing, IsWholeOrCalm}
 use Rattle.qcow2_alloc.specs.FreeList.{entry_at, shorter, shortened, listed}
 use Rattle.qcow2_alloc.specs.Going.{WasNotCutOff}
@@ -102,7 +102,7 @@ module _ {S : Type 0} (state : S → StorageState) (table : TableValue) (es : Li
   ]
   fell mark (Err fault) = inl refl
 
-  pub last-freed : (old : MetadataCaches S) (before : ImageFile S) (mark : ℕ) (result : Result Unit Fault) (new : MetadataCaches S) (after : ImageFile S) → MayFree (order_of old) (entry_at es i) → LowersCluster state table c old before result new after
+  pub last-freed : (old : MetadataCaches S) (before : ImageFile S) (mark : ℕ) (result : Result Unit Fault) (new : MetadataCaches S) (after : ImageFile S) → MayFree (order_of old) (entry_at es i) → LowersCluster state table c (cached_file old before) result (cached_file new after)
       → Frees state mark (lent table old before es) result (lent table new after (left state table c es (shortened es i 1) result)) (moved mark result)
   last-freed old before mark result new after may lowers =
       let l = loses old may in

@@ -19,7 +19,7 @@ use Rattle.qcow2_alloc.specs.declared.cache.MetadataCaches.{MetadataCaches}
 use Rattle.qcow2_alloc.specs.declared.file.ImageFile.{ImageFile}
 use Rattle.qcow2_alloc.specs.Allocating.{Allocating, MovedTable, WhyNotAllocated}
 use Rattle.qcow2_alloc.specs.Allocators.{metadata_of}
-use Rattle.qcow2_alloc.specs.Caches.{cached_in, order_of}
+use Rattle.qcow2_alloc.specs.Caches.{cached_in, order_of, cached_file}
 use Rattle.qcow2_alloc.specs.FreeList.{covers}
 use Rattle.qcow2_alloc.specs.Freeing.{IsLoose, WhyNotCounted}
 use Rattle.qcow2_alloc.specs.Going.{WasNotCutOff, IsMild}
@@ -41,7 +41,7 @@ use Rattle.qcow2_alloc.proofs.Quiet.QuietGiven.{quietly-given, quietly-then-give
 use Rattle.qcow2_alloc.proofs.Quiet.QuietThen.{quietly-otherwise}
 
 -- What a search does is what a call does that counts nothing.
-module _ {S T : Type 0} (state : S → StorageState) (s : ImageState S) (C : MetadataCaches S) (fC : ImageFile S) (result : Result T Fault) (looked : Looked state s.table s.caches s.file result C fC) where
+module _ {S T : Type 0} (state : S → StorageState) (s : ImageState S) (C : MetadataCaches S) (fC : ImageFile S) (result : Result T Fault) (looked : Looked state s.table (cached_file s.caches s.file) result (cached_file C fC)) where
   abbrev m0 : Metadata
   m0 = metadata state s
 
@@ -114,14 +114,14 @@ module _ {S : Type 0} (state : S → StorageState) (mark at : ℕ) (image : Imag
       by-fault other why = absurd why
 
   -- or the search for a room was refused,
-  pub no-room : (fault : Fault) (C : MetadataCaches S) (fC : ImageFile S) → Looked state {T = Run} image.table image.caches image.file (Err fault) C fC → GrowsTable state mark at image (failed fault) (lent image.table C fC image.pending)
+  pub no-room : (fault : Fault) (C : MetadataCaches S) (fC : ImageFile S) → Looked state {T = Run} image.table (cached_file image.caches image.file) (Err fault) (cached_file C fC) → GrowsTable state mark at image (failed fault) (lent image.table C fC image.pending)
   no-room fault C fC looked =
       not-grown fault C fC (looked-allocates {T = Run} state image C fC (Err fault) looked) looked.header
       (λ keeps sound number is. looked-counts {T = Run} state image C fC (Err fault) looked keeps sound (subst (λ (f : Fault). WasNotCutOff {T = Run} (Err f)) (sym is) tt))
       (allocated-wider _ _ _ _ _ _ _ _ (λ known. safe-with known.0 known.2) (loose-all image.table image.caches) refl fault looked.cause)
 
   -- A room was found for a copy.
-  module _ (room : Run) (copy : TableValue) (from n : ℕ) (C : MetadataCaches S) (fC : ImageFile S) (looks : LooksForRoom state image.table from n image.caches image.file (Ok room) C fC) (from_is : from ≡ min mark (length image.table.words * counters_of_block image.file.header.fields))
+  module _ (room : Run) (copy : TableValue) (from n : ℕ) (C : MetadataCaches S) (fC : ImageFile S) (looks : LooksForRoom state image.table from n (cached_file image.caches image.file) (Ok room) (cached_file C fC)) (from_is : from ≡ min mark (length image.table.words * counters_of_block image.file.header.fields))
       (n_is : n ≡ clusters_of copy image.file.header.fields.cluster_bits) (long : IsGrownLength (words_of_cluster image.file.header.fields) (counters_of_block image.file.header.fields) at (length copy.words))
       (whole : clusters_of copy image.file.header.fields.cluster_bits * words_of_cluster image.file.header.fields ≡ length copy.words) where
     abbrev h : Fields
@@ -181,7 +181,7 @@ module _ {S : Type 0} (state : S → StorageState) (mark at : ℕ) (image : Imag
       abbrev end : Metadata
       end = metadata state sD
 
-      abbrev looked : Looked state image.table image.caches image.file (Ok room) C fC
+      abbrev looked : Looked state image.table (cached_file image.caches image.file) (Ok room) (cached_file C fC)
       looked = looks.looked
 
       plan : IsPlan h image.table room placed

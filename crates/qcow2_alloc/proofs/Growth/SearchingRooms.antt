@@ -14,10 +14,11 @@ use Rattle.qcow2_alloc.specs.Growing.{lacking, needed_for, GrowsRoom, IsRoom, Is
 use Rattle.qcow2_alloc.specs.SearchingClusters.{counts_in, IsSafeWith, Looked, LooksForRun}
 use Rattle.qcow2_alloc.proofs.Growth.FindingRoom.{room-first, room-found, lacking-longer, needed-few}
 use Rattle.qcow2_alloc.proofs.Searching.Looking.{looked-answer, looked-refused, looked-then, safe-still, counts-still}
+use Rattle.qcow2_alloc.specs.Caches.{cached_file}
 
 -- How far it has come.
 pub record RoomSearched {S : Type 0} (state : S → StorageState) (table : TableValue) (from n : ℕ) (old : MetadataCaches S) (before : ImageFile S) (run : Run) (new : MetadataCaches S) (after : ImageFile S) : Type 0 where
-  pub looked : Looked state {T = Unit {0}} table old before (Ok tt) new after
+  pub looked : Looked state {T = Unit {0}} table (cached_file old before) (Ok tt) (cached_file new after)
   pub within : run.first ≤ length table.words * counters_of_block before.header.fields
   pub long : n ≤ run.len
   pub short : run.len ≤ needed_for table (counters_of_block before.header.fields) n run
@@ -44,7 +45,7 @@ module _ {S : Type 0} (state : S → StorageState) (table : TableValue) (from n 
   B = length table.words * k
 
   -- It begins with the first run,
-  pub rooms-first : from ≤ length table.words * counters_of_block before.header.fields → (z : ℕ) (new : MetadataCaches S) (after : ImageFile S) → LooksForRun state table from n old before (Ok z) new after
+  pub rooms-first : from ≤ length table.words * counters_of_block before.header.fields → (z : ℕ) (new : MetadataCaches S) (after : ImageFile S) → LooksForRun state table from n (cached_file old before) (Ok z) (cached_file new after)
       → RoomSearched state table from n old before (record { first = z; len = n }) new after
   rooms-first near z new after looks = record {
     looked = looked-answer state table old before z tt new after looks.looked;
@@ -55,7 +56,7 @@ module _ {S : Type 0} (state : S → StorageState) (table : TableValue) (from n 
     so_far = λ sound. room-first table k (counts_in state old before) from n from z (omega arith) (λ y t above below. absurd (omega (arith, above, below))) (looks.found sound);
   }
 
-  pub rooms-refused : (fault : Fault) (new : MetadataCaches S) (after : ImageFile S) → LooksForRun state table from n old before (Err fault) new after → LooksForRoom state table from n old before (Err fault) new after
+  pub rooms-refused : (fault : Fault) (new : MetadataCaches S) (after : ImageFile S) → LooksForRun state table from n (cached_file old before) (Err fault) (cached_file new after) → LooksForRoom state table from n (cached_file old before) (Err fault) (cached_file new after)
   rooms-refused fault new after looks = record { looked = looked-refused state table old before fault new after looks.looked; found = λ sound. tt }
 
   module _ (run : Run) (mid : MetadataCaches S) (between : ImageFile S) (searched : RoomSearched state table from n old before run mid between) where
@@ -63,7 +64,7 @@ module _ {S : Type 0} (state : S → StorageState) (table : TableValue) (from n 
     needed = needed_for table k n run
 
     -- ends where nothing more is lacking,
-    pub rooms-found : needed ≤ run.len → LooksForRoom state table from n old before (Ok run) mid between
+    pub rooms-found : needed ≤ run.len → LooksForRoom state table from n (cached_file old before) (Ok run) (cached_file mid between)
     rooms-found all = record {
       looked = looked-answer state table old before tt run mid between searched.looked;
       found = λ sound. room-found table k (counts_in state old before) from n run (searched.so_far sound) (let le = searched.short in omega (arith, all, le));
@@ -73,12 +74,12 @@ module _ {S : Type 0} (state : S → StorageState) (table : TableValue) (from n 
     same-k = ap (λ (h : Header). counters_of_block h.fields) searched.looked.header
 
     -- or is refused,
-    pub rooms-not-grown : (fault : Fault) (new : MetadataCaches S) (after : ImageFile S) → GrowsRoom state table n (needed_for table (counters_of_block before.header.fields) n run) run mid between (Err fault) new after → LooksForRoom state table from n old before (Err fault) new after
+    pub rooms-not-grown : (fault : Fault) (new : MetadataCaches S) (after : ImageFile S) → GrowsRoom state table n run (cached_file mid between) (Err fault) (cached_file new after) → LooksForRoom state table from n (cached_file old before) (Err fault) (cached_file new after)
     rooms-not-grown fault new after grows = record { looked = looked-refused state table old before fault new after (looked-then state table old before tt mid between (Err fault) new after searched.looked grows.looked); found = λ sound. tt }
 
     -- or goes on.
     module _ (wide : 64 ≤ counters_of_block before.header.fields) (now : Run) (new : MetadataCaches S) (after : ImageFile S) (short : run.len < needed_for table (counters_of_block before.header.fields) n run)
-        (grows : GrowsRoom state table n (needed_for table (counters_of_block before.header.fields) n run) run mid between (Ok now) new after) where
+        (grows : GrowsRoom state table n run (cached_file mid between) (Ok now) (cached_file new after)) where
       near : now.first ≤ max (run.first + 1) B
       near = subst (λ m. now.first ≤ max (run.first + 1) (length table.words * m)) same-k grows.near
 
@@ -92,23 +93,26 @@ module _ {S : Type 0} (state : S → StorageState) (table : TableValue) (from n 
       so_far sound =
           let same = counts-still state table old before tt mid between searched.looked sound in
           let was = so-far-same table k (counts_in state old before) (counts_in state mid between) from n run same (searched.so_far sound) in
-          let going = grows.so_far (safe-still state table old before tt mid between searched.looked sound) from (ap (λ m. needed_for table m n run) (sym same-k))
+          let going = grows.so_far (safe-still state table old before tt mid between searched.looked sound) from
           (subst (λ m. IsRoomSoFar table m (counts_in state mid between) from n run) (sym same-k) was) in
           so-far-same table k (counts_in state mid between) (counts_in state old before) from n now (λ c. sym (same c)) (subst (λ m. IsRoomSoFar table m (counts_in state mid between) from n now) same-k going)
+
+      longer : now.len ≡ needed_for table (counters_of_block between.header.fields) n run → now.len ≡ needed
+      longer is = is ∙ ap (λ m. needed_for table m n run) same-k
 
       pub rooms-then : RoomSearched state table from n old before now new after
       rooms-then = elim grows.further [
         | inl here ↦ record {
           looked = looked;
           within = let is = here.0 in let le = searched.within in omega (arith, is, le);
-          long = let is = here.1 in omega (arith, is);
+          long = let is = longer here.1 in omega (arith, is);
           short =
-              let is = here.1 in
+              let is = longer here.1 in
               let less = searched.short in
               let more : lacking table k run.first run.len ≤ lacking table k now.first now.len =
               subst (λ z. lacking table k run.first run.len ≤ lacking table k z now.len) (sym here.0) (lacking-longer table k run.first run.len now.len (omega (arith, is, less))) in
               omega (arith, is, more);
-          few = let is = here.1 in let le = few in omega (arith, is, le);
+          few = let is = longer here.1 in let le = few in omega (arith, is, le);
           so_far = so_far;
         }
         | inr behind ↦ record {
@@ -121,7 +125,7 @@ module _ {S : Type 0} (state : S → StorageState) (table : TableValue) (from n 
         }
       ]
         where
-          looked : Looked state {T = Unit {0}} table old before (Ok tt) new after
+          looked : Looked state {T = Unit {0}} table (cached_file old before) (Ok tt) (cached_file new after)
           looked = looked-answer state table old before now tt new after (looked-then state table old before tt mid between (Ok now) new after searched.looked grows.looked)
 
       -- The measure falls.
@@ -130,7 +134,7 @@ module _ {S : Type 0} (state : S → StorageState) (table : TableValue) (from n 
       rooms-fewer = elim grows.further [
         | inl here ↦
             let first : (B + 1 - now.first) * (2 * n + 5) ≡ (B + 1 - run.first) * (2 * n + 5) = ap (λ z. (B + 1 - z) * (2 * n + 5)) here.0 in
-            let is = here.1 in
+            let is = longer here.1 in
             let le = few in
             omega (arith, first, is, le, short)
         | inr behind ↦

@@ -16,7 +16,7 @@ use Rattle.qcow2_alloc.specs.declared.cache.MetadataCaches.{MetadataCaches}
 use Rattle.qcow2_alloc.specs.declared.file.ImageFile.{ImageFile}
 use Rattle.qcow2_alloc.specs.Allocating.{Allocating, OnlyRaised}
 use Rattle.qcow2_alloc.specs.Allocators.{metadata_of}
-use Rattle.qcow2_alloc.specs.Caches.{order_of}
+use Rattle.qcow2_alloc.specs.Caches.{order_of, cached_file}
 use Rattle.qcow2_alloc.specs.Freeing.{IsLoose, IsMarked, WhyNotCounted}
 use Rattle.qcow2_alloc.specs.FreeList.{covers}
 use Rattle.qcow2_alloc.specs.Going.{WasNotCutOff}
@@ -62,7 +62,7 @@ module _ {S : Type 0} (state : S → StorageState) (mark cluster : ℕ) (s : Ima
   k = counters_of_block s.file.header.fields
 
   abbrev Looks : Result (Option ℕ) Fault → MetadataCaches S → ImageFile S → Type 0
-  Looks result mid between = LooksForFree state s.table cluster ((cluster / k + 1) * k) s.caches s.file result mid between
+  Looks result mid between = LooksForFree state s.table cluster ((cluster / k + 1) * k) (cached_file s.caches s.file) result (cached_file mid between)
 
   -- The search was refused,
   pub search-refused : (fault : Fault) (mid : MetadataCaches S) (between : ImageFile S) → Looks (Err fault) mid between → AllocatesAt state (λ _. ⊥) mark cluster s (not_handed fault) (lent s.table mid between s.pending) mark

@@ -8,6 +8,7 @@ use Rattle.qcow2_types.specs.Pending.{FreeEntry}
 use Rattle.qcow2_alloc.specs.declared.cache.MetadataCaches.{MetadataCaches}
 use Rattle.qcow2_alloc.specs.declared.file.ImageFile.{ImageFile}
 use Rattle.qcow2_alloc.specs.Allocating.{RaisesCluster}
+use Rattle.qcow2_alloc.specs.Caches.{cached_file}
 use Rattle.qcow2_alloc.specs.Freeing.{IsLoose, WhyNotCounted}
 use Rattle.qcow2_alloc.specs.FreeList.{covers}
 use Rattle.qcow2_alloc.specs.HandingOutOne.{CountsOne}
@@ -60,13 +61,13 @@ module _ {S : Type 0} (state : S → StorageState) (s : ImageState S) (c : ℕ) 
   pub first-uncounted : c ≡ 0 → CountsOne state c s (not_handed DamagedTable) s
   first-uncounted first = uncounted DamagedTable (λ sound from holds. let both = from holds in let some = first-counted Old both.0 in let zero = subst (λ n. counted Old n ≡ 0) first both.1 in omega (arith, some, zero))
 
-  pub raised-one : (new : MetadataCaches S) (after : ImageFile S) → c ≢ 0 → (found : Option FreeEntry) → found ≡ Some (record { first = c; count = 1; metadata = false }) → RaisesCluster state s.table c s.caches s.file (Ok tt) new after
+  pub raised-one : (new : MetadataCaches S) (after : ImageFile S) → c ≢ 0 → (found : Option FreeEntry) → found ≡ Some (record { first = c; count = 1; metadata = false }) → RaisesCluster state s.table c (cached_file s.caches s.file) (Ok tt) (cached_file new after)
       → CountsOne state c s (handed_so found) (lent s.table new after s.pending)
   raised-one new after some found is raises =
       let one = one-counted state s.table s.pending c s.caches s.file (Ok tt) new after raises in
       record { counts = one.0; exact = tt; entry = is; some = some }
 
-  pub unraised-one : (new : MetadataCaches S) (after : ImageFile S) (fault : Fault) → RaisesCluster state s.table c s.caches s.file (Err fault) new after → CountsOne state c s (not_handed fault) (lent s.table new after s.pending)
+  pub unraised-one : (new : MetadataCaches S) (after : ImageFile S) (fault : Fault) → RaisesCluster state s.table c (cached_file s.caches s.file) (Err fault) (cached_file new after) → CountsOne state c s (not_handed fault) (lent s.table new after s.pending)
   unraised-one new after fault raises =
       let one = one-counted state s.table s.pending c s.caches s.file (Err fault) new after raises in
       record { counts = one.0; exact = one.1; entry = tt; some = tt }

@@ -21,7 +21,7 @@ use Rattle.qcow2_alloc.specs.declared.cache.MetadataCaches.{MetadataCaches}
 use Rattle.qcow2_alloc.specs.declared.file.ImageFile.{ImageFile}
 use Rattle.qcow2_alloc.specs.Allocating.{Allocating, MovedTable, WhyNotAllocated, missing}
 use Rattle.qcow2_alloc.specs.Allocators.{metadata_of}
-use Rattle.qcow2_alloc.specs.Caches.{order_of}
+use Rattle.qcow2_alloc.specs.Caches.{order_of, cached_file}
 use Rattle.qcow2_alloc.specs.Freeing.{IsLoose}
 use Rattle.qcow2_alloc.specs.GrowingTables.{IsLengthenedByTable, NoPlaceToGrow, table_run}
 use Rattle.qcow2_alloc.specs.Going.{WasNotCutOff}
@@ -118,7 +118,7 @@ module _ {S : Type 0} (state : S → StorageState) (s : ImageState S) where
         (allocating-then state ⊤ (WasNotCutOff result) (λ _. 0) leaked s sA sB tt so_far.step step)
 
     -- It goes on with a search,
-    pub readying-searched : (mark n z : ℕ) (B : MetadataCaches S) (fB : ImageFile S) → LooksForRun state sA.table mark n sA.caches sA.file (Ok z) B fB → Readying state s (lent sA.table B fB sA.pending)
+    pub readying-searched : (mark n z : ℕ) (B : MetadataCaches S) (fB : ImageFile S) → LooksForRun state sA.table mark n (cached_file sA.caches sA.file) (Ok z) (cached_file B fB) → Readying state s (lent sA.table B fB sA.pending)
     readying-searched mark n z B fB looks = record {
       step = step-on {T = ℕ} (Ok z) (λ _. 0) (lent sA.table B fB sA.pending) (looked-allocates state sA ℕ (Ok z) B fB looks.looked);
       list = elim so_far.list [ inl same ↦ inl (same.0, looks.looked.header ∙ same.1, same.2) | inr longer ↦ inr longer ];
@@ -144,7 +144,7 @@ module _ {S : Type 0} (state : S → StorageState) (s : ImageState S) where
     }
 
     -- and where there was room for it there is still.
-    pub stays-found : (mark n z : ℕ) → 1 ≤ n → (B : MetadataCaches S) (fB : ImageFile S) → LooksForRun state sA.table mark n sA.caches sA.file (Ok z) B fB → Stays mark n sA → Stays mark n (lent sA.table B fB sA.pending)
+    pub stays-found : (mark n z : ℕ) → 1 ≤ n → (B : MetadataCaches S) (fB : ImageFile S) → LooksForRun state sA.table mark n (cached_file sA.caches sA.file) (Ok z) (cached_file B fB) → Stays mark n sA → Stays mark n (lent sA.table B fB sA.pending)
     stays-found mark n z some B fB looks stays holds =
         let there = holds-on holds in
         let m = metadata state s in
@@ -171,7 +171,7 @@ module _ {S : Type 0} (state : S → StorageState) (s : ImageState S) where
         }
 
     -- or is refused as it searches,
-    pub search-refused : (mark n : ℕ) (fault : Fault) (B : MetadataCaches S) (fB : ImageFile S) → LooksForRun state sA.table mark n sA.caches sA.file (Err fault) B fB → ReadiesRun state mark n s (Err fault) (lent sA.table B fB sA.pending)
+    pub search-refused : (mark n : ℕ) (fault : Fault) (B : MetadataCaches S) (fB : ImageFile S) → LooksForRun state sA.table mark n (cached_file sA.caches sA.file) (Err fault) (cached_file B fB) → ReadiesRun state mark n s (Err fault) (lent sA.table B fB sA.pending)
     search-refused mark n fault B fB looks = record {
       leaked = λ _. 0;
       leaks = leaks-none _ _ (Err fault);
@@ -233,7 +233,7 @@ module _ {S : Type 0} (state : S → StorageState) (s : ImageState S) where
             making-told mark n z mA (metadata state sB) (makes.barred past there.1 there.0 there.2 number (ap (λ (f : Fault). Err f) is)) (run holds) number
             (subst (λ (l : ℕ). NoPlaceToGrow mA mark (l + (n / counters_of_block sA.file.header.fields + 2)) number) last-is none)
 
-    module _ (mark n z : ℕ) (some : 1 ≤ n) (B : MetadataCaches S) (fB : ImageFile S) (looks : LooksForRun state sA.table mark n sA.caches sA.file (Ok z) B fB) where
+    module _ (mark n z : ℕ) (some : 1 ≤ n) (B : MetadataCaches S) (fB : ImageFile S) (looks : LooksForRun state sA.table mark n (cached_file sA.caches sA.file) (Ok z) (cached_file B fB)) where
       -- What it found isn't counted.
       pub found-run : IsGuarded state s → IsFirstRun (counts_in state B fB) mark n z
       found-run holds =

@@ -22,7 +22,7 @@ use Rattle.qcow2_alloc.specs.declared.cache.MetadataCaches.{MetadataCaches}
 use Rattle.qcow2_alloc.specs.declared.file.ImageFile.{ImageFile}
 use Rattle.qcow2_alloc.specs.Allocators.{named_block, UsesBlock, BlockUsed}
 use Rattle.qcow2_alloc.specs.Cache.{hit}
-use Rattle.qcow2_alloc.specs.Caches.{cached_in, order_of}
+use Rattle.qcow2_alloc.specs.Caches.{cached_in, order_of, cached_file}
 use Rattle.qcow2_alloc.specs.CachesLending.{with_blocks}
 use Rattle.qcow2_alloc.specs.Changes.{CachesBlock, StaysAsItIs}
 use Rattle.qcow2_alloc.specs.Finding.{BlockFound, IsPinnedFull, WhyNotFound}
@@ -60,7 +60,7 @@ going-used H order s cached cached' stays = record {
 
 module _ {S : Type 0} (state : S → StorageState) (table : TableValue) where
   -- Nothing was searched yet.
-  pub looked-none : {T : Type 0} (v : T) (caches : MetadataCaches S) (file : ImageFile S) → Looked state table caches file (Ok v) caches file
+  pub looked-none : {T : Type 0} (v : T) (caches : MetadataCaches S) (file : ImageFile S) → Looked state table (cached_file caches file) (Ok v) (cached_file caches file)
   looked-none v caches file = record {
     going = going-none file.header (order_of caches) Always ⊤ (state file.image) (cached_in caches);
     order = refl;
@@ -71,13 +71,13 @@ module _ {S : Type 0} (state : S → StorageState) (table : TableValue) where
   }
 
   -- It does the same whatever it answers.
-  pub looked-answer : {T U : Type 0} (old : MetadataCaches S) (before : ImageFile S) (v : T) (w : U) (new : MetadataCaches S) (after : ImageFile S) → Looked state table old before (Ok v) new after → Looked state table old before (Ok w) new after
+  pub looked-answer : {T U : Type 0} (old : MetadataCaches S) (before : ImageFile S) (v : T) (w : U) (new : MetadataCaches S) (after : ImageFile S) → Looked state table (cached_file old before) (Ok v) (cached_file new after) → Looked state table (cached_file old before) (Ok w) (cached_file new after)
   looked-answer old before v w new after looked = record { going = looked.going; order = looked.order; header = looked.header; loose = looked.loose; room = looked.room; cause = looked.cause }
 
-  pub looked-refused : {T U : Type 0} (old : MetadataCaches S) (before : ImageFile S) (fault : Fault) (new : MetadataCaches S) (after : ImageFile S) → Looked state {T = T} table old before (Err fault) new after → Looked state {T = U} table old before (Err fault) new after
+  pub looked-refused : {T U : Type 0} (old : MetadataCaches S) (before : ImageFile S) (fault : Fault) (new : MetadataCaches S) (after : ImageFile S) → Looked state {T = T} table (cached_file old before) (Err fault) (cached_file new after) → Looked state {T = U} table (cached_file old before) (Err fault) (cached_file new after)
   looked-refused old before fault new after looked = record { going = looked.going; order = looked.order; header = looked.header; loose = looked.loose; room = looked.room; cause = looked.cause }
 
-  module _ {T : Type 0} (old : MetadataCaches S) (before : ImageFile S) (v : T) (new : MetadataCaches S) (after : ImageFile S) (looked : Looked state table old before (Ok v) new after) (sound : IsSafeWith state table old before) where
+  module _ {T : Type 0} (old : MetadataCaches S) (before : ImageFile S) (v : T) (new : MetadataCaches S) (after : ImageFile S) (looked : Looked state table (cached_file old before) (Ok v) (cached_file new after)) (sound : IsSafeWith state table old before) where
     settled : IsSettled before.header (order_of old) (state before.image).bytes (cached_in old) (state after.image).bytes (cached_in new)
     settled = looked.going.holds sound.keeps sound.safe tt (inl tt)
 
@@ -101,11 +101,11 @@ module _ {S : Type 0} (state : S → StorageState) (table : TableValue) where
     blocks-still i = settled.left.words.places.blocks i
 
   module _ {T U : Type 0} (old : MetadataCaches S) (before : ImageFile S) (v : T) (mid : MetadataCaches S) (between : ImageFile S) (result : Result U Fault) (new : MetadataCaches S) (after : ImageFile S)
-      (first : Looked state table old before (Ok v) mid between) (second : Looked state table mid between result new after) where
+      (first : Looked state table (cached_file old before) (Ok v) (cached_file mid between)) (second : Looked state table (cached_file mid between) result (cached_file new after)) where
     abbrev Goes : Header → CacheDependency → Type 0
     Goes h o = Going h o Always (WasNotCutOff result) (state between.image) (cached_in mid) (state after.image) (cached_in new)
 
-    cause-then : (r : Result U Fault) → Looked state table mid between r new after
+    cause-then : (r : Result U Fault) → Looked state table (cached_file mid between) r (cached_file new after)
         → MatchResult r (λ _. (state after.image).faults ≡ (state before.image).faults) (WhyNotFreed (IsSafeWith state table old before) (IsLoose table old true) (state before.image).faults (state after.image).faults)
     cause-then (Ok w) then = then.cause ∙ first.cause
     cause-then (Err fault) then =
@@ -113,7 +113,7 @@ module _ {S : Type 0} (state : S → StorageState) (table : TableValue) where
         (safe-still old before v mid between first) (first.loose true) first.cause fault then.cause
 
     -- A search may go on behind another.
-    pub looked-then : Looked state table old before result new after
+    pub looked-then : Looked state table (cached_file old before) result (cached_file new after)
     looked-then =
         let going : Goes before.header (order_of old) = subst (λ (h : Header). Goes h (order_of old)) first.header (subst (λ (o : CacheDependency). Goes between.header o) first.order second.going) in record {
           going = going-weaker before.header (order_of old) Always (⊤ × WasNotCutOff result) (WasNotCutOff result) (state before.image) (state after.image) (cached_in old) (cached_in new) (λ whole. (tt, whole))
@@ -147,7 +147,7 @@ module _ {S : Type 0} (state : S → StorageState) (table : TableValue) where
     loose-found : (answer : Result Unit Fault) → BlockFound state key old before answer new after → (any : Bool) → IsLoose table old any → IsLoose table new any
     loose-found answer found = loose-on table old new found.sought.pinned found.room.blocks
 
-    found-refused : {T : Type 0} (fault : Fault) → BlockFound state key old before (Err fault) new after → Looked state {T = T} table old before (Err fault) new after
+    found-refused : {T : Type 0} (fault : Fault) → BlockFound state key old before (Err fault) new after → Looked state {T = T} table (cached_file old before) (Err fault) (cached_file new after)
     found-refused fault found = record {
       going = found.going;
       order = found.others.0;
@@ -157,7 +157,7 @@ module _ {S : Type 0} (state : S → StorageState) (table : TableValue) where
       cause = why-search fault found.cause;
     }
 
-    found-looked : BlockFound state key old before (Ok tt) new after → Looked state {T = Unit {0}} table old before (Ok tt) new after
+    found-looked : BlockFound state key old before (Ok tt) new after → Looked state {T = Unit {0}} table (cached_file old before) (Ok tt) (cached_file new after)
     found-looked found = record {
       going = found.going;
       order = found.others.0;
@@ -172,7 +172,7 @@ module _ {S : Type 0} (state : S → StorageState) (table : TableValue) where
   used_caches key mid block = with_blocks mid (hit (nat_eq key) (cached_in mid).blocks block)
 
   used-looked : (key : ℕ) (mid : MetadataCaches S) (after : ImageFile S) (block : Block) → option_map (λ (s : Slot Block). s.value) (lookup (nat_eq key) (cached_in mid).blocks) ≡ Some block
-      → Looked state {T = Unit {0}} table mid after (Ok tt) (used_caches key mid block) after
+      → Looked state {T = Unit {0}} table (cached_file mid after) (Ok tt) (cached_file (used_caches key mid block) after)
   used-looked key mid after block there = record {
     going = going-used after.header (order_of mid) (state after.image) (cached_in mid) (cached_in (used_caches key mid block))
         (λ safe. block-used (bytes_of (state after.image).bytes) after.header (cached_in mid) (order_of mid) key safe block there);
@@ -211,15 +211,15 @@ module _ {S : Type 0} (state : S → StorageState) (table : TableValue) where
     abbrev k : ℕ
     k = counters_of_block before.header.fields
 
-    module _ (result : Result T Fault) (used : BlockUsed state key (Reads k P) old before result new after) where
+    module _ (result : Result T Fault) (used : BlockUsed state key (Reads k P) (cached_file old before) result (cached_file new after)) where
       same-block : new ≡ used_caches key used.mid used.block
       same-block = used.left ∙ ap (λ (b : Block). used_caches key used.mid b) used.used.same
 
-      found-first : Looked state {T = Unit {0}} table old before (Ok tt) used.mid after
+      found-first : Looked state {T = Unit {0}} table (cached_file old before) (Ok tt) (cached_file used.mid after)
       found-first = found-looked key i named old before used.mid after used.found
 
-      used-there : Looked state {T = Unit {0}} table old before (Ok tt) new after
-      used-there = subst (λ (m : MetadataCaches S). Looked state {T = Unit {0}} table old before (Ok tt) m after) (sym same-block)
+      used-there : Looked state {T = Unit {0}} table (cached_file old before) (Ok tt) (cached_file new after)
+      used-there = subst (λ (m : MetadataCaches S). Looked state {T = Unit {0}} table (cached_file old before) (Ok tt) (cached_file m after)) (sym same-block)
           (looked-then old before tt used.mid after (Ok tt) (used_caches key used.mid used.block) after found-first (used-looked key used.mid after used.block used.there))
 
       mid-long : IsSafeWith state table old before → length used.block.counters ≡ k
@@ -233,17 +233,17 @@ module _ {S : Type 0} (state : S → StorageState) (table : TableValue) where
           ∙ subst (λ (h : Header). counts_in state used.mid after (i * counters_of_block h.fields + j) ≡ slice_index used.block.counters j) used.found.others.1
           (block-counts key i named used.mid after used.block used.there (safe-still old before tt used.mid after found-first sound) j lt)
 
-      even-looked : (r : Result T Fault) → MatchResult r (P used.block.counters) (λ fault. ⊥) → Looked state table old before r new after
+      even-looked : (r : Result T Fault) → MatchResult r (P used.block.counters) (λ fault. ⊥) → Looked state table (cached_file old before) r (cached_file new after)
       even-looked (Ok v) reads = let u = used-there in record { going = u.going; order = u.order; header = u.header; loose = u.loose; room = u.room; cause = u.cause }
       even-looked (Err fault) never = absurd never
 
-      odd-looked : length used.block.counters ≢ k → Looked state {T = T} table old before (Err DamagedTable) new after
+      odd-looked : length used.block.counters ≢ k → Looked state {T = T} table (cached_file old before) (Err DamagedTable) (cached_file new after)
       odd-looked odd = let u = used-there in record { going = u.going; order = u.order; header = u.header; loose = u.loose; room = u.room; cause = λ sound. odd (mid-long sound) }
 
-      used-read : Looked state table old before result new after
+      used-read : Looked state table (cached_file old before) result (cached_file new after)
       used-read = elim (cases_eq (length used.block.counters) k) [
         | inl even ↦ even-looked result (used.used.even even)
-        | inr odd ↦ subst (λ (r : Result T Fault). Looked state table old before r new after) (sym (used.used.odd odd)) (odd-looked odd)
+        | inr odd ↦ subst (λ (r : Result T Fault). Looked state table (cached_file old before) r (cached_file new after)) (sym (used.used.odd odd)) (odd-looked odd)
       ]
 
     -- what is known of one that was read
@@ -253,11 +253,11 @@ module _ {S : Type 0} (state : S → StorageState) (table : TableValue) where
       pub reads : P counters v
       pub counted : IsSafeWith state table old before → AreCounted (counts_in state old before) (i * k) counters
 
-    pub reads-looked : (result : Result T Fault) → UsesBlock state key (Reads k P) old before result new after → Looked state table old before result new after
-    reads-looked result (inl (fault, is, found)) = subst (λ (r : Result T Fault). Looked state table old before r new after) (sym is) (found-refused key i named old before new after fault found)
+    pub reads-looked : (result : Result T Fault) → UsesBlock state key (Reads k P) (cached_file old before) result (cached_file new after) → Looked state table (cached_file old before) result (cached_file new after)
+    reads-looked result (inl (fault, is, found)) = subst (λ (r : Result T Fault). Looked state table (cached_file old before) r (cached_file new after)) (sym is) (found-refused key i named old before new after fault found)
     reads-looked result (inr used) = used-read result used
 
-    pub reads-known : (result : Result T Fault) → UsesBlock state key (Reads k P) old before result new after → IfOk result IsRead
+    pub reads-known : (result : Result T Fault) → UsesBlock state key (Reads k P) (cached_file old before) result (cached_file new after) → IfOk result IsRead
     reads-known result (inl (fault, is, found)) = subst (λ (r : Result T Fault). IfOk r IsRead) (sym is) tt
     reads-known result (inr used) = elim (cases_eq (length used.block.counters) k) [
       | inl even ↦ even-known result (used.used.even even) even

@@ -16,7 +16,7 @@ use Rattle.qcow2_alloc.specs.declared.cache.MetadataCaches.{MetadataCaches}
 use Rattle.qcow2_alloc.specs.declared.file.ImageFile.{ImageFile}
 use Rattle.qcow2_alloc.specs.Allocating.{Allocating}
 use Rattle.qcow2_alloc.specs.Allocators.{metadata_of}
-use Rattle.qcow2_alloc.specs.Caches.{cached_in, order_of}
+use Rattle.qcow2_alloc.specs.Caches.{cached_in, order_of, cached_file}
 use Rattle.qcow2_alloc.specs.Going.{WasNotCutOff}
 use Rattle.qcow2_alloc.specs.Quiet.{Metadata, counted, IsSound, Quietly}
 use Rattle.qcow2_alloc.specs.SearchingClusters.{FindsFree, HasCounter, IsSafeWith, Looked, LooksForFree, counts_in}
@@ -33,7 +33,7 @@ module _ {S : Type 0} (state : S → StorageState) (s : ImageState S) where
   pub sound-safe : IsTrue (state s.file.image).shape.keeps → IsSound Old → IsSafeWith state s.table s.caches s.file
   sound-safe keeps sound = record { keeps = keeps; safe = sound.safe; table_of_file = sound.table }
 
-  module _ (T : Type 0) (result : Result T Fault) (new : MetadataCaches S) (after : ImageFile S) (looked : Looked state s.table s.caches s.file result new after) where
+  module _ (T : Type 0) (result : Result T Fault) (new : MetadataCaches S) (after : ImageFile S) (looked : Looked state s.table (cached_file s.caches s.file) result (cached_file new after)) where
     abbrev New : Metadata
     New = metadata_of state after new s.table s.pending
 
@@ -68,7 +68,7 @@ module _ {S : Type 0} (state : S → StorageState) (s : ImageState S) where
 
   -- What is found in the block of a cluster tells whether it is counted.
   module _ (c : ℕ) (some : block_offset (slice_index s.table.words (c / counters_of_block s.file.header.fields)) ≢ 0) (found : Option ℕ) (new : MetadataCaches S) (after : ImageFile S)
-      (looks : LooksForFree state s.table c ((c / counters_of_block s.file.header.fields + 1) * counters_of_block s.file.header.fields) s.caches s.file (Ok found) new after) (keeps : IsTrue (state s.file.image).shape.keeps) (sound : IsSound Old) where
+      (looks : LooksForFree state s.table c ((c / counters_of_block s.file.header.fields + 1) * counters_of_block s.file.header.fields) (cached_file s.caches s.file) (Ok found) (cached_file new after)) (keeps : IsTrue (state s.file.image).shape.keeps) (sound : IsSound Old) where
     same : counted (metadata_of state after new s.table s.pending) c ≡ counted Old c
     same = counts-looked (Option ℕ) (Ok found) new after looks.looked keeps sound tt c
 

@@ -13,6 +13,7 @@ use Rattle.qcow2_metadata.specs.Tables.{TableValue}
 use Rattle.qcow2_alloc.specs.declared.cache.MetadataCaches.{MetadataCaches}
 use Rattle.qcow2_alloc.specs.declared.file.ImageFile.{ImageFile}
 use Rattle.qcow2_alloc.specs.Allocators.{named_block, UsesBlock}
+use Rattle.qcow2_alloc.specs.Caches.{cached_file}
 use Rattle.qcow2_alloc.specs.Scanning.{AreCounted, FindsZero, Reads}
 use Rattle.qcow2_alloc.specs.SearchingClusters.{HasCounter, FindsFree, counts_in, IsSafeWith, Looked, LooksForFree}
 use Rattle.qcow2_alloc.proofs.Searching.Looking.{IsRead, looked-none, looked-answer, looked-then, safe-still, counts-still, blocks-still, reads-looked, reads-known}
@@ -53,7 +54,7 @@ module _ {S : Type 0} (state : S → StorageState) (table : TableValue) (from : 
   own j lt = div-mul-add i k j lt
 
   -- There is none.
-  pub finds-none : named_block table i ≡ None → LooksForFree state table from ((i + 1) * k) old before (Ok None) old before
+  pub finds-none : named_block table i ≡ None → LooksForFree state table from ((i + 1) * k) (cached_file old before) (Ok None) (cached_file old before)
   finds-none none = record {
     looked = looked-none state table None old before;
     found = λ sound z ge lt there.
@@ -95,7 +96,7 @@ module _ {S : Type 0} (state : S → StorageState) (table : TableValue) (from : 
         }
 
     -- What is found is one of the block's counters.
-    pub finds-inside : (j : ℕ) → UsesBlock state key (Reads k (FindsZero index)) old before (Ok (Some j)) new after → j < k
+    pub finds-inside : (j : ℕ) → UsesBlock state key (Reads k (FindsZero index)) (cached_file old before) (Ok (Some j)) (cached_file new after) → j < k
     finds-inside j uses =
         let read : Read (Some j) = reads-known state table (FindsZero index) key i named old before new after (Ok (Some j)) uses in
         let long = read.long in
@@ -103,20 +104,20 @@ module _ {S : Type 0} (state : S → StorageState) (table : TableValue) (from : 
         omega (arith, lt, long)
 
     -- The block was searched.
-    pub finds-some : (result : Result (Option ℕ) Fault) → UsesBlock state key (Reads k (FindsZero index)) old before result new after → LooksForFree state table from ((i + 1) * k) old before (located (i * k) result) new after
+    pub finds-some : (result : Result (Option ℕ) Fault) → UsesBlock state key (Reads k (FindsZero index)) (cached_file old before) result (cached_file new after) → LooksForFree state table from ((i + 1) * k) (cached_file old before) (located (i * k) result) (cached_file new after)
     finds-some result uses = by-result result (reads-looked state table (FindsZero index) key i named old before new after result uses) (reads-known state table (FindsZero index) key i named old before new after result uses)
       where
-        by-found : (found : Option ℕ) → Looked state table old before (Ok found) new after → Read found → LooksForFree state table from ((i + 1) * k) old before (located (i * k) (Ok found)) new after
+        by-found : (found : Option ℕ) → Looked state table (cached_file old before) (Ok found) (cached_file new after) → Read found → LooksForFree state table from ((i + 1) * k) (cached_file old before) (located (i * k) (Ok found)) (cached_file new after)
         by-found None looked read = record { looked = looked; found = λ sound. finds sound None read }
         by-found (Some j) looked read = record { looked = looked-answer state table old before (Some j) (Some (i * k + j)) new after looked; found = λ sound. finds sound (Some j) read }
 
-        by-result : (r : Result (Option ℕ) Fault) → Looked state table old before r new after → IfOk r Read → LooksForFree state table from ((i + 1) * k) old before (located (i * k) r) new after
+        by-result : (r : Result (Option ℕ) Fault) → Looked state table (cached_file old before) r (cached_file new after) → IfOk r Read → LooksForFree state table from ((i + 1) * k) (cached_file old before) (located (i * k) r) (cached_file new after)
         by-result (Ok found) looked read = by-found found looked read
         by-result (Err fault) looked read = record { looked = looked; found = λ sound. tt }
 
 -- How far a search for a free cluster has come.
 pub record FreeSearched {S : Type 0} (state : S → StorageState) (table : TableValue) (from : ℕ) (old : MetadataCaches S) (before : ImageFile S) (next : ℕ) (new : MetadataCaches S) (after : ImageFile S) : Type 0 where
-  pub looked : Looked state {T = Unit {0}} table old before (Ok tt) new after
+  pub looked : Looked state {T = Unit {0}} table (cached_file old before) (Ok tt) (cached_file new after)
   pub behind : from ≤ next
   pub passed : IsSafeWith state table old before → (z : ℕ) → from ≤ z → z < next → HasCounter (bytes_of (state before.image).bytes) before.header.fields z → 0 < counts_in state old before z
 
@@ -148,7 +149,7 @@ module _ {S : Type 0} (state : S → StorageState) (table : TableValue) (from : 
 
     module _ (end : ℕ) (new : MetadataCaches S) (after : ImageFile S) where
       -- It goes on behind a block,
-      pub passed-then : next ≤ end → LooksForFree state table next end mid between (Ok None) new after → FreeSearched state table from old before end new after
+      pub passed-then : next ≤ end → LooksForFree state table next end (cached_file mid between) (Ok None) (cached_file new after) → FreeSearched state table from old before end new after
       passed-then le looks = record {
         looked = looked-answer state table old before None tt new after (looked-then state table old before tt mid between (Ok None) new after searched.looked looks.looked);
         behind = let was = searched.behind in omega (arith, was, le);
@@ -156,11 +157,11 @@ module _ {S : Type 0} (state : S → StorageState) (table : TableValue) (from : 
       }
 
       -- or is refused,
-      pub passed-refused : (fault : Fault) (last : ℕ) → LooksForFree state table next end mid between (Err fault) new after → LooksForFree state table from last old before (Err fault) new after
+      pub passed-refused : (fault : Fault) (last : ℕ) → LooksForFree state table next end (cached_file mid between) (Err fault) (cached_file new after) → LooksForFree state table from last (cached_file old before) (Err fault) (cached_file new after)
       passed-refused fault last looks = record { looked = looked-then state table old before tt mid between (Err fault) new after searched.looked looks.looked; found = λ sound. tt }
 
       -- or has found one,
-      pub passed-found : (c last : ℕ) → end ≤ last → LooksForFree state table next end mid between (Ok (Some c)) new after → LooksForFree state table from last old before (Ok (Some c)) new after
+      pub passed-found : (c last : ℕ) → end ≤ last → LooksForFree state table next end (cached_file mid between) (Ok (Some c)) (cached_file new after) → LooksForFree state table from last (cached_file old before) (Ok (Some c)) (cached_file new after)
       passed-found c last le looks = record {
         looked = looked-then state table old before tt mid between (Ok (Some c)) new after searched.looked looks.looked;
         found = λ sound.
@@ -174,7 +175,7 @@ module _ {S : Type 0} (state : S → StorageState) (table : TableValue) (from : 
       }
 
     -- or ends with none.
-    pub passed-all : (last : ℕ) → last ≤ next → LooksForFree state table from last old before (Ok None) mid between
+    pub passed-all : (last : ℕ) → last ≤ next → LooksForFree state table from last (cached_file old before) (Ok None) (cached_file mid between)
     passed-all last le = record {
       looked = looked-answer state table old before tt None mid between searched.looked;
       found = λ sound z ge lt. searched.passed sound z ge (omega (arith, lt, le));

@@ -14,6 +14,7 @@ use Rattle.qcow2_alloc.specs.declared.allocation.searching.Run.{Run}
 use Rattle.qcow2_alloc.specs.declared.cache.MetadataCaches.{MetadataCaches}
 use Rattle.qcow2_alloc.specs.declared.file.ImageFile.{ImageFile}
 use Rattle.qcow2_alloc.specs.Allocators.{named_block, UsesBlock}
+use Rattle.qcow2_alloc.specs.Caches.{cached_file}
 use Rattle.qcow2_alloc.specs.Scanning.{next_of, IsRunSoFar, ScansSome, Reads, ExtendsRun}
 use Rattle.qcow2_alloc.specs.SearchingClusters.{counts_in, IsSafeWith, Looked, LooksForRun}
 use Rattle.qcow2_alloc.proofs.Searching.Looking.{IsRead, looked-none, looked-answer, looked-refused, looked-then, safe-still, counts-still, reads-looked, reads-known, uncounted, uncounted-behind}
@@ -47,7 +48,7 @@ module _ {S : Type 0} (state : S → StorageState) (table : TableValue) (n : ℕ
   Read key named new after = IsRead state table ScansRun key i named old before new after
 
   -- The block was scanned,
-  pub extends-some : (key : ℕ) → named_block table i ≡ Some key → (result : Result Run Fault) (new : MetadataCaches S) (after : ImageFile S) → UsesBlock state key (Reads k ScansRun) old before result new after → ExtendsRun state table n run old before result new after
+  pub extends-some : (key : ℕ) → named_block table i ≡ Some key → (result : Result Run Fault) (new : MetadataCaches S) (after : ImageFile S) → UsesBlock state key (Reads k ScansRun) (cached_file old before) result (cached_file new after) → ExtendsRun state table n run (cached_file old before) result (cached_file new after)
   extends-some key named result new after uses =
       let known = reads-known state table ScansRun key i named old before new after result uses in record {
         looked = reads-looked state table ScansRun key i named old before new after result uses;
@@ -60,7 +61,7 @@ module _ {S : Type 0} (state : S → StorageState) (table : TableValue) (n : ℕ
       }
 
   -- or there is none, and its clusters aren't counted.
-  pub extends-none : 0 < k → named_block table i ≡ None → ExtendsRun state table n run old before (Ok (longer run (k - index))) old before
+  pub extends-none : 0 < k → named_block table i ≡ None → ExtendsRun state table n run (cached_file old before) (Ok (longer run (k - index))) (cached_file old before)
   extends-none some none =
       let at = split in
       let below = mod_below (next_of run) k some in record {
@@ -84,7 +85,7 @@ module _ {S : Type 0} (state : S → StorageState) (table : TableValue) (n : ℕ
 
 -- How far a search for a run has come.
 pub record RunSearched {S : Type 0} (state : S → StorageState) (table : TableValue) (from n : ℕ) (old : MetadataCaches S) (before : ImageFile S) (run : Run) (new : MetadataCaches S) (after : ImageFile S) : Type 0 where
-  pub looked : Looked state {T = Unit {0}} table old before (Ok tt) new after
+  pub looked : Looked state {T = Unit {0}} table (cached_file old before) (Ok tt) (cached_file new after)
   pub behind : from ≤ run.first
   pub within : next_of run ≤ max from (length table.words * counters_of_block before.header.fields)
   pub so_far : IsSafeWith state table old before → IsRunSoFar (counts_in state old before) from n run
@@ -96,7 +97,7 @@ module _ {S : Type 0} (state : S → StorageState) (table : TableValue) (from n 
 
   module _ (run : Run) (mid : MetadataCaches S) (between : ImageFile S) (searched : RunSearched state table from n old before run mid between) where
     -- It goes on,
-    pub searched-then : next_of run / counters_of_block before.header.fields < length table.words → (now : Run) (new : MetadataCaches S) (after : ImageFile S) → ExtendsRun state table n run mid between (Ok now) new after → RunSearched state table from n old before now new after
+    pub searched-then : next_of run / counters_of_block before.header.fields < length table.words → (now : Run) (new : MetadataCaches S) (after : ImageFile S) → ExtendsRun state table n run (cached_file mid between) (Ok now) (cached_file new after) → RunSearched state table from n old before now new after
     searched-then inside now new after extends = record {
       behind = let first = searched.behind in let rising = extends.rising in omega (arith, first, rising);
       within =
@@ -113,15 +114,15 @@ module _ {S : Type 0} (state : S → StorageState) (table : TableValue) (from n 
     }
 
     -- or is refused,
-    pub searched-refused : (fault : Fault) (new : MetadataCaches S) (after : ImageFile S) → ExtendsRun state table n run mid between (Err fault) new after → LooksForRun state table from n old before (Err fault) new after
+    pub searched-refused : (fault : Fault) (new : MetadataCaches S) (after : ImageFile S) → ExtendsRun state table n run (cached_file mid between) (Err fault) (cached_file new after) → LooksForRun state table from n (cached_file old before) (Err fault) (cached_file new after)
     searched-refused fault new after extends = record { looked = looked-refused state table old before fault new after (looked-then state table old before tt mid between (Err fault) new after searched.looked extends.looked); near = tt; found = λ sound. tt }
 
     -- or ends with a run that is long enough,
-    pub searched-long : n ≤ run.len → LooksForRun state table from n old before (Ok run.first) mid between
+    pub searched-long : n ≤ run.len → LooksForRun state table from n (cached_file old before) (Ok run.first) (cached_file mid between)
     searched-long long = record { looked = looked-answer state table old before tt run.first mid between searched.looked; near = (searched.behind, let within = searched.within in omega (arith, within)); found = λ sound. run-found (counts_in state old before) from n run long (searched.so_far sound) }
 
     -- or behind the table.
-    pub searched-all : length table.words ≤ next_of run / counters_of_block before.header.fields → LooksForRun state table from n old before (Ok run.first) mid between
+    pub searched-all : length table.words ≤ next_of run / counters_of_block before.header.fields → LooksForRun state table from n (cached_file old before) (Ok run.first) (cached_file mid between)
     searched-all past = record {
       looked = looked-answer state table old before tt run.first mid between searched.looked;
       near = (searched.behind, let within = searched.within in omega (arith, within));

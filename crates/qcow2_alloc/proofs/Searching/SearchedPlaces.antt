@@ -14,7 +14,7 @@ use Rattle.qcow2_alloc.specs.declared.cache.MetadataCaches.{MetadataCaches}
 use Rattle.qcow2_alloc.specs.declared.file.ImageFile.{ImageFile}
 use Rattle.qcow2_alloc.specs.Allocating.{MakesBlock}
 use Rattle.qcow2_alloc.specs.Allocators.{metadata_of}
-use Rattle.qcow2_alloc.specs.Caches.{cached_in, order_of}
+use Rattle.qcow2_alloc.specs.Caches.{cached_in, order_of, cached_file}
 use Rattle.qcow2_alloc.specs.Going.{WasNotCutOff}
 use Rattle.qcow2_alloc.specs.MakingBlocks.{Begins, IsFreePlace}
 use Rattle.qcow2_alloc.specs.Quiet.{Metadata, counted, IsSound, Quietly}
@@ -48,7 +48,7 @@ module _ {S : Type 0} (state : S → StorageState) (image : ImageState S) (i : �
   safe-with : Keeps → IsSound m0 → IsSafeWith state image.table image.caches image.file
   safe-with keeps sound = record { keeps = keeps; safe = sound.safe; table_of_file = sound.table }
 
-  module _ (result : Found) (looked : Looked state image.table image.caches image.file result C fC) where
+  module _ (result : Found) (looked : Looked state image.table (cached_file image.caches image.file) result (cached_file C fC)) where
     moved : (P : Metadata → Type 0) → P (record m0 { file = bytes_of (state fC.image).bytes; cached = cached_in C }) → P mC
     moved P p =
         subst (λ (h : Header). P (record m0 { file = bytes_of (state fC.image).bytes; cached = cached_in C; header = h; order = order_of C })) (sym looked.header)
@@ -70,17 +70,17 @@ module _ {S : Type 0} (state : S → StorageState) (image : ImageState S) (i : �
       stays = record { header = looked.header; order = looked.order; loose = looked.loose; room = looked.room };
     }
 
-  pub looked-refused : (fault : Fault) → Looked state image.table image.caches image.file (refused_so fault) C fC → MakesBlock state i image (Err fault) (lent image.table C fC image.pending)
+  pub looked-refused : (fault : Fault) → Looked state image.table (cached_file image.caches image.file) (refused_so fault) (cached_file C fC) → MakesBlock state i image (Err fault) (lent image.table C fC image.pending)
   looked-refused fault looked =
       begins-refused state i image (λ _. 0) (λ _. 0) image.caches image.file C fC (begins-none state i image) fault (looking (refused_so fault) looked) (λ order keeps sound whole c. omega arith)
       (allocated-wider _ _ _ _ _ _ _ _ (λ holds. safe-with holds.0 holds.2) (loose-all image.table image.caches) refl fault looked.cause)
 
-  pub looked-begins : (found : Option ℕ) → Looked state image.table image.caches image.file (found_so found) C fC → Begins state image (λ _. 0) (lent image.table C fC image.pending)
+  pub looked-begins : (found : Option ℕ) → Looked state image.table (cached_file image.caches image.file) (found_so found) (cached_file C fC) → Begins state image (λ _. 0) (lent image.table C fC image.pending)
   looked-begins found looked =
       begins-then state i image (λ _. 0) (λ _. 0) image.caches image.file C fC (begins-none state i image) (λ _. 0) (λ c. omega arith) (looking (found_so found) looked)
 
   -- What was found is free.
-  free-place : (from place : ℕ) → LooksForFree state image.table from (i * counters_of_block image.file.header.fields) image.caches image.file (found_so (Some place)) C fC → Keeps → IsSound m0 → IsFreePlace mC i place
+  free-place : (from place : ℕ) → LooksForFree state image.table from (i * counters_of_block image.file.header.fields) (cached_file image.caches image.file) (found_so (Some place)) (cached_file C fC) → Keeps → IsSound m0 → IsFreePlace mC i place
   free-place from place looks keeps sound =
       let found = looks.found (safe-with keeps sound) in
       let inside = block-inside m0.file m0.header.fields (place / counters_of_block image.file.header.fields) found.there in
@@ -92,6 +92,6 @@ module _ {S : Type 0} (state : S → StorageState) (image : ImageState S) (i : �
             (λ none. found.there (sym (sound.table.names (place / counters_of_block image.file.header.fields) inside) ∙ none));
       }
 
-  pub found-free : (from place : ℕ) (found : Option ℕ) → found ≡ Some place → LooksForFree state image.table from (i * counters_of_block image.file.header.fields) image.caches image.file (found_so found) C fC → order_of image.caches ≡ L2DependsOnRb → Keeps → IsSound m0 → IsFreePlace mC i place
+  pub found-free : (from place : ℕ) (found : Option ℕ) → found ≡ Some place → LooksForFree state image.table from (i * counters_of_block image.file.header.fields) (cached_file image.caches image.file) (found_so found) (cached_file C fC) → order_of image.caches ≡ L2DependsOnRb → Keeps → IsSound m0 → IsFreePlace mC i place
   found-free from place found is looks order =
-      free-place from place (subst (λ (o : Option ℕ). LooksForFree state image.table from (i * counters_of_block image.file.header.fields) image.caches image.file (found_so o) C fC) is looks)
+      free-place from place (subst (λ (o : Option ℕ). LooksForFree state image.table from (i * counters_of_block image.file.header.fields) (cached_file image.caches image.file) (found_so o) (cached_file C fC)) is looks)

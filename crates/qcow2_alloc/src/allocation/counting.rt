@@ -4,6 +4,7 @@ ghost use Rattle.qcow2_metadata.specs.Blocks.{Block};
 ghost use Rattle.qcow2_types.specs.Pending.{FreeEntry};
 ghost use Rattle.qcow2_alloc.specs.Allocating.{Raises, RaisesCluster, CountsRun, CountsNamed};
 ghost use Rattle.qcow2_alloc.specs.Allocators.{table_of, UsesBlock};
+ghost use Rattle.qcow2_alloc.specs.Caches.{cached_file};
 ghost use Rattle.qcow2_alloc.specs.State.{lent};
 
 use crate::allocation::Allocator;
@@ -22,7 +23,8 @@ impl Allocator {
         caches: &mut MetadataCaches<S>,
         cluster: HostCluster,
     ) -> Result<(), Fault>
-        ensures { RaisesCluster S.state (table_of self.now) cluster caches.old file.old result caches.new file.new }
+        ensures { RaisesCluster S.state (table_of self.now) cluster (cached_file caches.old file.old) result
+            (cached_file caches.new file.new) }
     {
         let (rt_index, rb_index) = cluster.rt_rb_indices(file.header.rb_bits());
         let Some(rb_cluster) = self.block_cluster(rt_index) else {
@@ -94,7 +96,7 @@ fn raise_in<S: Storage>(
     rb_cluster: HostCluster,
     index: usize,
 ) -> Result<(), Fault>
-    ensures { UsesBlock S.state rb_cluster (Raises index) caches.old file.old result caches.new file.new }
+    ensures { UsesBlock S.state rb_cluster (Raises index) (cached_file caches.old file.old) result (cached_file caches.new file.new) }
 {
     let block = caches.rb_get_or_insert(file, rb_cluster)?;
     raise_counter(block, index)

@@ -2,7 +2,8 @@
 ghost use Rattle.std.specs.Prelude.{◌≡◌, ◌≤◌, ◌<◌, ◌+◌, ◌*◌, ◌/◌, ◌^◌, IfOk, length, ℕ, ◌-◌, ◌++◌, OnOk, OnErr, IfErr, min};
 ghost use Rattle.qcow2_types.specs.Counts.{counters_of_block};
 ghost use Rattle.qcow2_alloc.specs.Allocators.{table_of, mark_of};
-ghost use Rattle.qcow2_alloc.specs.Growing.{lacking, GrowsRoom, LooksForRoom};
+ghost use Rattle.qcow2_alloc.specs.Caches.{cached_file};
+ghost use Rattle.qcow2_alloc.specs.Growing.{lacking, needed_for, GrowsRoom, LooksForRoom};
 ghost use Rattle.qcow2_alloc.specs.GrowingTables.{GrowsTable, table_run};
 ghost use Rattle.qcow2_alloc.specs.MovingTables.{IsPlan, IsCopyFor, WhyNotPlaced, IsGrownFor, WhyNotGrown, EntersFree};
 ghost use Rattle.qcow2_alloc.specs.State.{seen};
@@ -46,7 +47,8 @@ impl Allocator {
     ) -> Result<Run, Fault>
         requires near { from ≤ length (table_of self.now).words * counters_of_block file.old.header.fields }
         requires few { clusters ≤ 2 ^ 24 }
-        ensures looks { LooksForRoom S.state (table_of self.now) from clusters caches.old file.old result caches.new file.new }
+        ensures looks { LooksForRoom S.state (table_of self.now) from clusters (cached_file caches.old file.old) result
+            (cached_file caches.new file.new) }
         ensures within { IfOk result (λ room. (room.first ≤ length (table_of self.now).words * counters_of_block file.old.header.fields)
             × (room.len ≤ 2 * clusters + 4)) }
         ensures enough { IfOk result (λ room. room.len
@@ -77,7 +79,9 @@ impl Allocator {
         clusters: u64,
     ) -> Result<Run, Fault>
         requires fits { room.first + 1 < 2 ^ 64 }
-        ensures { GrowsRoom S.state (table_of self.now) clusters needed room caches.old file.old result caches.new file.new }
+        requires needed { needed ≡ needed_for (table_of self.now) (counters_of_block file.old.header.fields) clusters room }
+        ensures { GrowsRoom S.state (table_of self.now) clusters room (cached_file caches.old file.old) result
+            (cached_file caches.new file.new) }
     {
         let start = room.first();
         let first = self.find_run(file, caches, start, needed)?;

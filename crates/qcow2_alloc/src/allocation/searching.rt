@@ -2,6 +2,7 @@
 ghost use Rattle.std.specs.Prelude.{◌≡◌, ◌≤◌, ◌<◌, ◌+◌, ◌*◌, ◌/◌, ◌%◌, ◌^◌, if◌then◌else◌, length};
 ghost use Rattle.qcow2_types.specs.Counts.{counters_of_block};
 ghost use Rattle.qcow2_alloc.specs.Allocators.{table_of, UsesBlock};
+ghost use Rattle.qcow2_alloc.specs.Caches.{cached_file};
 ghost use Rattle.qcow2_alloc.specs.SearchingClusters.{LooksForRun, LooksForFree};
 ghost use Rattle.qcow2_alloc.specs.Scanning.{next_of, ScansSome, FindsZero, Reads, ExtendsRun};
 
@@ -71,7 +72,8 @@ impl Allocator {
         from: HostCluster,
         count: u64,
     ) -> Result<HostCluster, Fault>
-        ensures { LooksForRun S.state (table_of self.now) from count caches.old file.old result caches.new file.new }
+        ensures { LooksForRun S.state (table_of self.now) from count (cached_file caches.old file.old) result
+            (cached_file caches.new file.new) }
     {
         let rb_bits = file.header.rb_bits();
         let mut run = Run {
@@ -95,7 +97,8 @@ impl Allocator {
         requires short { run.len < count }
         requires inside { next_of run / counters_of_block file.old.header.fields < length (table_of self.now).words }
         requires fits { next_of run < 2 ^ 64 }
-        ensures { ExtendsRun S.state (table_of self.now) count run caches.old file.old result caches.new file.new }
+        ensures { ExtendsRun S.state (table_of self.now) count run (cached_file caches.old file.old) result
+            (cached_file caches.new file.new) }
     {
         // It has at most 2^20 words.
         let _words = self.reftable.entries();
@@ -120,7 +123,7 @@ impl Allocator {
     ) -> Result<Option<HostCluster>, Fault>
         requires inside { end ≤ length (table_of self.now).words }
         ensures { LooksForFree S.state (table_of self.now) from
-            (end * counters_of_block file.old.header.fields) caches.old file.old result caches.new file.new }
+            (end * counters_of_block file.old.header.fields) (cached_file caches.old file.old) result (cached_file caches.new file.new) }
     {
         // It has at most 2^20 words.
         let _words = self.reftable.entries();
@@ -144,8 +147,8 @@ impl Allocator {
     ) -> Result<Option<HostCluster>, Fault>
         requires { from / counters_of_block file.old.header.fields < length (table_of self.now).words }
         ensures { LooksForFree S.state (table_of self.now) from
-            ((from / counters_of_block file.old.header.fields + 1) * counters_of_block file.old.header.fields) caches.old file.old result
-            caches.new file.new }
+            ((from / counters_of_block file.old.header.fields + 1) * counters_of_block file.old.header.fields)
+            (cached_file caches.old file.old) result (cached_file caches.new file.new) }
     {
         // It has at most 2^20 words.
         let _words = self.reftable.entries();
@@ -211,7 +214,7 @@ fn scan_in<S: Storage>(
     requires inside { index < counters_of_block file.old.header.fields }
     requires fits { next_of run + counters_of_block file.old.header.fields < 2 ^ 64 }
     ensures { UsesBlock S.state rb_cluster (Reads (counters_of_block file.old.header.fields) (λ counters now.
-        ScansSome counters count index run now)) caches.old file.old result caches.new file.new }
+        ScansSome counters count index run now)) (cached_file caches.old file.old) result (cached_file caches.new file.new) }
 {
     let entries = file.header.rb_entries();
     let block = caches.rb_get_or_insert(file, rb_cluster)?;
@@ -243,8 +246,8 @@ fn find_zero_in<S: Storage>(
     rb_cluster: HostCluster,
     index: usize,
 ) -> Result<Option<usize>, Fault>
-    ensures { UsesBlock S.state rb_cluster (Reads (counters_of_block file.old.header.fields) (FindsZero index)) caches.old file.old result
-        caches.new file.new }
+    ensures { UsesBlock S.state rb_cluster (Reads (counters_of_block file.old.header.fields) (FindsZero index))
+        (cached_file caches.old file.old) result (cached_file caches.new file.new) }
 {
     let entries = file.header.rb_entries();
     let block = caches.rb_get_or_insert(file, rb_cluster)?;

@@ -9,6 +9,7 @@ use Rattle.qcow2_alloc.specs.declared.cache.MetadataCaches.{MetadataCaches}
 use Rattle.qcow2_alloc.specs.declared.file.ImageFile.{ImageFile}
 use Rattle.qcow2_alloc.specs.Allocating.{RaisesCluster, CountsNamed}
 use Rattle.qcow2_alloc.specs.Allocators.{table_of, named_block}
+use Rattle.qcow2_alloc.specs.Caches.{cached_file}
 use Rattle.qcow2_alloc.specs.State.{lent}
 use Rattle.qcow2_alloc.proofs.Blocks.CountingClusters.{succeeded, cluster-counted}
 use Rattle.qcow2_alloc.proofs.Blocks.CountingRuns.{named-run-none, named-run-then, named-run-within, passed-over, counted-named}
@@ -47,7 +48,7 @@ returns-in_err-count_cluster g c = rw (handed-on _ _ c.from_residual.ensures.1) 
     (named-run-then state table pending run.first l.index c.args.caches.now c.args.file.now l.caches l.file (failed c.in_err-count_cluster.field-0.0) new.caches new.file (l.invariant pending)
     (counted-named state table pending (run.first + l.index) l.caches l.file (failed c.in_err-count_cluster.field-0.0) new.caches new.file (some-block table c.rt_index.result _ c.block_cluster.result c.block_cluster.ensures word c.if-is_some.ensures)
     (cluster-counted state table pending (run.first + l.index) l.caches l.file (failed c.in_err-count_cluster.field-0.0) new.caches new.file
-    (subst (λ (n : ℕ). RaisesCluster state table (n + l.index) l.caches l.file (failed c.in_err-count_cluster.field-0.0) new.caches new.file) at c.in_err-count_cluster.ensures)))))
+    (subst (λ (n : ℕ). RaisesCluster state table (n + l.index) (cached_file l.caches l.file) (failed c.in_err-count_cluster.field-0.0) (cached_file new.caches new.file)) at c.in_err-count_cluster.ensures)))))
 
 pub loop-index-preserved : goal.loop-index-preserved
 loop-index-preserved g c = λ pending.
@@ -68,7 +69,7 @@ loop-index-preserved g c = λ pending.
           then new.caches new.file w.caches-is w.file-is
           (counted-named state table pending (run.first + l.index) l.caches l.file succeeded new.caches new.file (some-block table c.rt_index.result _ c.block_cluster.result c.block_cluster.ensures word w.if-is_some.ensures)
           (cluster-counted state table pending (run.first + l.index) l.caches l.file succeeded new.caches new.file
-          (subst (λ (n : ℕ). RaisesCluster state table (n + l.index) l.caches l.file succeeded new.caches new.file) at w.in_ok-count_cluster.ensures)))
+          (subst (λ (n : ℕ). RaisesCluster state table (n + l.index) (cached_file l.caches l.file) succeeded (cached_file new.caches new.file)) at w.in_ok-count_cluster.ensures)))
       | else-is_some w ↦ then l.caches l.file w.caches-is w.file-is
           (passed-over state table pending (run.first + l.index) l.caches l.file (no-block table c.rt_index.result _ c.block_cluster.result c.block_cluster.ensures word w.if-is_some.ensures))
     ]

@@ -2,6 +2,7 @@ use Rattle.std.proofs.Common.{◌≡◌, ◌-◌, ◌/◌, ◌%◌, ◌<◌, ℕ
 use Rattle.qcow2_types.specs.Counts.{counters_of_block}
 use Rattle.qcow2_alloc.specs.declared.allocation.searching.Run.{Run}
 use Rattle.qcow2_alloc.specs.Allocators.{table_of, named_block, UsesBlock}
+use Rattle.qcow2_alloc.specs.Caches.{cached_file}
 use Rattle.qcow2_alloc.specs.Scanning.{next_of, ScansSome, Reads, ExtendsRun}
 use Rattle.qcow2_alloc.proofs.Searching.LookingForRuns.{extends-some, extends-none}
 use Rattle.qcow2_alloc.proofs.Searching.SearchingRuns.{indices, longer}
@@ -15,7 +16,7 @@ returns-in-Some g c =
     let named : named_block table (next_of c.args.run / k) ≡ Some c.in-Some.rb_cluster =
     ap (λ n. named_block table n) (sym at.0) ∙ sym c.block_cluster.ensures ∙ c.in-Some.is in
     extends-some g.S.Storage.state table c.args.count c.args.run c.args.caches.now c.args.file.now c.in-Some.rb_cluster named c.scan_in.result c.scan_in.new.caches c.scan_in.new.file
-    (subst (λ n. UsesBlock g.S.Storage.state c.in-Some.rb_cluster (Reads {T = Run} k (λ (counters : List ℕ) (now : Run). ScansSome counters c.args.count n c.args.run now)) c.args.caches.now c.args.file.now c.scan_in.result c.scan_in.new.caches c.scan_in.new.file)
+    (subst (λ n. UsesBlock g.S.Storage.state c.in-Some.rb_cluster (Reads {T = Run} k (λ (counters : List ℕ) (now : Run). ScansSome counters c.args.count n c.args.run now)) (cached_file c.args.caches.now c.args.file.now) c.scan_in.result (cached_file c.scan_in.new.caches c.scan_in.new.file))
     at.1 c.scan_in.ensures)
 
 pub returns-in-None : goal.returns-in-None
@@ -27,5 +28,5 @@ returns-in-None g c =
     let entries = c.rb_entries-entries.ensures in
     let some : 0 < k = (let value = entries.value in let bounds = entries.bounds.0 in omega (arith, value, bounds)) in
     let rest : k - next_of c.args.run % k ≡ c.rb_entries-entries.result - c.rt_rb_indices-rt_index.result.1 = ap (λ n. n - next_of c.args.run % k) (sym entries.value) ∙ ap (λ n. c.rb_entries-entries.result - n) (sym at.1) in
-    subst (λ n. ExtendsRun g.S.Storage.state table c.args.count c.args.run c.args.caches.now c.args.file.now (Ok (longer c.args.run n)) c.args.caches.now c.args.file.now) rest
+    subst (λ n. ExtendsRun g.S.Storage.state table c.args.count c.args.run (cached_file c.args.caches.now c.args.file.now) (Ok (longer c.args.run n)) (cached_file c.args.caches.now c.args.file.now)) rest
     (extends-none g.S.Storage.state table c.args.count c.args.run c.args.caches.now c.args.file.now some none)

@@ -4,6 +4,7 @@ use Rattle.imago_storage.specs.declared.fault.Fault.{Fault}
 use Rattle.qcow2_types.specs.Header.{Header}
 use Rattle.qcow2_types.specs.Counts.{counters_of_block}
 use Rattle.qcow2_alloc.specs.Allocators.{table_of}
+use Rattle.qcow2_alloc.specs.Caches.{cached_file}
 use Rattle.qcow2_alloc.specs.SearchingClusters.{LooksForFree}
 use Rattle.qcow2_alloc.proofs.Searching.LookingForFree.{FreeSearched, passed-then, passed-refused, passed-found, passed-all}
 use Rattle.qcow2_alloc.proofs.Searching.SearchingRuns.{block-behind, blocks-before}
@@ -20,12 +21,12 @@ abbrev end : (g : Over) → After-find_in_block g → ℕ
 end g c = (c.loop-next.next / k g c + 1) * k g c
 
 abbrev Looks : (g : Over) (c : After-find_in_block g) → Result (Option ℕ) Fault → Type 0
-Looks g c result = LooksForFree g.S.Storage.state (table_of c.args.self.now) c.loop-next.next (end g c) c.loop-next.caches c.loop-next.file result c.find_in_block.new.caches c.find_in_block.new.file
+Looks g c result = LooksForFree g.S.Storage.state (table_of c.args.self.now) c.loop-next.next (end g c) (cached_file c.loop-next.caches c.loop-next.file) result (cached_file c.find_in_block.new.caches c.find_in_block.new.file)
 
 looks : (g : Over) (c : After-find_in_block g) (result : Result (Option ℕ) Fault) → c.find_in_block.result ≡ result → Looks g c result
 looks g c result is =
     subst (λ (r : Result (Option ℕ) Fault). Looks g c r) is
-    (subst (λ (h : Header). LooksForFree g.S.Storage.state (table_of c.args.self.now) c.loop-next.next ((c.loop-next.next / counters_of_block h.fields + 1) * counters_of_block h.fields) c.loop-next.caches c.loop-next.file c.find_in_block.result c.find_in_block.new.caches c.find_in_block.new.file)
+    (subst (λ (h : Header). LooksForFree g.S.Storage.state (table_of c.args.self.now) c.loop-next.next ((c.loop-next.next / counters_of_block h.fields + 1) * counters_of_block h.fields) (cached_file c.loop-next.caches c.loop-next.file) c.find_in_block.result (cached_file c.find_in_block.new.caches c.find_in_block.new.file))
     c.loop-next.invariant.0 c.find_in_block.ensures)
 
 behind : (g : Over) (c : After-find_in_block g) → (c.loop-next.next < end g c) × (end g c ≤ c.args.end * k g c)

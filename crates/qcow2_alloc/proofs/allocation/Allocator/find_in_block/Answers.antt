@@ -3,6 +3,7 @@ use Rattle.std.specs.Prelude.{Option}
 use Rattle.imago_storage.specs.declared.fault.Fault.{Fault}
 use Rattle.qcow2_types.specs.Counts.{counters_of_block}
 use Rattle.qcow2_alloc.specs.Allocators.{table_of, named_block, UsesBlock}
+use Rattle.qcow2_alloc.specs.Caches.{cached_file}
 use Rattle.qcow2_alloc.specs.Scanning.{FindsZero, Reads}
 use Rattle.qcow2_alloc.specs.SearchingClusters.{LooksForFree}
 use Rattle.qcow2_alloc.proofs.Searching.LookingForFree.{finds-none, finds-some, finds-inside, located}
@@ -22,15 +23,15 @@ named : (g : Over) (c : After-find_zero_in g) → named_block (table_of c.args.s
 named g c = ap (λ n. named_block (table_of c.args.self.now) n) (sym (at g c).0) ∙ sym c.block_cluster.ensures ∙ c.in-Some.is
 
 abbrev Uses : (g : Over) (c : After-find_zero_in g) → Result (Option ℕ) Fault → Type 0
-Uses g c result = UsesBlock g.S.Storage.state c.in-Some.rb_cluster (Reads {T = Option ℕ} (k g c) (FindsZero (c.args.from % k g c))) c.args.caches.now c.args.file.now result c.find_zero_in.new.caches c.find_zero_in.new.file
+Uses g c result = UsesBlock g.S.Storage.state c.in-Some.rb_cluster (Reads {T = Option ℕ} (k g c) (FindsZero (c.args.from % k g c))) (cached_file c.args.caches.now c.args.file.now) result (cached_file c.find_zero_in.new.caches c.find_zero_in.new.file)
 
 uses : (g : Over) (c : After-find_zero_in g) → Uses g c c.find_zero_in.result
 uses g c =
-    subst (λ n. UsesBlock g.S.Storage.state c.in-Some.rb_cluster (Reads {T = Option ℕ} (k g c) (FindsZero n)) c.args.caches.now c.args.file.now c.find_zero_in.result c.find_zero_in.new.caches c.find_zero_in.new.file)
+    subst (λ n. UsesBlock g.S.Storage.state c.in-Some.rb_cluster (Reads {T = Option ℕ} (k g c) (FindsZero n)) (cached_file c.args.caches.now c.args.file.now) c.find_zero_in.result (cached_file c.find_zero_in.new.caches c.find_zero_in.new.file))
     (at g c).1 c.find_zero_in.ensures
 
 abbrev Looks : (g : Over) (c : After-find_zero_in g) → Result (Option ℕ) Fault → Type 0
-Looks g c result = LooksForFree g.S.Storage.state (table_of c.args.self.now) c.args.from ((c.args.from / k g c + 1) * k g c) c.args.caches.now c.args.file.now result c.find_zero_in.new.caches c.find_zero_in.new.file
+Looks g c result = LooksForFree g.S.Storage.state (table_of c.args.self.now) c.args.from ((c.args.from / k g c + 1) * k g c) (cached_file c.args.caches.now c.args.file.now) result (cached_file c.find_zero_in.new.caches c.find_zero_in.new.file)
 
 looks : (g : Over) (c : After-find_zero_in g) (result : Result (Option ℕ) Fault) → c.find_zero_in.result ≡ result → Looks g c (located (c.args.from / k g c * k g c) result)
 looks g c result is =

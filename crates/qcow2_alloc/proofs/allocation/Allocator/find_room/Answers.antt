@@ -1,10 +1,11 @@
-use Rattle.std.proofs.Common.{◌≡◌, ◌≤◌, ◌+◌, ◌*◌, ◌^◌, ℕ, arith, ap, subst, ◌∙◌, length, Ok, Err}
+use Rattle.std.proofs.Common.{◌≡◌, ◌≤◌, ◌+◌, ◌*◌, ◌^◌, ℕ, arith, ap, sym, ◌∙◌, length, Ok, Err}
 use Rattle.std.proofs.Math.Nat.{mul-le-mul, pow-le-pow_right}
+use Rattle.qcow2_types.specs.Header.{Header}
 use Rattle.qcow2_types.specs.Counts.{counters_of_block}
 use Rattle.qcow2_metadata.specs.Tables.{TableValue}
 use Rattle.qcow2_alloc.specs.declared.allocation.searching.Run.{Run}
 use Rattle.qcow2_alloc.specs.Allocators.{table_of}
-use Rattle.qcow2_alloc.specs.Growing.{lacking, needed_for, GrowsRoom}
+use Rattle.qcow2_alloc.specs.Growing.{lacking, needed_for}
 use Rattle.qcow2_alloc.proofs.Growth.FindingRoom.{needed-few}
 use Rattle.qcow2_alloc.proofs.Growth.SearchingRooms.{rooms-first, rooms-found, rooms-not-grown, rooms-then, rooms-fewer}
 use Rattle.qcow2_alloc.proofs.Faults.{handed-on}
@@ -41,13 +42,17 @@ loop-needed-init g c =
       as-needed table c.rb_bits-rb_bits.result k c.args.clusters c.lacking_for.result run c.rb_bits-rb_bits.ensures.entries c.lacking_for.ensures,
     )
 
+pub grow_room-requires-clause-needed : goal.grow_room-requires-clause-needed
+grow_room-requires-clause-needed g c =
+    let l = c.loop-needed in
+    l.invariant.1 ∙ ap (λ (h : Header). needed_for (table_of c.args.self.now) (counters_of_block h.fields) c.args.clusters l.room) (sym l.invariant.0.looked.header)
+
 pub returns-in_err-room-clause-looks : goal.returns-in_err-room-clause-looks
 returns-in_err-room-clause-looks g c = rw (handed-on _ _ c.from_residual-in_err-room.ensures.1) (
     let state = g.S.Storage.state in
     let table = table_of c.args.self.now in
     let l = c.loop-needed in
-    rooms-not-grown state table c.args.from c.args.clusters c.args.caches.now c.args.file.now l.room l.caches l.file l.invariant.0 c.in_err-room.field-0.0 c.grow_room.new.caches c.grow_room.new.file
-    (subst (λ (m : ℕ). GrowsRoom state table c.args.clusters m l.room l.caches l.file (Err c.in_err-room.field-0.0) c.grow_room.new.caches c.grow_room.new.file) l.invariant.1 c.in_err-room.ensures))
+    rooms-not-grown state table c.args.from c.args.clusters c.args.caches.now c.args.file.now l.room l.caches l.file l.invariant.0 c.in_err-room.field-0.0 c.grow_room.new.caches c.grow_room.new.file c.in_err-room.ensures)
 
 pub lacking_for-requires-in-loop-needed-clause-fits : goal.lacking_for-requires-in-loop-needed-clause-fits
 lacking_for-requires-in-loop-needed-clause-fits g c =
@@ -60,7 +65,7 @@ lacking_for-requires-in-loop-needed-clause-fits g c =
     let test = c.loop-needed-test.true in
     let is = l.invariant.1 in
     let searched = rooms-then g.S.Storage.state table c.args.from c.args.clusters c.args.caches.now c.args.file.now l.room l.caches l.file l.invariant.0 (wide c.rb_bits-rb_bits.result k bits.entries bits.bounds.0) now c.grow_room.new.caches c.grow_room.new.file
-    (omega (arith, len, test, is)) (subst (λ (m : ℕ). GrowsRoom g.S.Storage.state table c.args.clusters m l.room l.caches l.file (Ok now) c.grow_room.new.caches c.grow_room.new.file) l.invariant.1 c.in_ok-room.ensures) in
+    (omega (arith, len, test, is)) c.in_ok-room.ensures in
     let within = searched.within in
     let few = searched.few in
     let most = c.requires.few in
@@ -78,7 +83,7 @@ overflow_add-needed-in-loop-needed g c =
     let test = c.loop-needed-test.true in
     let at = l.invariant.1 in
     let searched = rooms-then g.S.Storage.state table c.args.from c.args.clusters c.args.caches.now c.args.file.now l.room l.caches l.file l.invariant.0 (wide c.rb_bits-rb_bits.result k bits.entries bits.bounds.0) now c.grow_room.new.caches c.grow_room.new.file
-    (omega (arith, len, test, at)) (subst (λ (m : ℕ). GrowsRoom g.S.Storage.state table c.args.clusters m l.room l.caches l.file (Ok now) c.grow_room.new.caches c.grow_room.new.file) l.invariant.1 c.in_ok-room.ensures) in
+    (omega (arith, len, test, at)) c.in_ok-room.ensures in
     let is = as-needed table c.rb_bits-rb_bits.result k c.args.clusters c.lacking_for-in-loop-needed.result now bits.entries c.lacking_for-in-loop-needed.ensures in
     let few = needed-few table k (wide c.rb_bits-rb_bits.result k bits.entries bits.bounds.0) c.args.clusters now searched.few in
     let most = c.requires.few in
@@ -95,7 +100,7 @@ loop-needed-smaller g c =
     let test = c.loop-needed-test.true in
     let is = l.invariant.1 in
     rooms-fewer g.S.Storage.state table c.args.from c.args.clusters c.args.caches.now c.args.file.now l.room l.caches l.file l.invariant.0 (wide c.rb_bits-rb_bits.result k bits.entries bits.bounds.0) now c.grow_room.new.caches c.grow_room.new.file
-    (omega (arith, len, test, is)) (subst (λ (m : ℕ). GrowsRoom g.S.Storage.state table c.args.clusters m l.room l.caches l.file (Ok now) c.grow_room.new.caches c.grow_room.new.file) l.invariant.1 c.in_ok-room.ensures)
+    (omega (arith, len, test, is)) c.in_ok-room.ensures
 
 pub loop-needed-preserved : goal.loop-needed-preserved
 loop-needed-preserved g c =
@@ -108,7 +113,7 @@ loop-needed-preserved g c =
     let test = c.loop-needed-test.true in
     let is = l.invariant.1 in (
       rooms-then g.S.Storage.state table c.args.from c.args.clusters c.args.caches.now c.args.file.now l.room l.caches l.file l.invariant.0 (wide c.rb_bits-rb_bits.result k bits.entries bits.bounds.0) now c.grow_room.new.caches c.grow_room.new.file
-          (omega (arith, len, test, is)) (subst (λ (m : ℕ). GrowsRoom g.S.Storage.state table c.args.clusters m l.room l.caches l.file (Ok now) c.grow_room.new.caches c.grow_room.new.file) l.invariant.1 c.in_ok-room.ensures),
+          (omega (arith, len, test, is)) c.in_ok-room.ensures,
       as-needed table c.rb_bits-rb_bits.result k c.args.clusters c.lacking_for-in-loop-needed.result now bits.entries c.lacking_for-in-loop-needed.ensures,
     )
 

@@ -4,6 +4,7 @@ use Rattle.qcow2_types.specs.Header.{Header}
 use Rattle.qcow2_types.specs.Counts.{counters_of_block}
 use Rattle.qcow2_alloc.specs.declared.allocation.searching.Run.{Run}
 use Rattle.qcow2_alloc.specs.Allocators.{table_of}
+use Rattle.qcow2_alloc.specs.Caches.{cached_file}
 use Rattle.qcow2_alloc.specs.Scanning.{next_of, ExtendsRun}
 use Rattle.qcow2_alloc.proofs.Searching.LookingForRuns.{searched-then, searched-refused, searched-long, searched-all}
 use Rattle.qcow2_alloc.proofs.Searching.SearchingRuns.{few-clusters}
@@ -15,8 +16,8 @@ pub loop-run-preserved : goal.loop-run-preserved
 loop-run-preserved g c =
     let state = g.S.Storage.state in
     let table = table_of c.args.self.now in
-    let extends : ExtendsRun state table c.args.count c.loop-run.run c.loop-run.caches c.loop-run.file (Ok c.in_ok-run.run') c.extend_run.new.caches c.extend_run.new.file =
-    subst (λ (r : Result Run Fault). ExtendsRun state table c.args.count c.loop-run.run c.loop-run.caches c.loop-run.file r c.extend_run.new.caches c.extend_run.new.file) c.in_ok-run.was c.extend_run.ensures in
+    let extends : ExtendsRun state table c.args.count c.loop-run.run (cached_file c.loop-run.caches c.loop-run.file) (Ok c.in_ok-run.run') (cached_file c.extend_run.new.caches c.extend_run.new.file) =
+    subst (λ (r : Result Run Fault). ExtendsRun state table c.args.count c.loop-run.run (cached_file c.loop-run.caches c.loop-run.file) r (cached_file c.extend_run.new.caches c.extend_run.new.file)) c.in_ok-run.was c.extend_run.ensures in
     let k = counters_of_block c.loop-run.file.header.fields in
     let bits = c.rb_bits-rb_bits.ensures in
     let size : 2 ^ c.rb_bits-rb_bits.result ≡ k = bits.entries ∙ ap (λ (h : Header). counters_of_block h.fields) (sym c.loop-run.invariant.1) in
@@ -35,7 +36,7 @@ returns-in_err-run g c = rw (handed-on _ _ c.from_residual.ensures.1) (
     let state = g.S.Storage.state in
     let table = table_of c.args.self.now in
     searched-refused state table c.args.from c.args.count c.args.caches.now c.args.file.now c.loop-run.run c.loop-run.caches c.loop-run.file c.loop-run.invariant.2 c.in_err-run.field-0.0 c.extend_run.new.caches c.extend_run.new.file
-    (subst (λ (r : Result Run Fault). ExtendsRun state table c.args.count c.loop-run.run c.loop-run.caches c.loop-run.file r c.extend_run.new.caches c.extend_run.new.file) c.in_err-run.was c.extend_run.ensures))
+    (subst (λ (r : Result Run Fault). ExtendsRun state table c.args.count c.loop-run.run (cached_file c.loop-run.caches c.loop-run.file) r (cached_file c.extend_run.new.caches c.extend_run.new.file)) c.in_err-run.was c.extend_run.ensures))
 
 pub returns : goal.returns
 returns g c =

@@ -4,6 +4,7 @@ use Rattle.qcow2_metadata.specs.Blocks.{Block}
 use Rattle.qcow2_metadata.specs.Places.{IsInReach}
 use Rattle.qcow2_alloc.specs.Allocating.{RaisesCluster}
 use Rattle.qcow2_alloc.specs.Allocators.{table_of, metadata_of}
+use Rattle.qcow2_alloc.specs.Caches.{cached_file}
 use Rattle.qcow2_alloc.specs.MakingBlocks.{WhyNotNamed}
 use Rattle.qcow2_alloc.specs.Quiet.{counted}
 use Rattle.qcow2_alloc.specs.State.{lent}
@@ -50,7 +51,7 @@ returns-in_err-count_cluster-clause-makes g c = rw (handed-on _ _ c.from_residua
     let table = table_of c.args.self.now in
     let new = c.count_cluster.new in
     uncounted-made state (lent table first f pending) c.args.index c.args.place c.args.caches.now c.args.file.now begun free c.in_err-count_cluster.field-0.0 new.caches new.file
-    (subst (λ (m : MetadataCaches _). RaisesCluster state table c.args.place m c.args.file.now (failed c.in_err-count_cluster.field-0.0) new.caches new.file) c.in_ok-rb_forget.ensures.ok c.in_err-count_cluster.ensures))
+    (subst (λ (m : MetadataCaches _). RaisesCluster state table c.args.place (cached_file m c.args.file.now) (failed c.in_err-count_cluster.field-0.0) (cached_file new.caches new.file)) c.in_ok-rb_forget.ensures.ok c.in_err-count_cluster.ensures))
 
 pub write_block-requires-clause-namable : goal.write_block-requires-clause-namable
 write_block-requires-clause-namable g c =
@@ -70,7 +71,7 @@ returns-clause-makes g c = λ pending first f begun free.
     let own = c.own_place.ensures.first in
     let ge = c.if-place-own_place.false in
     let below : c.args.place < c.args.index * counters_of_block c.args.file.now.header.fields = omega (arith, own, ge) in
-    let raises = subst (λ (m : MetadataCaches _). RaisesCluster state table c.args.place m c.args.file.now succeeded mid.caches mid.file) c.in_ok-rb_forget.ensures.ok c.in_ok-count_cluster.ensures in
+    let raises = subst (λ (m : MetadataCaches _). RaisesCluster state table c.args.place (cached_file m c.args.file.now) succeeded (cached_file mid.caches mid.file)) c.in_ok-rb_forget.ensures.ok c.in_ok-count_cluster.ensures in
     taken-made-so state (lent table first f pending) c.args.index c.args.place c.args.caches.now c.args.file.now begun free mid.caches mid.file raises flushed.self flushed.file done.going done.kept done.others done.room done.cause done.clean
     c.requires.inside c.requires.empty c.cluster_bits.ensures.shaped.low named.0.some reach below c.in_ok-block.block c.in_ok-block.ensures.ok c.write_block.result (table_of new.self) new.file c.write_block.ensures.header c.write_block.ensures.names
 
@@ -81,7 +82,7 @@ returns-in_err-flush_rb-clause-makes g c = rw (handed-on _ _ c.from_residual-in_
     let mid = c.count_cluster.new in
     let flushed = c.flush_rb.new in
     let done = c.in_err-flush_rb.ensures in
-    let raises = subst (λ (m : MetadataCaches _). RaisesCluster state table c.args.place m c.args.file.now succeeded mid.caches mid.file) c.in_ok-rb_forget.ensures.ok c.in_ok-count_cluster.ensures in
+    let raises = subst (λ (m : MetadataCaches _). RaisesCluster state table c.args.place (cached_file m c.args.file.now) succeeded (cached_file mid.caches mid.file)) c.in_ok-rb_forget.ensures.ok c.in_ok-count_cluster.ensures in
     unwritten-made state (lent table first f pending) c.args.index c.args.place c.args.caches.now c.args.file.now begun free mid.caches mid.file raises c.in_err-flush_rb.field-0.0 flushed.self flushed.file done.going done.kept done.others done.room done.cause done.faults)
 
 pub returns-clause-at : goal.returns-clause-at
