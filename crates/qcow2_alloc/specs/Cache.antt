@@ -6,6 +6,8 @@ use Rattle.std.specs.Map.{lookup, lookup_entry, remove_entry, set_value}
 use Rattle.lru.specs.LruCache.{lru_cache}
 use Rattle.imago_storage.specs.declared.fault.Fault.{Fault}
 use Rattle.imago_storage.specs.declared.fault.Fault.TheVariants.{CacheFull, Memory, Storage}
+use Rattle.qcow2_alloc.specs.declared.async_lru_cache.Admission.{Admission}
+use Rattle.qcow2_alloc.specs.declared.async_lru_cache.Admission.TheVariants.{Granted, Denied}
 use Rattle.qcow2_alloc.specs.declared.async_lru_cache.Slot.{Slot}
 use Rattle.qcow2_alloc.specs.declared.async_lru_cache.AsyncLruCache.{AsyncLruCache}
 
@@ -42,50 +44,50 @@ module _ {K V D : Type 0} (eq : K → K → Bool) (flushes : D → K → V → R
     pub entries : es' ≡ set_value (eq key) es (record slot { value = value })
 
   -- the entry at a key was flushed and removed, or stays where that failed
-  abbrev pub Evicted : K → D → List (K × Slot V) → Result Bool Fault → D → List (K × Slot V) → Type 0
-  Evicted key before es (Ok made) after es' = (made ≡ true) × (mid : List (K × Slot V)) × FlushedAt key before es (Ok tt) after mid
+  abbrev pub Evicted : K → D → List (K × Slot V) → Result Admission Fault → D → List (K × Slot V) → Type 0
+  Evicted key before es (Ok made) after es' = (made ≡ Granted) × (mid : List (K × Slot V)) × FlushedAt key before es (Ok tt) after mid
       × (es' ≡ remove_entry (eq key) es)
   Evicted key before es (Err fault) after es' = FlushedAt key before es (Err fault) after es'
 
   -- how room is made for one entry more
-  pub record MadeRoom (cap : ℕ) (may_flush : Bool) (before : D) (es : List (K × Slot V)) (result : Result Bool Fault) (after : D)
+  pub record MadeRoom (cap : ℕ) (may_flush : Bool) (before : D) (es : List (K × Slot V)) (result : Result Admission Fault) (after : D)
       (es' : List (K × Slot V)) : Type 0 where
-    pub roomy : length es < cap → (result ≡ Ok true) × (after ≡ before) × (es' ≡ es)
-    pub full : cap ≤ length es → may_flush ≡ false → (result ≡ Ok false) × (after ≡ before) × (es' ≡ es)
+    pub roomy : length es < cap → (result ≡ Ok Granted) × (after ≡ before) × (es' ≡ es)
+    pub full : cap ≤ length es → may_flush ≡ false → (result ≡ Ok Denied) × (after ≡ before) × (es' ≡ es)
     pub pinned : cap ≤ length es → may_flush ≡ true → victim es ≡ None → (result ≡ Err CacheFull) × (after ≡ before) × (es' ≡ es)
     pub evicted : cap ≤ length es → may_flush ≡ true → (key : K) → victim es ≡ Some key → Evicted key before es result after es'
 
 module _ {K V D : Type 0} (loads : D → K → Result V Fault → D → Type 0) where
   -- a value was loaded, and goes first; where the load failed, or there was no memory, the entries stay
-  abbrev pub Loaded : K → D → List (K × Slot V) → Result Bool Fault → D → List (K × Slot V) → Type 0
-  Loaded key before es (Ok made) after es' = (made ≡ true) × (value : V) × loads before key (Ok value) after
+  abbrev pub Loaded : K → D → List (K × Slot V) → Result Admission Fault → D → List (K × Slot V) → Type 0
+  Loaded key before es (Ok made) after es' = (made ≡ Granted) × (value : V) × loads before key (Ok value) after
       × (es' ≡ (key, record { value = value; pins = 0 }) ∷ es)
   Loaded key before es (Err fault) after es' = (es' ≡ es)
       × (loads before key (Err fault) after ⊎ ((fault ≡ Memory) × (value : V) × loads before key (Ok value) after))
 
   -- what comes once room was asked for
-  abbrev pub LoadedAfter : K → D → List (K × Slot V) → Result Bool Fault → Result Bool Fault → D → List (K × Slot V) → Type 0
-  LoadedAfter key mid es (Ok true) result after es' = Loaded key mid es result after es'
-  LoadedAfter key mid es (Ok false) result after es' = (result ≡ Ok false) × (after ≡ mid) × (es' ≡ es)
+  abbrev pub LoadedAfter : K → D → List (K × Slot V) → Result Admission Fault → Result Admission Fault → D → List (K × Slot V) → Type 0
+  LoadedAfter key mid es (Ok Granted) result after es' = Loaded key mid es result after es'
+  LoadedAfter key mid es (Ok Denied) result after es' = (result ≡ Ok Denied) × (after ≡ mid) × (es' ≡ es)
   LoadedAfter key mid es (Err fault) result after es' = (result ≡ Err fault) × (after ≡ mid) × (es' ≡ es)
 
 -- how an entry is found or loaded
 module _ {K V D : Type 0} (eq : K → K → Bool) (loads : D → K → Result V Fault → D → Type 0)
     (flushes : D → K → V → Result Unit Fault → D → V → Type 0) where
-  pub record Missed (cap : ℕ) (may_flush : Bool) (key : K) (before : D) (es : List (K × Slot V)) (result : Result Bool Fault) (after : D)
+  pub record Missed (cap : ℕ) (may_flush : Bool) (key : K) (before : D) (es : List (K × Slot V)) (result : Result Admission Fault) (after : D)
       (es' : List (K × Slot V)) : Type 0 where
-    pub room : Result Bool Fault
+    pub room : Result Admission Fault
     pub mid : D
     pub entries : List (K × Slot V)
     pub made : MadeRoom eq flushes cap may_flush before es room mid entries
     pub loaded : LoadedAfter loads key mid entries room result after es'
 
-  pub record Readied (cap : ℕ) (may_flush : Bool) (key : K) (before : D) (es : List (K × Slot V)) (result : Result Bool Fault) (after : D)
+  pub record Readied (cap : ℕ) (may_flush : Bool) (key : K) (before : D) (es : List (K × Slot V)) (result : Result Admission Fault) (after : D)
       (es' : List (K × Slot V)) : Type 0 where
-    pub found : IsSome (lookup (eq key) es) → (result ≡ Ok true) × (after ≡ before) × (es' ≡ es)
+    pub found : IsSome (lookup (eq key) es) → (result ≡ Ok Granted) × (after ≡ before) × (es' ≡ es)
     pub missed : lookup (eq key) es ≡ None → Missed cap may_flush key before es result after es'
     -- the entry is there where it says so
-    pub there : result ≡ Ok true → IsSome (lookup (eq key) es')
+    pub there : result ≡ Ok Granted → IsSome (lookup (eq key) es')
 
 -- How a value is put at a key: over another,
 module _ {K V D : Type 0} (eq : K → K → Bool) (flushes : D → K → V → Result Unit Fault → D → V → Type 0) where
@@ -96,16 +98,16 @@ module _ {K V D : Type 0} (eq : K → K → Bool) (flushes : D → K → V → R
       × FlushedAt eq flushes key before es (Err refused.0) after es'
 
   -- what comes once room was asked for it
-  abbrev pub PutAfter : K → V → List (K × Slot V) → Result Bool Fault → Result (Option V) (Fault × V) → List (K × Slot V) → Type 0
-  PutAfter key value es (Ok true) result es' = ((result ≡ Ok None) × (es' ≡ (key, record { value = value; pins = 0 }) ∷ es))
+  abbrev pub PutAfter : K → V → List (K × Slot V) → Result Admission Fault → Result (Option V) (Fault × V) → List (K × Slot V) → Type 0
+  PutAfter key value es (Ok Granted) result es' = ((result ≡ Ok None) × (es' ≡ (key, record { value = value; pins = 0 }) ∷ es))
       ⊎ ((result ≡ Err (Memory, value)) × (es' ≡ es))
-  PutAfter key value es (Ok false) result es' = (result ≡ Ok (Some value)) × (es' ≡ es)
+  PutAfter key value es (Ok Denied) result es' = (result ≡ Ok (Some value)) × (es' ≡ es)
   PutAfter key value es (Err fault) result es' = (result ≡ Err (fault, value)) × (es' ≡ es)
 
   -- or as a new one
   pub record Added (cap : ℕ) (may_flush : Bool) (key : K) (value : V) (before : D) (es : List (K × Slot V))
       (result : Result (Option V) (Fault × V)) (after : D) (es' : List (K × Slot V)) : Type 0 where
-    pub room : Result Bool Fault
+    pub room : Result Admission Fault
     pub entries : List (K × Slot V)
     pub made : MadeRoom eq flushes cap may_flush before es room after entries
     pub put : PutAfter key value entries room result es'

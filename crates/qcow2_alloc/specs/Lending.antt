@@ -5,6 +5,8 @@ use Rattle.std.specs.Map.{lookup}
 use Rattle.std.specs.Borrow.{Fml, RattleType, MutBor, LendsSo, LendsSoOk}
 use Rattle.imago_storage.specs.declared.fault.Fault.{Fault}
 use Rattle.std.specs.HashMap.Lent.{HashMembers}
+use Rattle.qcow2_alloc.specs.declared.async_lru_cache.Admission.{Admission}
+use Rattle.qcow2_alloc.specs.declared.async_lru_cache.Admission.TheVariants.{Granted, Denied}
 use Rattle.qcow2_alloc.specs.Cache.{hit, with_entries, Readied}
 use Rattle.qcow2_alloc.specs.declared.async_lru_cache.NotLent.{NotLent}
 use Rattle.qcow2_alloc.specs.declared.async_lru_cache.NotLent.TheVariants.{Full, Refused}
@@ -13,9 +15,9 @@ use Rattle.qcow2_alloc.specs.declared.async_lru_cache.AsyncLruCache.{AsyncLruCac
 use Rattle.qcow2_alloc.specs.contracts.async_lru_cache.AsyncLruCache.{the_row}
 
 -- the answer of the search
-abbrev pub answer_of : {V : Type 0} → Result V NotLent → Result Bool Fault
-answer_of (Ok v) = Ok true
-answer_of (Err Full) = Ok false
+abbrev pub answer_of : {V : Type 0} → Result V NotLent → Result Admission Fault
+answer_of (Ok v) = Ok Granted
+answer_of (Err Full) = Ok Denied
 answer_of (Err (Refused fault)) = Err fault
 
 module _ (K V B D : RattleType) (key : HashMembers K.Denot) where
@@ -34,7 +36,7 @@ module _ (K V B D : RattleType) (key : HashMembers K.Denot) where
         → Result (MutBor V.Denot) NotLent → Fml
     lends_found c before after k may_flush r = LendsSoOk cache_row V c r
         (λ n w. (mid : List (K.Denot × Slot V.Denot)) × Readied key.eq loads flushes c.now.slots.cap may_flush k before c.now.slots.entries
-        (Ok true) after mid × IfOk r (λ v. option_map (λ s. s.value) (lookup (key.eq k) mid) ≡ Some v.now)
+        (Ok Granted) after mid × IfOk r (λ v. option_map (λ s. s.value) (lookup (key.eq k) mid) ≡ Some v.now)
         × (n ≡ with_entries c.now (hit (key.eq k) mid w)))
         (λ n. Readied key.eq loads flushes c.now.slots.cap may_flush k before c.now.slots.entries (answer_of r) after n.slots.entries
         × (n ≡ with_entries c.now n.slots.entries))

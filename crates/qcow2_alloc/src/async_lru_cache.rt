@@ -57,6 +57,13 @@ pub enum NotLent {
     Refused(Fault),
 }
 
+// Whether a cache grants what it is asked for, or is full and must not flush.
+#[derive(Clone, Copy, Drop)]
+pub(crate) enum Admission {
+    Granted,
+    Denied,
+}
+
 /// A value, and how many hold on to it.
 #[derive(Drop)]
 pub struct Slot<V> {
@@ -81,6 +88,7 @@ impl<K: Copy + Eq + Hash, V: Drop, B: AsyncLruCacheBackend<Key = K, Value = V>> 
     B,
 > {
     ghost use Rattle.qcow2_alloc.specs.declared.async_lru_cache.Slot.{Slot};
+    ghost use Rattle.qcow2_alloc.specs.declared.async_lru_cache.Admission.TheVariants.{Granted};
     ghost use Rattle.qcow2_alloc.specs.Cache.{with_entries, hit, fault_of, FlushedLast, FlushedEach, DroppedLast, FlushedAt, Evicted, MadeRoom, Loaded, Readied, Overwritten, Added, Inserted, kept_pinned};
     ghost use Rattle.std.specs.Borrow.{sem};
     ghost use Rattle.std.specs.Prelude.{IsSomeAnd, Bool};
@@ -145,19 +153,19 @@ impl<K: Copy + Eq + Hash, V: Drop, B: AsyncLruCacheBackend<Key = K, Value = V>> 
     }
 
     // Makes room for one entry more, where there is none.
-    fn make_room(&mut self, device: &mut B::Device, may_flush: bool) -> Result<bool, Fault>
-        ensures fits { result ≡ Ok true → length self.new.slots.entries < self.new.slots.cap }
-        ensures absent { result ≡ Ok true → (k : K) → lookup (K.eq k) self.old.slots.entries ≡ None
+    fn make_room(&mut self, device: &mut B::Device, may_flush: bool) -> Result<Admission, Fault>
+        ensures fits { result ≡ Ok Granted → length self.new.slots.entries < self.new.slots.cap }
+        ensures absent { result ≡ Ok Granted → (k : K) → lookup (K.eq k) self.old.slots.entries ≡ None
             → lookup (K.eq k) self.new.slots.entries ≡ None }
         ensures room { MadeRoom K.eq B.flushes self.old.slots.cap may_flush device.old self.old.slots.entries result device.new
             self.new.slots.entries }
         ensures others { self.new ≡ with_entries self.old self.new.slots.entries }
     {
         if self.slots.len() < self.slots.cap().get() {
-            return Ok(true);
+            return Ok(Admission::Granted);
         }
         if !may_flush {
-            return Ok(false);
+            return Ok(Admission::Denied);
         }
         match self.victim() {
             None => Err(Fault::CacheFull),
@@ -166,7 +174,7 @@ impl<K: Copy + Eq + Hash, V: Drop, B: AsyncLruCacheBackend<Key = K, Value = V>> 
     }
 
     // Flushes the entry at a key and removes it.
-    fn evict_at(&mut self, device: &mut B::Device, key: K) -> Result<bool, Fault>
+    fn evict_at(&mut self, device: &mut B::Device, key: K) -> Result<Admission, Fault>
         requires { IsSome (lookup (K.eq key) self.old.slots.entries) }
         ensures shorter { OnOk result (length self.new.slots.entries < length self.old.slots.entries) }
         ensures absent { OnOk result ((k : K) → lookup (K.eq k) self.old.slots.entries ≡ None
@@ -176,7 +184,7 @@ impl<K: Copy + Eq + Hash, V: Drop, B: AsyncLruCacheBackend<Key = K, Value = V>> 
     {
         self.flush_at(device, key)?;
         self.slots.pop(&key);
-        Ok(true)
+        Ok(Admission::Granted)
     }
 
     // Puts a value in front, where its key is new and there is room.
@@ -193,7 +201,7 @@ impl<K: Copy + Eq + Hash, V: Drop, B: AsyncLruCacheBackend<Key = K, Value = V>> 
     }
 
     // Loads the value at a key, which is not there, into the room for it.
-    fn load_at(&mut self, device: &mut B::Device, key: K) -> Result<bool, Fault>
+    fn load_at(&mut self, device: &mut B::Device, key: K) -> Result<Admission, Fault>
         requires room { length self.old.slots.entries < self.old.slots.cap }
         requires fresh { lookup (K.eq key) self.old.slots.entries ≡ None }
         ensures loaded { Loaded B.loads key device.old self.old.slots.entries result device.new self.new.slots.entries }
@@ -201,7 +209,7 @@ impl<K: Copy + Eq + Hash, V: Drop, B: AsyncLruCacheBackend<Key = K, Value = V>> 
     {
         let value = self.backend.load(device, key)?;
         match self.put_new(key, value) {
-            Ok(()) => Ok(true),
+            Ok(()) => Ok(Admission::Granted),
             Err((fault, _)) => Err(fault),
         }
     }
@@ -212,18 +220,18 @@ impl<K: Copy + Eq + Hash, V: Drop, B: AsyncLruCacheBackend<Key = K, Value = V>> 
         device: &mut B::Device,
         key: K,
         may_flush: bool,
-    ) -> Result<bool, Fault>
+    ) -> Result<Admission, Fault>
         ensures readied { Readied K.eq B.loads B.flushes self.old.slots.cap may_flush key device.old self.old.slots.entries result
             device.new self.new.slots.entries }
         ensures others { self.new ≡ with_entries self.old self.new.slots.entries }
     {
         if self.slots.contains(&key) {
-            return Ok(true);
+            return Ok(Admission::Granted);
         }
-        if !self.make_room(device, may_flush)? {
-            return Ok(false);
+        match self.make_room(device, may_flush)? {
+            Admission::Granted => self.load_at(device, key),
+            Admission::Denied => Ok(Admission::Denied),
         }
-        self.load_at(device, key)
     }
 
     // Replaces the value at a key that is there, whose entry goes first.
@@ -270,11 +278,11 @@ impl<K: Copy + Eq + Hash, V: Drop, B: AsyncLruCacheBackend<Key = K, Value = V>> 
         ensures others { self.new ≡ with_entries self.old self.new.slots.entries }
     {
         match self.make_room(device, may_flush) {
-            Ok(true) => match self.put_new(key, value) {
+            Ok(Admission::Granted) => match self.put_new(key, value) {
                 Ok(()) => Ok(None),
                 Err(refused) => Err(refused),
             },
-            Ok(false) => Ok(Some(value)),
+            Ok(Admission::Denied) => Ok(Some(value)),
             Err(fault) => Err((fault, value)),
         }
     }
@@ -294,15 +302,15 @@ impl<K: Copy + Eq + Hash, V: Drop, B: AsyncLruCacheBackend<Key = K, Value = V>> 
         ensures* writes_back { sem 𝓛 (lends_found K.row V.row B.row B.Device.row K.Hash B.loads B.flushes self.entry device.old device.new
             key may_flush result) }
         ensures value { IfOk result (λ v. (mid : List (K × Slot V))
-            × Readied K.eq B.loads B.flushes self.old.slots.cap may_flush key device.old self.old.slots.entries (Ok true) device.new mid
+            × Readied K.eq B.loads B.flushes self.old.slots.cap may_flush key device.old self.old.slots.entries (Ok Granted) device.new mid
             × (option_map (λ s. s.value) (lookup (K.eq key) mid) ≡ Some v.now)) }
     {
         match self.ready(device, key, may_flush) {
-            Ok(true) => match self.get_mut(key) {
+            Ok(Admission::Granted) => match self.get_mut(key) {
                 Some(value) => Ok(value),
                 None => unreachable!(),
             },
-            Ok(false) => Err(NotLent::Full),
+            Ok(Admission::Denied) => Err(NotLent::Full),
             Err(fault) => Err(NotLent::Refused(fault)),
         }
     }

@@ -4,7 +4,7 @@ ghost use Rattle.imago_storage.specs.State.{StorageState};
 ghost use Rattle.qcow2_metadata.specs.Places.{IsInReach};
 ghost use Rattle.qcow2_alloc.specs.Backends.{TableLoaded, BlockLoaded, TableFlushed, BlockFlushed};
 
-use crate::async_lru_cache::{AsyncLruCache, AsyncLruCacheBackend};
+use crate::async_lru_cache::{Admission, AsyncLruCache, AsyncLruCacheBackend};
 use crate::file::{ImageFile, is_in_reach};
 use imago_storage::{Fault, Storage};
 use qcow2_metadata::{L2Table, RefBlock, Table};
@@ -391,7 +391,7 @@ impl<S: Storage> MetadataCaches<S> {
     }
 
     // Finds the L2 table in a cluster, or loads it where there is room.
-    fn l2_find(&mut self, file: &mut ImageFile<S>, cluster: HostCluster) -> Result<bool, Fault>
+    fn l2_find(&mut self, file: &mut ImageFile<S>, cluster: HostCluster) -> Result<Admission, Fault>
         ensures readied { Readied nat_eq (table_loads S.state)
             (table_flushes S.state) self.old.l2.slots.cap false cluster file.old self.old.l2.slots.entries result file.new
             self.new.l2.slots.entries }
@@ -415,10 +415,10 @@ impl<S: Storage> MetadataCaches<S> {
     fn l2_ready(&mut self, file: &mut ImageFile<S>, cluster: HostCluster) -> Result<(), Fault>
         ensures { TableFound S.state cluster self.old file.old result self.new file.new }
     {
-        if self.l2_find(file, cluster)? {
-            return Ok(());
+        match self.l2_find(file, cluster)? {
+            Admission::Granted => Ok(()),
+            Admission::Denied => self.l2_load(file, cluster),
         }
-        self.l2_load(file, cluster)
     }
 
     /// The L2 table in a cluster, found or loaded, whose entry goes first. What is written to it is written to the file later, by a flush or
@@ -448,7 +448,7 @@ impl<S: Storage> MetadataCaches<S> {
     }
 
     // Finds the refcount block in a cluster, or loads it where there is room.
-    fn rb_find(&mut self, file: &mut ImageFile<S>, cluster: HostCluster) -> Result<bool, Fault>
+    fn rb_find(&mut self, file: &mut ImageFile<S>, cluster: HostCluster) -> Result<Admission, Fault>
         ensures readied { Readied nat_eq (block_loads S.state)
             (block_flushes S.state) self.old.rb.slots.cap false cluster file.old self.old.rb.slots.entries result file.new
             self.new.rb.slots.entries }
@@ -472,10 +472,10 @@ impl<S: Storage> MetadataCaches<S> {
     fn rb_ready(&mut self, file: &mut ImageFile<S>, cluster: HostCluster) -> Result<(), Fault>
         ensures { BlockFound S.state cluster self.old file.old result self.new file.new }
     {
-        if self.rb_find(file, cluster)? {
-            return Ok(());
+        match self.rb_find(file, cluster)? {
+            Admission::Granted => Ok(()),
+            Admission::Denied => self.rb_load(file, cluster),
         }
-        self.rb_load(file, cluster)
     }
 
     /// The refcount block in a cluster, found or loaded, whose entry goes first. What is written to it is written to the file later, by a flush

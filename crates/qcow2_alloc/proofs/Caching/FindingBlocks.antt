@@ -10,6 +10,8 @@ use Rattle.qcow2_types.specs.Bytes.{bytes_of}
 use Rattle.qcow2_types.specs.Header.{Fields, Header}
 use Rattle.qcow2_types.specs.Words.{max_offset}
 use Rattle.qcow2_types.specs.Counts.{counters_of_block}
+use Rattle.qcow2_alloc.specs.declared.async_lru_cache.Admission.{Admission}
+use Rattle.qcow2_alloc.specs.declared.async_lru_cache.Admission.TheVariants.{Granted}
 use Rattle.qcow2_alloc.specs.Backends.{BlockLoaded, BlockFlushed}
 use Rattle.qcow2_alloc.proofs.Caching.Places.{away-of-all}
 use Rattle.qcow2_alloc.proofs.Caching.Entering.{block-leaves, block-leaves-safe, block-comes, block-comes-safe}
@@ -80,7 +82,7 @@ module _ {S : Type 0} (state : S → StorageState) (H : Header) (order : CacheDe
   abbrev flushes : ImageFile S → ℕ → Block → Result Unit Fault → ImageFile S → Block → Type 0
   flushes = λ old key t result new t'. (new.header ≡ old.header) × BlockFlushed key t (state old.image) result (state new.image) t'
 
-  pub block-readied : (cap : ℕ) (may_flush : Bool) (key : ℕ) (before : ImageFile S) (es : List (ℕ × Slot Block)) (result : Result Bool Fault) (after : ImageFile S) (es' : List (ℕ × Slot Block)) → before.header ≡ H
+  pub block-readied : (cap : ℕ) (may_flush : Bool) (key : ℕ) (before : ImageFile S) (es : List (ℕ × Slot Block)) (result : Result Admission Fault) (after : ImageFile S) (es' : List (ℕ × Slot Block)) → before.header ≡ H
       → Readied nat_eq loads flushes cap may_flush key before es result after es'
       → Going H order (ReadyBlocks order) (WasNotCutOff result) (state before.image) (with_tables es) (state after.image) (with_tables es')
   block-readied cap may_flush key before es result after es' header r =
@@ -96,7 +98,7 @@ module _ {S : Type 0} (state : S → StorageState) (H : Header) (order : CacheDe
       cap may_flush key before es result after es' header r
 
   -- Room is made.
-  pub block-room-made : (cap : ℕ) (may_flush : Bool) (before : ImageFile S) (es : List (ℕ × Slot Block)) (result : Result Bool Fault) (after : ImageFile S) (es' : List (ℕ × Slot Block))
+  pub block-room-made : (cap : ℕ) (may_flush : Bool) (before : ImageFile S) (es : List (ℕ × Slot Block)) (result : Result Admission Fault) (after : ImageFile S) (es' : List (ℕ × Slot Block))
       → MadeRoom nat_eq flushes cap may_flush before es result after es' → Going H order (ReadyBlocks order) (WasNotCutOff result) (state before.image) (with_tables es) (state after.image) (with_tables es')
   block-room-made cap may_flush before es result after es' made =
       room-made (λ d. state d.image) loads flushes H order (ReadyBlocks order) with_tables (λ t. t.modified ≡ false)
@@ -110,8 +112,8 @@ module _ {S : Type 0} (state : S → StorageState) (H : Header) (order : CacheDe
       (subst (λ (h : Header). BlockLoaded h.fields key (state old.image) result (state new.image)) same load.1))
       cap may_flush before es result after es' made
 
-  pub block-room-absent : (cap : ℕ) (may_flush : Bool) (key : ℕ) (before : ImageFile S) (es : List (ℕ × Slot Block)) (result : Result Bool Fault) (after : ImageFile S) (es' : List (ℕ × Slot Block))
-      → MadeRoom nat_eq flushes cap may_flush before es result after es' → result ≡ Ok true → lookup (nat_eq key) es ≡ None → lookup (nat_eq key) es' ≡ None
+  pub block-room-absent : (cap : ℕ) (may_flush : Bool) (key : ℕ) (before : ImageFile S) (es : List (ℕ × Slot Block)) (result : Result Admission Fault) (after : ImageFile S) (es' : List (ℕ × Slot Block))
+      → MadeRoom nat_eq flushes cap may_flush before es result after es' → result ≡ Ok Granted → lookup (nat_eq key) es ≡ None → lookup (nat_eq key) es' ≡ None
   block-room-absent cap may_flush key before es result after es' made =
       room-absent (λ d. state d.image) loads flushes H order (ReadyBlocks order) with_tables (λ t. t.modified ≡ false)
       (λ old new key v v' flush. flushed-clean key v (state old.image) (state new.image) v' flush.1)

@@ -14,6 +14,8 @@ use Rattle.qcow2_types.specs.Words.{Layout, max_offset}
 use Rattle.std.proofs.lemmas.Nat.{le-div}
 use Rattle.std.proofs.Math.Nat.{pow-le-pow_right}
 use Rattle.std.proofs.lemmas.Bool.Decides.{nat_tests}
+use Rattle.qcow2_alloc.specs.declared.async_lru_cache.Admission.{Admission}
+use Rattle.qcow2_alloc.specs.declared.async_lru_cache.Admission.TheVariants.{Granted}
 use Rattle.qcow2_alloc.specs.Backends.{TableLoaded, TableFlushed, l2_words_in}
 use Rattle.qcow2_alloc.proofs.Memory.Patches.{shaped-in}
 use Rattle.qcow2_alloc.proofs.Caching.Places.{away-of-all}
@@ -122,7 +124,7 @@ module _ {S : Type 0} (state : S → StorageState) (H : Header) (order : CacheDe
   abbrev flushes : ImageFile S → ℕ → TableValue → Result Unit Fault → ImageFile S → TableValue → Type 0
   flushes = λ old key t result new t'. (new.header ≡ old.header) × TableFlushed key t (state old.image) result (state new.image) t'
 
-  pub table-readied : (cap : ℕ) (may_flush : Bool) (key : ℕ) (before : ImageFile S) (es : List (ℕ × Slot TableValue)) (result : Result Bool Fault) (after : ImageFile S) (es' : List (ℕ × Slot TableValue)) → before.header ≡ H
+  pub table-readied : (cap : ℕ) (may_flush : Bool) (key : ℕ) (before : ImageFile S) (es : List (ℕ × Slot TableValue)) (result : Result Admission Fault) (after : ImageFile S) (es' : List (ℕ × Slot TableValue)) → before.header ≡ H
       → Readied nat_eq loads flushes cap may_flush key before es result after es'
       → Going H order (ReadyTables order) (WasNotCutOff result) (state before.image) (with_blocks es) (state after.image) (with_blocks es')
   table-readied cap may_flush key before es result after es' header r =
@@ -138,7 +140,7 @@ module _ {S : Type 0} (state : S → StorageState) (H : Header) (order : CacheDe
       cap may_flush key before es result after es' header r
 
   -- Room is made.
-  pub table-room-made : (cap : ℕ) (may_flush : Bool) (before : ImageFile S) (es : List (ℕ × Slot TableValue)) (result : Result Bool Fault) (after : ImageFile S) (es' : List (ℕ × Slot TableValue))
+  pub table-room-made : (cap : ℕ) (may_flush : Bool) (before : ImageFile S) (es : List (ℕ × Slot TableValue)) (result : Result Admission Fault) (after : ImageFile S) (es' : List (ℕ × Slot TableValue))
       → MadeRoom nat_eq flushes cap may_flush before es result after es' → Going H order (ReadyTables order) (WasNotCutOff result) (state before.image) (with_blocks es) (state after.image) (with_blocks es')
   table-room-made cap may_flush before es result after es' made =
       room-made (λ d. state d.image) loads flushes H order (ReadyTables order) with_blocks (λ t. t.modified ≡ false)
@@ -152,8 +154,8 @@ module _ {S : Type 0} (state : S → StorageState) (H : Header) (order : CacheDe
       (subst (λ (h : Header). TableLoaded h.fields key (state old.image) result (state new.image)) same load.1))
       cap may_flush before es result after es' made
 
-  pub table-room-absent : (cap : ℕ) (may_flush : Bool) (key : ℕ) (before : ImageFile S) (es : List (ℕ × Slot TableValue)) (result : Result Bool Fault) (after : ImageFile S) (es' : List (ℕ × Slot TableValue))
-      → MadeRoom nat_eq flushes cap may_flush before es result after es' → result ≡ Ok true → lookup (nat_eq key) es ≡ None → lookup (nat_eq key) es' ≡ None
+  pub table-room-absent : (cap : ℕ) (may_flush : Bool) (key : ℕ) (before : ImageFile S) (es : List (ℕ × Slot TableValue)) (result : Result Admission Fault) (after : ImageFile S) (es' : List (ℕ × Slot TableValue))
+      → MadeRoom nat_eq flushes cap may_flush before es result after es' → result ≡ Ok Granted → lookup (nat_eq key) es ≡ None → lookup (nat_eq key) es' ≡ None
   table-room-absent cap may_flush key before es result after es' made =
       room-absent (λ d. state d.image) loads flushes H order (ReadyTables order) with_blocks (λ t. t.modified ≡ false)
       (λ old new key v v' flush. flushed-clean key v (state old.image) (state new.image) v' flush.1)

@@ -8,6 +8,8 @@ use Rattle.imago_storage.specs.State.{StorageState}
 use Rattle.imago_storage.specs.Calls.{Kept}
 use Rattle.imago_storage.specs.declared.fault.Fault.{Fault}
 use Rattle.imago_storage.specs.declared.fault.Fault.TheVariants.{CacheFull}
+use Rattle.qcow2_alloc.specs.declared.async_lru_cache.Admission.{Admission}
+use Rattle.qcow2_alloc.specs.declared.async_lru_cache.Admission.TheVariants.{Granted, Denied}
 use Rattle.qcow2_alloc.specs.declared.async_lru_cache.Slot.{Slot}
 use Rattle.qcow2_alloc.specs.Cache.{FlushedAt, Evicted, MadeRoom, PutAfter, Overwritten, Inserted, hit, victim}
 use Rattle.qcow2_alloc.specs.Finding.{IsPinnedFull, PinsNothing, with_room, CountsSearch, LetsIn}
@@ -77,9 +79,9 @@ module _ {V D : Type 0} (flushes : D → ℕ → V → Result Unit Fault → D �
   not-there : {X : Type 0} → lookup (nat_eq key) es ≡ None → IsSome (lookup (nat_eq key) es) → X
   not-there none there = absurd (let no = subst (λ (o : Option (Slot V)). IsSome o) none there in cc)
 
-  added-put : lookup (nat_eq key) es ≡ None → (room : Result Bool Fault) (entries : List (ℕ × Slot V)) → MadeRoom nat_eq flushes cap may_flush before es room after entries → (result : Result (Option V) (Fault × V)) → (IsBarred result → ⊥)
+  added-put : lookup (nat_eq key) es ≡ None → (room : Result Admission Fault) (entries : List (ℕ × Slot V)) → MadeRoom nat_eq flushes cap may_flush before es room after entries → (result : Result (Option V) (Fault × V)) → (IsBarred result → ⊥)
       → PutAfter nat_eq flushes key value entries room result es' → PutInto written cap key value es (put_of result) es'
-  added-put none (Ok true) entries made result not (inl put) =
+  added-put none (Ok Granted) entries made result not (inl put) =
       let list = room-list (λ a k r b. ⊥) flushes cap may_flush before es after entries made in
       let is = put.1 ∙ ap (λ (l : List (ℕ × Slot V)). (key, record { value = value; pins = 0 }) ∷ l) list in
       subst (λ (q : Result (Option V) (Fault × V)). PutInto written cap key value es (put_of q) es') (sym put.0) (record {
@@ -88,7 +90,7 @@ module _ {V D : Type 0} (flushes : D → ℕ → V → Result Unit Fault → D �
         refused = tt;
         pinned = subst (λ l. PinsNothing es l) (sym is) (pins-then es (with_room cap es) _ (pins-room (λ a k r b. ⊥) flushes cap es) (pins-new key value (with_room cap es)));
       })
-  added-put none (Ok true) entries made result not (inr short) =
+  added-put none (Ok Granted) entries made result not (inr short) =
       let is = short.1 ∙ room-list (λ a k r b. ⊥) flushes cap may_flush before es after entries made in
       subst (λ (q : Result (Option V) (Fault × V)). PutInto written cap key value es (put_of q) es') (sym short.0) (record {
         over = not-there none;
@@ -96,7 +98,7 @@ module _ {V D : Type 0} (flushes : D → ℕ → V → Result Unit Fault → D �
         refused = (refl, inr is);
         pinned = subst (λ l. PinsNothing es l) (sym is) (pins-room (λ a k r b. ⊥) flushes cap es);
       })
-  added-put none (Ok false) entries made result not put = absurd (not (subst (λ (q : Result (Option V) (Fault × V)). IsBarred q) (sym put.0) tt))
+  added-put none (Ok Denied) entries made result not put = absurd (not (subst (λ (q : Result (Option V) (Fault × V)). IsBarred q) (sym put.0) tt))
   added-put none (Err fault) entries made result not put =
       let r = room-refused (λ a k r b. ⊥) flushes written kept cap may_flush before es fault after entries made in
       subst (λ (q : Result (Option V) (Fault × V)). PutInto written cap key value es (put_of q) es') (sym put.0) (record {
@@ -127,11 +129,11 @@ module _ {V D : Type 0} (state : D → StorageState) (flushes : D → ℕ → V 
   over-counted (Err refused) (back, at) =
       found-written (Reach key at.slot.value) _ _ _ _ refused.0 (λ all. all-at (λ (e : ℕ × Slot V). Reach e.0 e.1.value) key es at.slot at.there all) (step before key at.slot.value (Err refused.0) after at.value at.flush).counts
 
-  added-counted : (room : Result Bool Fault) (entries : List (ℕ × Slot V)) → CountsSearch (AllByRecursion (λ (e : ℕ × Slot V). Reach e.0 e.1.value) es) (IsPinnedFull cap es) (state before).faults (state after).faults (done_of room)
+  added-counted : (room : Result Admission Fault) (entries : List (ℕ × Slot V)) → CountsSearch (AllByRecursion (λ (e : ℕ × Slot V). Reach e.0 e.1.value) es) (IsPinnedFull cap es) (state before).faults (state after).faults (done_of room)
       → (result : Result (Option V) (Fault × V)) → PutAfter nat_eq flushes key value entries room result es' → Counts result
-  added-counted (Ok true) entries same result (inl put) = subst (λ (q : Result (Option V) (Fault × V)). Counts q) (sym put.0) same
-  added-counted (Ok true) entries same result (inr short) = subst (λ (q : Result (Option V) (Fault × V)). Counts q) (sym short.0) tt
-  added-counted (Ok false) entries same result put = subst (λ (q : Result (Option V) (Fault × V)). Counts q) (sym put.0) same
+  added-counted (Ok Granted) entries same result (inl put) = subst (λ (q : Result (Option V) (Fault × V)). Counts q) (sym put.0) same
+  added-counted (Ok Granted) entries same result (inr short) = subst (λ (q : Result (Option V) (Fault × V)). Counts q) (sym short.0) tt
+  added-counted (Ok Denied) entries same result put = subst (λ (q : Result (Option V) (Fault × V)). Counts q) (sym put.0) same
   added-counted (Err fault) entries why result put = subst (λ (q : Result (Option V) (Fault × V)). Counts q) (sym put.0) why
 
   pub inserted-counted : (result : Result (Option V) (Fault × V)) → Inserted nat_eq flushes cap may_flush key value before es result after es' → Counts result
@@ -147,7 +149,7 @@ module _ {V D : Type 0} (state : D → StorageState) (flushes : D → ℕ → V 
 
 -- With leave to flush it is never given back without a fault.
 module _ {V D : Type 0} (flushes : D → ℕ → V → Result Unit Fault → D → V → Type 0) (cap key : ℕ) (value : V) (before : D) (es : List (ℕ × Slot V)) (after : D) (es' : List (ℕ × Slot V)) where
-  room-not-denied : (entries : List (ℕ × Slot V)) → MadeRoom nat_eq flushes cap true before es (Ok false) after entries → ⊥
+  room-not-denied : (entries : List (ℕ × Slot V)) → MadeRoom nat_eq flushes cap true before es (Ok Denied) after entries → ⊥
   room-not-denied entries made = elim (cases_lt (length es) cap) [
     | inl roomy ↦ let is = (made.roomy roomy).0 in cc
     | inr full ↦ by-victim (victim es) refl full
@@ -157,10 +159,10 @@ module _ {V D : Type 0} (flushes : D → ℕ → V → Result Unit Fault → D �
       by-victim None is full = let no = (made.pinned full refl is).0 in cc
       by-victim (Some k) is full = let no = (made.evicted full refl k is).0 in cc
 
-  put-not-barred : (room : Result Bool Fault) (entries : List (ℕ × Slot V)) → MadeRoom nat_eq flushes cap true before es room after entries → (result : Result (Option V) (Fault × V)) → PutAfter nat_eq flushes key value entries room result es' → IsBarred result → ⊥
-  put-not-barred (Ok true) entries made result (inl now) barred = subst (λ (q : Result (Option V) (Fault × V)). IsBarred q) now.0 barred
-  put-not-barred (Ok true) entries made result (inr short) barred = subst (λ (q : Result (Option V) (Fault × V)). IsBarred q) short.0 barred
-  put-not-barred (Ok false) entries made result put barred = room-not-denied entries made
+  put-not-barred : (room : Result Admission Fault) (entries : List (ℕ × Slot V)) → MadeRoom nat_eq flushes cap true before es room after entries → (result : Result (Option V) (Fault × V)) → PutAfter nat_eq flushes key value entries room result es' → IsBarred result → ⊥
+  put-not-barred (Ok Granted) entries made result (inl now) barred = subst (λ (q : Result (Option V) (Fault × V)). IsBarred q) now.0 barred
+  put-not-barred (Ok Granted) entries made result (inr short) barred = subst (λ (q : Result (Option V) (Fault × V)). IsBarred q) short.0 barred
+  put-not-barred (Ok Denied) entries made result put barred = room-not-denied entries made
   put-not-barred (Err fault) entries made result put barred = subst (λ (q : Result (Option V) (Fault × V)). IsBarred q) put.0 barred
 
   over-not-barred : (result : Result (Option V) (Fault × V)) → Overwritten nat_eq flushes key value before es result after es' → IsBarred result → ⊥
@@ -181,11 +183,11 @@ module _ {V D : Type 0} (flushes : D → ℕ → V → Result Unit Fault → D �
   unmoved : after ≡ before → R before after
   unmoved is = subst (λ (d : D). R before d) (sym is) (R-refl before)
 
-  evicted-related : (k : ℕ) (room : Result Bool Fault) (entries : List (ℕ × Slot V)) → Evicted nat_eq flushes k before es room after entries → R before after
+  evicted-related : (k : ℕ) (room : Result Admission Fault) (entries : List (ℕ × Slot V)) → Evicted nat_eq flushes k before es room after entries → R before after
   evicted-related k (Ok made) entries (is, between, at, removed) = flushing before after k at.slot.value at.value (Ok tt) at.flush
   evicted-related k (Err fault) entries at = flushing before after k at.slot.value at.value (Err fault) at.flush
 
-  room-moved : (room : Result Bool Fault) (entries : List (ℕ × Slot V)) → MadeRoom nat_eq flushes cap may_flush before es room after entries → R before after
+  room-moved : (room : Result Admission Fault) (entries : List (ℕ × Slot V)) → MadeRoom nat_eq flushes cap may_flush before es room after entries → R before after
   room-moved room entries made = elim (cases_lt (length es) cap) [
     | inl roomy ↦ unmoved (made.roomy roomy).1
     | inr full ↦ elim (cases_Bool may_flush) [
@@ -229,7 +231,7 @@ module _ {V D : Type 0} (flushes : D → ℕ → V → Result Unit Fault → D �
   where-ok (Ok back) x = x
   where-ok (Err refused) x = tt
 
-  room-flushed : (k : ℕ) (slot : Slot V) → lookup (nat_eq k) es ≡ Some slot → cap ≤ length es → victim es ≡ Some k → (room : Result Bool Fault) (entries : List (ℕ × Slot V)) → MadeRoom nat_eq flushes cap true before es room after entries
+  room-flushed : (k : ℕ) (slot : Slot V) → lookup (nat_eq k) es ≡ Some slot → cap ≤ length es → victim es ≡ Some k → (room : Result Admission Fault) (entries : List (ℕ × Slot V)) → MadeRoom nat_eq flushes cap true before es room after entries
       → (result : Result (Option V) (Fault × V)) → PutAfter nat_eq flushes key value entries room result es' → OnOk (put_of result) (Flushes k slot)
   room-flushed k slot there full is (Ok done) entries made result put =
       let e = made.evicted full refl k is in
@@ -249,7 +251,7 @@ module _ {V D : Type 0} (flushes : D → ℕ → V → Result Unit Fault → D �
       not (subst (λ (q : Result (Option V) (Fault × V)). IsBarred q) (sym (i.barred (subst (λ (o : Option (Slot V)). IsSome o) (sym here) refl) refl).0) tt)
   way-barred result not i k slot (inr (none, full, is)) there =
       let a = i.fresh none in
-      let barred = subst (λ (q : Result Bool Fault). PutAfter nat_eq flushes key value a.entries q result es') (a.made.full full refl).0 a.put in
+      let barred = subst (λ (q : Result Admission Fault). PutAfter nat_eq flushes key value a.entries q result es') (a.made.full full refl).0 a.put in
       not (subst (λ (q : Result (Option V) (Fault × V)). IsBarred q) (sym barred.0) tt)
 
 pub put-then : {V X Y : Type 0} (result : Result (Option V) (Fault × V)) → (X → Y) → OnOk (put_of result) X → OnOk (put_of result) Y
@@ -263,19 +265,19 @@ module _ {V D : Type 0} (state : D → StorageState) (flushes : D → ℕ → V 
   abbrev Refused : Result (Option V) (Fault × V) → Result Unit Fault
   Refused result = refusal_of (put_of result)
 
-  room-lets-in : (room : Result Bool Fault) (entries : List (ℕ × Slot V)) → MadeRoom nat_eq flushes cap true before es room after entries → (result : Result (Option V) (Fault × V)) → PutAfter nat_eq flushes key value entries room result es'
+  room-lets-in : (room : Result Admission Fault) (entries : List (ℕ × Slot V)) → MadeRoom nat_eq flushes cap true before es room after entries → (result : Result (Option V) (Fault × V)) → PutAfter nat_eq flushes key value entries room result es'
       → LetsIn asks (state before) es (Refused result) (state after) es'
   room-lets-in room entries made result put = record {
     stuck = λ no. no-room room (made.pinned full refl no) put;
     goes = λ k is. by-room k room (made.evicted full refl k is) put;
   }
     where
-      no-room : (room : Result Bool Fault) → (room ≡ Err CacheFull) × (after ≡ before) × (entries ≡ es) → PutAfter nat_eq flushes key value entries room result es' → (Refused result ≡ Err CacheFull) × (state after ≡ state before) × (es' ≡ es)
+      no-room : (room : Result Admission Fault) → (room ≡ Err CacheFull) × (after ≡ before) × (entries ≡ es) → PutAfter nat_eq flushes key value entries room result es' → (Refused result ≡ Err CacheFull) × (state after ≡ state before) × (es' ≡ es)
       no-room room (is, same, list) put =
-          let p : (result ≡ Err (CacheFull, value)) × (es' ≡ entries) = subst (λ (q : Result Bool Fault). PutAfter nat_eq flushes key value entries q result es') is put in
+          let p : (result ≡ Err (CacheFull, value)) × (es' ≡ entries) = subst (λ (q : Result Admission Fault). PutAfter nat_eq flushes key value entries q result es') is put in
           (ap Refused p.0, ap state same, p.1 ∙ list)
 
-      by-room : (k : ℕ) (room : Result Bool Fault) → Evicted nat_eq flushes k before es room after entries → PutAfter nat_eq flushes key value entries room result es'
+      by-room : (k : ℕ) (room : Result Admission Fault) → Evicted nat_eq flushes k before es room after entries → PutAfter nat_eq flushes key value entries room result es'
           → (mid : StorageState) × (answer : Result Unit Fault) × (flushed : List (ℕ × Slot V)) × FlushedAt nat_eq asks k (state before) es answer mid flushed
           × MatchResult answer (λ _. Kept mid (state after)) (λ fault. (Refused result ≡ Err fault) × (state after ≡ mid) × (es' ≡ flushed))
       by-room k (Ok made) (is, flushed, at, removed) put =
@@ -290,5 +292,5 @@ module _ {V D : Type 0} (state : D → StorageState) (flushes : D → ℕ → V 
   pub inserted-barred : (result : Result (Option V) (Fault × V)) → (IsBarred result → ⊥) → Inserted nat_eq flushes cap false key value before es result after es' → ⊥
   inserted-barred result not i =
       let a = i.fresh none in
-      let barred : (result ≡ Ok (Some value)) × (es' ≡ a.entries) = subst (λ (q : Result Bool Fault). PutAfter nat_eq flushes key value a.entries q result es') (a.made.full full refl).0 a.put in
+      let barred : (result ≡ Ok (Some value)) × (es' ≡ a.entries) = subst (λ (q : Result Admission Fault). PutAfter nat_eq flushes key value a.entries q result es') (a.made.full full refl).0 a.put in
       not (subst (λ (q : Result (Option V) (Fault × V)). IsBarred q) (sym barred.0) tt)

@@ -13,6 +13,8 @@ use Rattle.qcow2_types.specs.Header.{Header}
 use Rattle.qcow2_metadata.specs.Places.{IsInReach}
 use Rattle.qcow2_metadata.specs.Blocks.{Block}
 use Rattle.qcow2_metadata.specs.Tables.{TableValue}
+use Rattle.qcow2_alloc.specs.declared.async_lru_cache.Admission.{Admission}
+use Rattle.qcow2_alloc.specs.declared.async_lru_cache.Admission.TheVariants.{Granted, Denied}
 use Rattle.qcow2_alloc.specs.declared.async_lru_cache.Slot.{Slot}
 use Rattle.qcow2_alloc.specs.declared.cache.CacheDependency.{CacheDependency}
 use Rattle.qcow2_alloc.specs.declared.cache.CacheDependency.TheVariants.{RbDependsOnL2}
@@ -85,19 +87,19 @@ module _ (H : Header) (order : CacheDependency) (tables : List (ℕ × Slot Tabl
       then-so : (ok' : Type 0) (es2 : List (ℕ × Slot Block)) → Going H order (ReadyBlocks order) ok' (state before.image) (put es) (state after.image) (put es2) → Going H order Always ok' a A (state after.image) (put es2)
       then-so ok' es2 second = going-ready H order (ReadyBlocks order) ok ok' a (state before.image) (state after.image) A (put es) (put es2) done ready first second
 
-      by-put : lookup (nat_eq key) es ≡ None → (room : Result Bool Fault) (entries : List (ℕ × Slot Block)) → MadeRoom nat_eq (block_flushes state) cap true before es room after entries → (result : Result (Option Block) (Fault × Block))
+      by-put : lookup (nat_eq key) es ≡ None → (room : Result Admission Fault) (entries : List (ℕ × Slot Block)) → MadeRoom nat_eq (block_flushes state) cap true before es room after entries → (result : Result (Option Block) (Fault × Block))
           → PutAfter nat_eq (block_flushes state) key value entries room result es' → Going H order (λ _. P) (WasNotCutOff (refusal_of (put_of result))) a A (state after.image) (put es')
       by-put none room entries made result later =
           let second = then-so (WasNotCutOff room) entries (block-room-made state H order tables cap true before es room after entries made) in
           by-room room (block-room-absent state H order tables cap true key before es room after entries made) second later
         where
-          by-room : (room : Result Bool Fault) → (room ≡ Ok true → lookup (nat_eq key) es ≡ None → lookup (nat_eq key) entries ≡ None) → Going H order Always (WasNotCutOff room) a A (state after.image) (put entries)
+          by-room : (room : Result Admission Fault) → (room ≡ Ok Granted → lookup (nat_eq key) es ≡ None → lookup (nat_eq key) entries ≡ None) → Going H order Always (WasNotCutOff room) a A (state after.image) (put entries)
               → PutAfter nat_eq (block_flushes state) key value entries room result es' → Going H order (λ _. P) (WasNotCutOff (refusal_of (put_of result))) a A (state after.image) (put es')
-          by-room (Ok true) absent second (inl now) =
+          by-room (Ok Granted) absent second (inl now) =
               subst (λ (l : List (ℕ × Slot Block)). Going H order (λ _. P) (WasNotCutOff (refusal_of (put_of result))) a A (state after.image) (put l)) (sym now.1)
               (last (state after.image) entries _ ⊤ (WasNotCutOff (refusal_of (put_of result))) (λ w. tt) second (block-put (state after.image) entries (absent refl none)))
-          by-room (Ok true) absent second (inr short) = halted (state after.image) entries es' ⊤ (WasNotCutOff (refusal_of (put_of result))) (λ w. tt) short.1 second
-          by-room (Ok false) absent second later = halted (state after.image) entries es' ⊤ (WasNotCutOff (refusal_of (put_of result))) (λ w. tt) later.1 second
+          by-room (Ok Granted) absent second (inr short) = halted (state after.image) entries es' ⊤ (WasNotCutOff (refusal_of (put_of result))) (λ w. tt) short.1 second
+          by-room (Ok Denied) absent second later = halted (state after.image) entries es' ⊤ (WasNotCutOff (refusal_of (put_of result))) (λ w. tt) later.1 second
           by-room (Err fault) absent second later =
               halted (state after.image) entries es' (IsMild fault) (WasNotCutOff (refusal_of (put_of result))) (λ w. subst (λ (q : Result (Option Block) (Fault × Block)). WasNotCutOff (refusal_of (put_of q))) later.0 w) later.1 second
 
@@ -137,18 +139,18 @@ module _ {S : Type 0} (state : S → StorageState) (H : Header) (order : CacheDe
     pub absent : lookup (nat_eq key) es ≡ None
     pub way : (es' ≡ es) ⊎ ((es' ≡ (key, record { value = value; pins = 0 }) ∷ es) × (result ≡ Ok None))
 
-  quiet-put : lookup (nat_eq key) es ≡ None → (room : Result Bool Fault) (entries : List (ℕ × Slot Block)) → MadeRoom nat_eq (block_flushes state) cap false before es room after entries → (result : Result (Option Block) (Fault × Block)) → (IsBarred result → ⊥)
+  quiet-put : lookup (nat_eq key) es ≡ None → (room : Result Admission Fault) (entries : List (ℕ × Slot Block)) → MadeRoom nat_eq (block_flushes state) cap false before es room after entries → (result : Result (Option Block) (Fault × Block)) → (IsBarred result → ⊥)
       → PutAfter nat_eq (block_flushes state) key value entries room result es' → IsQuiet result
   quiet-put none room entries made result not later = elim (cases_lt (length es) cap) [
     | inl roomy ↦
         let r = made.roomy roomy in
-        elim (subst (λ (q : Result Bool Fault). PutAfter nat_eq (block_flushes state) key value entries q result es') r.0 later) [
+        elim (subst (λ (q : Result Admission Fault). PutAfter nat_eq (block_flushes state) key value entries q result es') r.0 later) [
           | inl now ↦ record { file = r.1; absent = none; way = inr (now.1 ∙ ap (λ (l : List (ℕ × Slot Block)). (key, record { value = value; pins = 0 }) ∷ l) r.2, now.0) }
           | inr short ↦ record { file = r.1; absent = none; way = inl (short.1 ∙ r.2) }
         ]
     | inr full ↦
         let r = made.full full refl in
-        let barred = subst (λ (q : Result Bool Fault). PutAfter nat_eq (block_flushes state) key value entries q result es') r.0 later in
+        let barred = subst (λ (q : Result Admission Fault). PutAfter nat_eq (block_flushes state) key value entries q result es') r.0 later in
         absurd (not (subst (λ (q : Result (Option Block) (Fault × Block)). IsBarred q) (sym barred.0) tt))
   ]
 
@@ -230,13 +232,13 @@ module _ {S : Type 0} (state : S → StorageState) (cluster : ℕ) (block : Bloc
       | inr none ↦ let added = i.fresh none in elim (cases_lt (length old.rb.slots.entries) old.rb.slots.cap) [
         | inl roomy ↦
             let r = added.made.roomy roomy in
-            absurd (elim (subst (λ (q : Result Bool Fault). PutAfter nat_eq (block_flushes state) cluster block added.entries q (Ok (Some value)) new.rb.slots.entries) r.0 added.put) [
+            absurd (elim (subst (λ (q : Result Admission Fault). PutAfter nat_eq (block_flushes state) cluster block added.entries q (Ok (Some value)) new.rb.slots.entries) r.0 added.put) [
               | inl now ↦ let no = now.0 in cc
               | inr short ↦ let no = short.0 in cc
             ])
         | inr full ↦
             let r = added.made.full full refl in
-            let barred = subst (λ (q : Result Bool Fault). PutAfter nat_eq (block_flushes state) cluster block added.entries q (Ok (Some value)) new.rb.slots.entries) r.0 added.put in
+            let barred = subst (λ (q : Result Admission Fault). PutAfter nat_eq (block_flushes state) cluster block added.entries q (Ok (Some value)) new.rb.slots.entries) r.0 added.put in
             let list : new.rb.slots.entries ≡ old.rb.slots.entries = barred.1 ∙ r.2 in
             let cap : new.rb.slots.cap ≡ old.rb.slots.cap = ap (λ (m : MetadataCaches S). m.rb.slots.cap) same in
             let long = ap (λ (l : List (ℕ × Slot Block)). length l) list in

@@ -8,6 +8,8 @@ use Rattle.imago_storage.specs.State.{StorageState}
 use Rattle.imago_storage.specs.Calls.{Kept}
 use Rattle.imago_storage.specs.declared.fault.Fault.{Fault}
 use Rattle.imago_storage.specs.declared.fault.Fault.TheVariants.{CacheFull}
+use Rattle.qcow2_alloc.specs.declared.async_lru_cache.Admission.{Admission}
+use Rattle.qcow2_alloc.specs.declared.async_lru_cache.Admission.TheVariants.{Granted, Denied}
 use Rattle.qcow2_alloc.specs.declared.async_lru_cache.Slot.{Slot}
 use Rattle.qcow2_alloc.specs.declared.cache.CacheDependency.{CacheDependency}
 use Rattle.qcow2_alloc.specs.declared.cache.CacheDependency.TheVariants.{Unset, L2DependsOnRb, RbDependsOnL2}
@@ -54,16 +56,16 @@ blocks-none a b c c' result did all =
 module _ {V D : Type 0} (state : D → StorageState) (loads : D → ℕ → Result V Fault → D → Type 0) (flushes : D → ℕ → V → Result Unit Fault → D → V → Type 0)
     (loading : (old new : D) (key : ℕ) (answer : Result V Fault) → loads old key answer new → Kept (state old) (state new)) where
   -- A load only reads.
-  loaded-kept : (key : ℕ) (mid : D) (entries : List (ℕ × Slot V)) (result : Result Bool Fault) (after : D) (es' : List (ℕ × Slot V)) → Loaded loads key mid entries result after es' → Kept (state mid) (state after)
+  loaded-kept : (key : ℕ) (mid : D) (entries : List (ℕ × Slot V)) (result : Result Admission Fault) (after : D) (es' : List (ℕ × Slot V)) → Loaded loads key mid entries result after es' → Kept (state mid) (state after)
   loaded-kept key mid entries (Ok made) after es' (is, value, load, list) = loading mid after key (Ok value) load
   loaded-kept key mid entries (Err fault) after es' (same, why) = elim why [ inl load ↦ loading mid after key (Err fault) load | inr short ↦ loading mid after key (Ok short.1) short.2 ]
 
   -- Without leave to flush nothing is loaded into a full cache.
-  pub never-now : (cap key : ℕ) (before : D) (es : List (ℕ × Slot V)) (result : Result Bool Fault) (after : D) (es' : List (ℕ × Slot V)) → lookup (nat_eq key) es ≡ None → cap ≤ length es
-      → Readied nat_eq loads flushes cap false key before es result after es' → result ≡ Ok false
+  pub never-now : (cap key : ℕ) (before : D) (es : List (ℕ × Slot V)) (result : Result Admission Fault) (after : D) (es' : List (ℕ × Slot V)) → lookup (nat_eq key) es ≡ None → cap ≤ length es
+      → Readied nat_eq loads flushes cap false key before es result after es' → result ≡ Ok Denied
   never-now cap key before es result after es' none full r =
       let m = r.missed none in
-      let later : (result ≡ Ok false) × (after ≡ m.mid) × (es' ≡ m.entries) = subst (λ (q : Result Bool Fault). LoadedAfter loads key m.mid m.entries q result after es') (m.made.full full refl).0 m.loaded in
+      let later : (result ≡ Ok Denied) × (after ≡ m.mid) × (es' ≡ m.entries) = subst (λ (q : Result Admission Fault). LoadedAfter loads key m.mid m.entries q result after es') (m.made.full full refl).0 m.loaded in
       later.0
 
   -- With leave, the entry that goes is flushed in place.
@@ -73,7 +75,7 @@ module _ {V D : Type 0} (state : D → StorageState) (loads : D → ℕ → Resu
         → FlushedAt nat_eq asks key (state before) es answer (state after) es'
     flushed-so key before es answer after es' at = record { slot = at.slot; value = at.value; there = at.there; flush = asked before after key at.slot.value at.value answer at.flush; entries = at.entries }
 
-    pub lets-in : (cap key : ℕ) (before : D) (es : List (ℕ × Slot V)) (result : Result Bool Fault) (after : D) (es' : List (ℕ × Slot V)) → lookup (nat_eq key) es ≡ None → cap ≤ length es
+    pub lets-in : (cap key : ℕ) (before : D) (es : List (ℕ × Slot V)) (result : Result Admission Fault) (after : D) (es' : List (ℕ × Slot V)) → lookup (nat_eq key) es ≡ None → cap ≤ length es
         → Readied nat_eq loads flushes cap true key before es result after es' → LetsIn asks (state before) es (done_of result) (state after) es'
     lets-in cap key before es result after es' none full r =
         let m = r.missed none in record {
@@ -81,17 +83,17 @@ module _ {V D : Type 0} (state : D → StorageState) (loads : D → ℕ → Resu
           goes = λ k is. by-room k m.room m.mid m.entries (m.made.evicted full refl k is) m.loaded;
         }
       where
-        no-room : (room : Result Bool Fault) (mid : D) (entries : List (ℕ × Slot V)) → (room ≡ Err CacheFull) × (mid ≡ before) × (entries ≡ es) → LoadedAfter loads key mid entries room result after es'
+        no-room : (room : Result Admission Fault) (mid : D) (entries : List (ℕ × Slot V)) → (room ≡ Err CacheFull) × (mid ≡ before) × (entries ≡ es) → LoadedAfter loads key mid entries room result after es'
             → (done_of result ≡ Err CacheFull) × (state after ≡ state before) × (es' ≡ es)
         no-room room mid entries (is, same, list) later =
-            let l : (result ≡ Err CacheFull) × (after ≡ mid) × (es' ≡ entries) = subst (λ (q : Result Bool Fault). LoadedAfter loads key mid entries q result after es') is later in
+            let l : (result ≡ Err CacheFull) × (after ≡ mid) × (es' ≡ entries) = subst (λ (q : Result Admission Fault). LoadedAfter loads key mid entries q result after es') is later in
             (ap done_of l.0, ap state (l.1 ∙ same), l.2 ∙ list)
 
-        by-room : (k : ℕ) (room : Result Bool Fault) (mid : D) (entries : List (ℕ × Slot V)) → Evicted nat_eq flushes k before es room mid entries → LoadedAfter loads key mid entries room result after es'
+        by-room : (k : ℕ) (room : Result Admission Fault) (mid : D) (entries : List (ℕ × Slot V)) → Evicted nat_eq flushes k before es room mid entries → LoadedAfter loads key mid entries room result after es'
             → (between : StorageState) × (answer : Result Unit Fault) × (flushed : List (ℕ × Slot V)) × FlushedAt nat_eq asks k (state before) es answer between flushed
             × MatchResult answer (λ _. Kept between (state after)) (λ fault. (done_of result ≡ Err fault) × (state after ≡ between) × (es' ≡ flushed))
-        by-room k (Ok true) mid entries (is, flushed, at, removed) later = (state mid, Ok tt, flushed, flushed-so k before es (Ok tt) mid flushed at, loaded-kept key mid entries result after es' later)
-        by-room k (Ok false) mid entries (is, flushed, at, removed) later = absurd (cc)
+        by-room k (Ok Granted) mid entries (is, flushed, at, removed) later = (state mid, Ok tt, flushed, flushed-so k before es (Ok tt) mid flushed at, loaded-kept key mid entries result after es' later)
+        by-room k (Ok Denied) mid entries (is, flushed, at, removed) later = absurd (cc)
         by-room k (Err fault) mid entries at later = (state mid, Err fault, entries, flushed-so k before es (Err fault) mid entries at, (ap done_of later.0, ap state later.1, later.2))
 
   -- Where flushes ask for nothing, nothing is written, and so it stays.
@@ -100,11 +102,11 @@ module _ {V D : Type 0} (state : D → StorageState) (loads : D → ℕ → Resu
     abbrev AreClean : List (ℕ × Slot V) → Type 0
     AreClean es = AllByRecursion (λ (e : ℕ × Slot V). Clean e.1.value) es
 
-    loaded-clean : (key : ℕ) (mid : D) (entries : List (ℕ × Slot V)) (result : Result Bool Fault) (after : D) (es' : List (ℕ × Slot V)) → Loaded loads key mid entries result after es' → AreClean entries → AreClean es'
+    loaded-clean : (key : ℕ) (mid : D) (entries : List (ℕ × Slot V)) (result : Result Admission Fault) (after : D) (es' : List (ℕ × Slot V)) → Loaded loads key mid entries result after es' → AreClean entries → AreClean es'
     loaded-clean key mid entries (Ok made) after es' (is, value, load, list) all = subst AreClean (sym list) (comes mid after key value load, all)
     loaded-clean key mid entries (Err fault) after es' (same, why) all = subst AreClean (sym same) all
 
-    evicted-still : (k : ℕ) (before : D) (es : List (ℕ × Slot V)) (room : Result Bool Fault) (mid : D) (entries : List (ℕ × Slot V)) → Evicted nat_eq flushes k before es room mid entries → AreClean es
+    evicted-still : (k : ℕ) (before : D) (es : List (ℕ × Slot V)) (room : Result Admission Fault) (mid : D) (entries : List (ℕ × Slot V)) → Evicted nat_eq flushes k before es room mid entries → AreClean es
         → (state mid ≡ state before) × AreClean entries
     evicted-still k before es (Ok made) mid entries (is, flushed, at, removed) all =
         let clean = all-at (λ (e : ℕ × Slot V). Clean e.1.value) k es at.slot at.there all in
@@ -115,7 +117,7 @@ module _ {V D : Type 0} (state : D → StorageState) (loads : D → ℕ → Resu
         let f = flushing before mid k at.slot.value at.value (Err fault) clean at.flush in
         absurd (let no = f.0 in cc)
 
-    room-still : (cap : ℕ) (may_flush : Bool) (before : D) (es : List (ℕ × Slot V)) (room : Result Bool Fault) (mid : D) (entries : List (ℕ × Slot V)) → MadeRoom nat_eq flushes cap may_flush before es room mid entries → AreClean es
+    room-still : (cap : ℕ) (may_flush : Bool) (before : D) (es : List (ℕ × Slot V)) (room : Result Admission Fault) (mid : D) (entries : List (ℕ × Slot V)) → MadeRoom nat_eq flushes cap may_flush before es room mid entries → AreClean es
         → (state mid ≡ state before) × AreClean entries
     room-still cap may_flush before es room mid entries made all = elim (cases_lt (length es) cap) [
       | inl roomy ↦ same (made.roomy roomy).1 (made.roomy roomy).2
@@ -132,7 +134,7 @@ module _ {V D : Type 0} (state : D → StorageState) (loads : D → ℕ → Resu
         by-victim None is full may = same (made.pinned full may is).1 (made.pinned full may is).2
         by-victim (Some k) is full may = evicted-still k before es room mid entries (made.evicted full may k is) all
 
-    pub readied-still : (cap : ℕ) (may_flush : Bool) (key : ℕ) (before : D) (es : List (ℕ × Slot V)) (result : Result Bool Fault) (after : D) (es' : List (ℕ × Slot V)) → Readied nat_eq loads flushes cap may_flush key before es result after es'
+    pub readied-still : (cap : ℕ) (may_flush : Bool) (key : ℕ) (before : D) (es : List (ℕ × Slot V)) (result : Result Admission Fault) (after : D) (es' : List (ℕ × Slot V)) → Readied nat_eq loads flushes cap may_flush key before es result after es'
         → AreClean es → Kept (state before) (state after) × AreClean es'
     readied-still cap may_flush key before es result after es' r all = elim (is-there (lookup (nat_eq key) es)) [
       | inl there ↦ let f = r.found there in (subst (λ (d : D). Kept (state before) (state d)) (sym f.1) (kept-same (state before)), subst AreClean (sym f.2) all)
@@ -142,10 +144,10 @@ module _ {V D : Type 0} (state : D → StorageState) (loads : D → ℕ → Resu
         asked-none : (mid : D) (entries : List (ℕ × Slot V)) → state mid ≡ state before → AreClean entries → after ≡ mid → es' ≡ entries → Kept (state before) (state after) × AreClean es'
         asked-none mid entries same clean is list = (subst (λ (s : StorageState). Kept (state before) s) (sym (ap state is ∙ same)) (kept-same (state before)), subst AreClean (sym list) clean)
 
-        by-room : (room : Result Bool Fault) (mid : D) (entries : List (ℕ × Slot V)) → state mid ≡ state before → AreClean entries → LoadedAfter loads key mid entries room result after es' → Kept (state before) (state after) × AreClean es'
-        by-room (Ok true) mid entries same clean later =
+        by-room : (room : Result Admission Fault) (mid : D) (entries : List (ℕ × Slot V)) → state mid ≡ state before → AreClean entries → LoadedAfter loads key mid entries room result after es' → Kept (state before) (state after) × AreClean es'
+        by-room (Ok Granted) mid entries same clean later =
             (subst (λ (s : StorageState). Kept s (state after)) same (loaded-kept key mid entries result after es' later), loaded-clean key mid entries result after es' later clean)
-        by-room (Ok false) mid entries same clean later = asked-none mid entries same clean later.1 later.2
+        by-room (Ok Denied) mid entries same clean later = asked-none mid entries same clean later.1 later.2
         by-room (Err fault) mid entries same clean later = asked-none mid entries same clean later.1 later.2
 
 -- What was written before a table was, and before a block: nothing where nothing of it is modified.

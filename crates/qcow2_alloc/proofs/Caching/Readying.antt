@@ -6,6 +6,8 @@ use Rattle.std.proofs.lemmas.Bool.{cases_Bool, cases_lt}
 use Rattle.imago_storage.specs.State.{StorageState}
 use Rattle.imago_storage.specs.declared.fault.Fault.{Fault}
 use Rattle.qcow2_types.specs.Header.{Header}
+use Rattle.qcow2_alloc.specs.declared.async_lru_cache.Admission.{Admission}
+use Rattle.qcow2_alloc.specs.declared.async_lru_cache.Admission.TheVariants.{Granted, Denied}
 use Rattle.qcow2_alloc.specs.declared.async_lru_cache.Slot.{Slot}
 use Rattle.qcow2_alloc.specs.declared.cache.CacheDependency.{CacheDependency}
 use Rattle.qcow2_alloc.specs.Cache.{Evicted, MadeRoom, Loaded, LoadedAfter, Readied, victim}
@@ -30,7 +32,7 @@ module _ {V D : Type 0} (state : D → StorageState) (loads : D → ℕ → Resu
     (comes : (key : ℕ) (value : V) (es : List (ℕ × Slot V)) (old new : D) → Fits old → loads old key (Ok value) new → lookup (nat_eq key) es ≡ None → Going H order Ready ⊤ (state old) (put es) (state new) (put ((key, record { value = value; pins = 0 }) ∷ es)))
     (asked : (key : ℕ) (result : Result V Fault) (es : List (ℕ × Slot V)) (old new : D) → Fits old → loads old key result new → Going H order Ready (WasNotCutOff result) (state old) (put es) (state new) (put es)) where
   -- one is flushed, and removed where that succeeded
-  evicted : (key : ℕ) (before : D) (es : List (ℕ × Slot V)) (result : Result Bool Fault) (after : D) (es' : List (ℕ × Slot V)) → Evicted nat_eq flushes key before es result after es'
+  evicted : (key : ℕ) (before : D) (es : List (ℕ × Slot V)) (result : Result Admission Fault) (after : D) (es' : List (ℕ × Slot V)) → Evicted nat_eq flushes key before es result after es'
       → Going H order Ready (WasNotCutOff result) (state before) (put es) (state after) (put es')
   evicted key before es (Ok made) after es' (is, mid, at, removed) =
       let p = place-of-key key es at.slot at.there in
@@ -47,12 +49,12 @@ module _ {V D : Type 0} (state : D → StorageState) (loads : D → ℕ → Resu
       (subst (λ (l : List (ℕ × Slot V)). Going H order Ready (IsMild fault) (state before) (put l) (state after) (put (p.front ++ (key, record at.slot { value = at.value }) ∷ p.back))) (sym p.is)
       (flushed p.front key at.slot p.back before after (Err fault) at.value at.flush))
 
-  evicted-fits : (key : ℕ) (before : D) (es : List (ℕ × Slot V)) (result : Result Bool Fault) (after : D) (es' : List (ℕ × Slot V)) → Evicted nat_eq flushes key before es result after es' → Fits before → Fits after
+  evicted-fits : (key : ℕ) (before : D) (es : List (ℕ × Slot V)) (result : Result Admission Fault) (after : D) (es' : List (ℕ × Slot V)) → Evicted nat_eq flushes key before es result after es' → Fits before → Fits after
   evicted-fits key before es (Ok made) after es' (is, mid, at, removed) f = fits before after key at.slot.value at.value (Ok tt) at.flush f
   evicted-fits key before es (Err fault) after es' at f = fits before after key at.slot.value at.value (Err fault) at.flush f
 
   -- and no key comes by it
-  evicted-absent : (key other : ℕ) (before : D) (es : List (ℕ × Slot V)) (after : D) (es' : List (ℕ × Slot V)) (made : Bool) → Evicted nat_eq flushes key before es (Ok made) after es' → lookup (nat_eq other) es ≡ None → lookup (nat_eq other) es' ≡ None
+  evicted-absent : (key other : ℕ) (before : D) (es : List (ℕ × Slot V)) (after : D) (es' : List (ℕ × Slot V)) (made : Admission) → Evicted nat_eq flushes key before es (Ok made) after es' → lookup (nat_eq other) es ≡ None → lookup (nat_eq other) es' ≡ None
   evicted-absent key other before es after es' made (is, mid, at, removed) none = ap (λ l. lookup (nat_eq other) l) removed ∙ remove_absent (nat_eq key) (nat_eq other) es none
 
   stays : (ok : Type 0) (before : D) (es : List (ℕ × Slot V)) (after : D) (es' : List (ℕ × Slot V)) → after ≡ before → es' ≡ es → Going H order Ready ok (state before) (put es) (state after) (put es')
@@ -61,7 +63,7 @@ module _ {V D : Type 0} (state : D → StorageState) (loads : D → ℕ → Resu
       (subst (λ (l : List (ℕ × Slot V)). Going H order Ready ok (state before) (put es) (state before) (put l)) (sym same') (going-none H order Ready ok (state before) (put es)))
 
   -- Room is made.
-  pub room-made : (cap : ℕ) (may_flush : Bool) (before : D) (es : List (ℕ × Slot V)) (result : Result Bool Fault) (after : D) (es' : List (ℕ × Slot V)) → MadeRoom nat_eq flushes cap may_flush before es result after es'
+  pub room-made : (cap : ℕ) (may_flush : Bool) (before : D) (es : List (ℕ × Slot V)) (result : Result Admission Fault) (after : D) (es' : List (ℕ × Slot V)) → MadeRoom nat_eq flushes cap may_flush before es result after es'
       → Going H order Ready (WasNotCutOff result) (state before) (put es) (state after) (put es')
   room-made cap may_flush before es result after es' made = elim (cases_lt (length es) cap) [
     | inl roomy ↦ let r = made.roomy roomy in stays (WasNotCutOff result) before es after es' r.1 r.2
@@ -75,8 +77,8 @@ module _ {V D : Type 0} (state : D → StorageState) (loads : D → ℕ → Resu
       by-victim None is full may = let r = made.pinned full may is in stays (WasNotCutOff result) before es after es' r.1 r.2
       by-victim (Some key) is full may = evicted key before es result after es' (made.evicted full may key is)
 
-  pub room-absent : (cap : ℕ) (may_flush : Bool) (key : ℕ) (before : D) (es : List (ℕ × Slot V)) (result : Result Bool Fault) (after : D) (es' : List (ℕ × Slot V)) → MadeRoom nat_eq flushes cap may_flush before es result after es'
-      → result ≡ Ok true → lookup (nat_eq key) es ≡ None → lookup (nat_eq key) es' ≡ None
+  pub room-absent : (cap : ℕ) (may_flush : Bool) (key : ℕ) (before : D) (es : List (ℕ × Slot V)) (result : Result Admission Fault) (after : D) (es' : List (ℕ × Slot V)) → MadeRoom nat_eq flushes cap may_flush before es result after es'
+      → result ≡ Ok Granted → lookup (nat_eq key) es ≡ None → lookup (nat_eq key) es' ≡ None
   room-absent cap may_flush key before es result after es' made done none = elim (cases_lt (length es) cap) [
     | inl roomy ↦ let r = made.roomy roomy in ap (λ l. lookup (nat_eq key) l) r.2 ∙ none
     | inr full ↦ elim (cases_Bool may_flush) [
@@ -88,9 +90,9 @@ module _ {V D : Type 0} (state : D → StorageState) (loads : D → ℕ → Resu
       by-victim : (v : Option ℕ) → victim es ≡ v → cap ≤ length es → may_flush ≡ true → lookup (nat_eq key) es' ≡ None
       by-victim None is full may = let r = made.pinned full may is in ap (λ l. lookup (nat_eq key) l) r.2 ∙ none
       by-victim (Some k) is full may =
-          evicted-absent k key before es after es' true (subst (λ (r : Result Bool Fault). Evicted nat_eq flushes k before es r after es') done (made.evicted full may k is)) none
+          evicted-absent k key before es after es' Granted (subst (λ (r : Result Admission Fault). Evicted nat_eq flushes k before es r after es') done (made.evicted full may k is)) none
 
-  room-fits : (cap : ℕ) (may_flush : Bool) (before : D) (es : List (ℕ × Slot V)) (result : Result Bool Fault) (after : D) (es' : List (ℕ × Slot V)) → MadeRoom nat_eq flushes cap may_flush before es result after es' → Fits before → Fits after
+  room-fits : (cap : ℕ) (may_flush : Bool) (before : D) (es : List (ℕ × Slot V)) (result : Result Admission Fault) (after : D) (es' : List (ℕ × Slot V)) → MadeRoom nat_eq flushes cap may_flush before es result after es' → Fits before → Fits after
   room-fits cap may_flush before es result after es' made f = elim (cases_lt (length es) cap) [
     | inl roomy ↦ subst Fits (sym (made.roomy roomy).1) f
     | inr full ↦ elim (cases_Bool may_flush) [
@@ -104,7 +106,7 @@ module _ {V D : Type 0} (state : D → StorageState) (loads : D → ℕ → Resu
       by-victim (Some key) is full may = evicted-fits key before es result after es' (made.evicted full may key is) f
 
   -- The entry is loaded.
-  loaded : (key : ℕ) (before : D) (es : List (ℕ × Slot V)) (result : Result Bool Fault) (after : D) (es' : List (ℕ × Slot V)) → lookup (nat_eq key) es ≡ None → Fits before → Loaded loads key before es result after es'
+  loaded : (key : ℕ) (before : D) (es : List (ℕ × Slot V)) (result : Result Admission Fault) (after : D) (es' : List (ℕ × Slot V)) → lookup (nat_eq key) es ≡ None → Fits before → Loaded loads key before es result after es'
       → Going H order Ready (WasNotCutOff result) (state before) (put es) (state after) (put es')
   loaded key before es (Ok made) after es' none f (is, value, load, entries) =
       subst (λ (l : List (ℕ × Slot V)). Going H order Ready ⊤ (state before) (put es) (state after) (put l)) (sym entries) (comes key value es before after f load none)
@@ -116,25 +118,25 @@ module _ {V D : Type 0} (state : D → StorageState) (loads : D → ℕ → Resu
       ])
 
   -- It is found or loaded.
-  pub readied : (cap : ℕ) (may_flush : Bool) (key : ℕ) (before : D) (es : List (ℕ × Slot V)) (result : Result Bool Fault) (after : D) (es' : List (ℕ × Slot V)) → Fits before → Readied nat_eq loads flushes cap may_flush key before es result after es'
+  pub readied : (cap : ℕ) (may_flush : Bool) (key : ℕ) (before : D) (es : List (ℕ × Slot V)) (result : Result Admission Fault) (after : D) (es' : List (ℕ × Slot V)) → Fits before → Readied nat_eq loads flushes cap may_flush key before es result after es'
       → Going H order Ready (WasNotCutOff result) (state before) (put es) (state after) (put es')
   readied cap may_flush key before es result after es' f r = elim (is-there (lookup (nat_eq key) es)) [
     | inl there ↦ let f = r.found there in stays (WasNotCutOff result) before es after es' f.1 f.2
     | inr none ↦ let m = r.missed none in by-room none m.room m.mid m.entries m.made m.loaded
   ]
     where
-      by-room : lookup (nat_eq key) es ≡ None → (room : Result Bool Fault) (mid : D) (entries : List (ℕ × Slot V)) → MadeRoom nat_eq flushes cap may_flush before es room mid entries → LoadedAfter loads key mid entries room result after es'
+      by-room : lookup (nat_eq key) es ≡ None → (room : Result Admission Fault) (mid : D) (entries : List (ℕ × Slot V)) → MadeRoom nat_eq flushes cap may_flush before es room mid entries → LoadedAfter loads key mid entries room result after es'
           → Going H order Ready (WasNotCutOff result) (state before) (put es) (state after) (put es')
-      by-room none (Ok true) mid entries made later =
+      by-room none (Ok Granted) mid entries made later =
           going-weaker H order Ready (⊤ × WasNotCutOff result) (WasNotCutOff result) (state before) (state after) (put es) (put es') (λ w. (tt, w))
-          (going-both H order Ready ⊤ (WasNotCutOff result) (state before) (state mid) (state after) (put es) (put entries) (put es') (room-made cap may_flush before es (Ok true) mid entries made)
-          (loaded key mid entries result after es' (room-absent cap may_flush key before es (Ok true) mid entries made refl none) (room-fits cap may_flush before es (Ok true) mid entries made f) later))
-      by-room none (Ok false) mid entries made later =
+          (going-both H order Ready ⊤ (WasNotCutOff result) (state before) (state mid) (state after) (put es) (put entries) (put es') (room-made cap may_flush before es (Ok Granted) mid entries made)
+          (loaded key mid entries result after es' (room-absent cap may_flush key before es (Ok Granted) mid entries made refl none) (room-fits cap may_flush before es (Ok Granted) mid entries made f) later))
+      by-room none (Ok Denied) mid entries made later =
           subst (λ (d : D). Going H order Ready (WasNotCutOff result) (state before) (put es) (state d) (put es')) (sym later.1)
           (subst (λ (l : List (ℕ × Slot V)). Going H order Ready (WasNotCutOff result) (state before) (put es) (state mid) (put l)) (sym later.2)
-          (going-weaker H order Ready ⊤ (WasNotCutOff result) (state before) (state mid) (put es) (put entries) (λ w. tt) (room-made cap may_flush before es (Ok false) mid entries made)))
+          (going-weaker H order Ready ⊤ (WasNotCutOff result) (state before) (state mid) (put es) (put entries) (λ w. tt) (room-made cap may_flush before es (Ok Denied) mid entries made)))
       by-room none (Err fault) mid entries made later =
-          subst (λ (r : Result Bool Fault). Going H order Ready (WasNotCutOff r) (state before) (put es) (state after) (put es')) (sym later.0)
+          subst (λ (r : Result Admission Fault). Going H order Ready (WasNotCutOff r) (state before) (put es) (state after) (put es')) (sym later.0)
           (subst (λ (d : D). Going H order Ready (IsMild fault) (state before) (put es) (state d) (put es')) (sym later.1)
           (subst (λ (l : List (ℕ × Slot V)). Going H order Ready (IsMild fault) (state before) (put es) (state mid) (put l)) (sym later.2)
           (room-made cap may_flush before es (Err fault) mid entries made)))
@@ -149,7 +151,7 @@ module _ {V D : Type 0} (state : D → StorageState) (loads : D → ℕ → Resu
       subst (λ (d : D). Going H order Ready ok (state before) (put es) (state d) (put es')) (sym same)
       (subst (λ (l : List (ℕ × Slot V)). Going H order Ready ok (state before) (put es) (state before) (put l)) (sym same') (going-none H order Ready ok (state before) (put es)))
 
-  quiet-loaded : (key : ℕ) (before : D) (es : List (ℕ × Slot V)) (result : Result Bool Fault) (after : D) (es' : List (ℕ × Slot V)) → lookup (nat_eq key) es ≡ None → Fits before → Loaded loads key before es result after es'
+  quiet-loaded : (key : ℕ) (before : D) (es : List (ℕ × Slot V)) (result : Result Admission Fault) (after : D) (es' : List (ℕ × Slot V)) → lookup (nat_eq key) es ≡ None → Fits before → Loaded loads key before es result after es'
       → Going H order Ready (WasNotCutOff result) (state before) (put es) (state after) (put es')
   quiet-loaded key before es (Ok made) after es' none f (is, value, load, entries) =
       subst (λ (l : List (ℕ × Slot V)). Going H order Ready ⊤ (state before) (put es) (state after) (put l)) (sym entries) (comes key value es before after f load none)
@@ -160,7 +162,7 @@ module _ {V D : Type 0} (state : D → StorageState) (loads : D → ℕ → Resu
         | inr full ↦ going-weaker H order Ready ⊤ (IsMild fault) (state before) (state after) (put es) (put es) (λ w. tt) (asked key (Ok full.1) es before after f full.2)
       ])
 
-  pub readied-quietly : (cap : ℕ) (key : ℕ) (before : D) (es : List (ℕ × Slot V)) (result : Result Bool Fault) (after : D) (es' : List (ℕ × Slot V)) → Fits before → Readied nat_eq loads flushes cap false key before es result after es'
+  pub readied-quietly : (cap : ℕ) (key : ℕ) (before : D) (es : List (ℕ × Slot V)) (result : Result Admission Fault) (after : D) (es' : List (ℕ × Slot V)) → Fits before → Readied nat_eq loads flushes cap false key before es result after es'
       → Going H order Ready (WasNotCutOff result) (state before) (put es) (state after) (put es')
   readied-quietly cap key before es result after es' f r = elim (is-there (lookup (nat_eq key) es)) [
     | inl there ↦ let found = r.found there in quiet-stays (WasNotCutOff result) before es after es' found.1 found.2
@@ -172,31 +174,31 @@ module _ {V D : Type 0} (state : D → StorageState) (loads : D → ℕ → Resu
         ]
   ]
     where
-      by-room : lookup (nat_eq key) es ≡ None → (room : Result Bool Fault) (mid : D) (entries : List (ℕ × Slot V)) → room ≡ Ok true → mid ≡ before → entries ≡ es → LoadedAfter loads key mid entries room result after es'
+      by-room : lookup (nat_eq key) es ≡ None → (room : Result Admission Fault) (mid : D) (entries : List (ℕ × Slot V)) → room ≡ Ok Granted → mid ≡ before → entries ≡ es → LoadedAfter loads key mid entries room result after es'
           → Going H order Ready (WasNotCutOff result) (state before) (put es) (state after) (put es')
       by-room none room mid entries is same same' later =
           let load : Loaded loads key before es result after es' =
-          subst (λ (d : D). Loaded loads key d es result after es') same (subst (λ (l : List (ℕ × Slot V)). Loaded loads key mid l result after es') same' (subst (λ (q : Result Bool Fault). LoadedAfter loads key mid entries q result after es') is later)) in
+          subst (λ (d : D). Loaded loads key d es result after es') same (subst (λ (l : List (ℕ × Slot V)). Loaded loads key mid l result after es') same' (subst (λ (q : Result Admission Fault). LoadedAfter loads key mid entries q result after es') is later)) in
           quiet-loaded key before es result after es' none f load
 
-      no-room : (room : Result Bool Fault) (mid : D) (entries : List (ℕ × Slot V)) → room ≡ Ok false → mid ≡ before → entries ≡ es → LoadedAfter loads key mid entries room result after es'
+      no-room : (room : Result Admission Fault) (mid : D) (entries : List (ℕ × Slot V)) → room ≡ Ok Denied → mid ≡ before → entries ≡ es → LoadedAfter loads key mid entries room result after es'
           → Going H order Ready (WasNotCutOff result) (state before) (put es) (state after) (put es')
       no-room room mid entries is same same' later =
-          let full : (result ≡ Ok false) × (after ≡ mid) × (es' ≡ entries) = subst (λ (q : Result Bool Fault). LoadedAfter loads key mid entries q result after es') is later in
+          let full : (result ≡ Ok Denied) × (after ≡ mid) × (es' ≡ entries) = subst (λ (q : Result Admission Fault). LoadedAfter loads key mid entries q result after es') is later in
           quiet-stays (WasNotCutOff result) before es after es' (full.1 ∙ same) (full.2 ∙ same')
 
 -- With leave to flush it never says that there is no room.
 pub never-full : {V D : Type 0} (loads : D → ℕ → Result V Fault → D → Type 0) (flushes : D → ℕ → V → Result Unit Fault → D → V → Type 0) (cap : ℕ) (key : ℕ) (before : D) (es : List (ℕ × Slot V)) (after : D) (es' : List (ℕ × Slot V))
-    → Readied nat_eq loads flushes cap true key before es (Ok false) after es' → ⊥
+    → Readied nat_eq loads flushes cap true key before es (Ok Denied) after es' → ⊥
 never-full loads flushes cap key before es after es' r = elim (is-there (lookup (nat_eq key) es)) [
   | inl there ↦ let found = (r.found there).0 in cc
   | inr none ↦ let m = r.missed none in by-room m.room m.mid m.entries m.made m.loaded
 ]
   where
-    by-room : (room : Result Bool Fault) (mid : _) (entries : List _) → MadeRoom nat_eq flushes cap true before es room mid entries → LoadedAfter loads key mid entries room (Ok false) after es' → ⊥
-    by-room (Ok true) mid entries made later = let is = later.0 in cc
+    by-room : (room : Result Admission Fault) (mid : _) (entries : List _) → MadeRoom nat_eq flushes cap true before es room mid entries → LoadedAfter loads key mid entries room (Ok Denied) after es' → ⊥
+    by-room (Ok Granted) mid entries made later = let is = later.0 in cc
     by-room (Err fault) mid entries made later = let is = later.0 in cc
-    by-room (Ok false) mid entries made later = elim (cases_lt (length es) cap) [
+    by-room (Ok Denied) mid entries made later = elim (cases_lt (length es) cap) [
       | inl roomy ↦ let is = (made.roomy roomy).0 in cc
       | inr full ↦ by-victim (victim es) refl full
     ]

@@ -10,6 +10,8 @@ use Rattle.imago_storage.specs.Calls.{Kept}
 use Rattle.imago_storage.specs.declared.fault.Fault.{Fault}
 use Rattle.imago_storage.specs.declared.fault.Fault.TheVariants.{Memory, Storage, DamagedTable, CacheFull}
 use Rattle.imago_storage.proofs.Composing.{rose_before, rose_behind}
+use Rattle.qcow2_alloc.specs.declared.async_lru_cache.Admission.{Admission}
+use Rattle.qcow2_alloc.specs.declared.async_lru_cache.Admission.TheVariants.{Granted, Denied}
 use Rattle.qcow2_alloc.specs.declared.async_lru_cache.Slot.{Slot}
 use Rattle.qcow2_alloc.specs.Cache.{Evicted, MadeRoom, Loaded, LoadedAfter, Readied, victim, victim_from}
 use Rattle.qcow2_alloc.specs.Finding.{with_room, IsPinnedFull, PinsNothing, Sought, WhyNotFound, CountsSearch}
@@ -20,18 +22,18 @@ use Rattle.qcow2_alloc.proofs.Caching.Places.{place-of-key}
 use Rattle.qcow2_alloc.proofs.Caching.Readying.{is-there}
 
 -- the answer of a search that had leave to flush
-abbrev pub done_of : Result Bool Fault → Result Unit Fault
+abbrev pub done_of : Result Admission Fault → Result Unit Fault
 done_of (Ok found) = Ok tt
 done_of (Err fault) = Err fault
 
 -- what holds of the one holds of the other
-pub whole-done : (r : Result Bool Fault) → WasNotCutOff (done_of r) → WasNotCutOff r
+pub whole-done : (r : Result Admission Fault) → WasNotCutOff (done_of r) → WasNotCutOff r
 whole-done (Ok found) w = tt
 whole-done (Err fault) w = w
 
-pub found-there : (r : Result Bool Fault) (P : Type 0) → (r ≡ Ok false → ⊥) → (r ≡ Ok true → P) → OnOk (done_of r) P
-found-there (Ok true) P not there = there refl
-found-there (Ok false) P not there = absurd (not refl)
+pub found-there : (r : Result Admission Fault) (P : Type 0) → (r ≡ Ok Denied → ⊥) → (r ≡ Ok Granted → P) → OnOk (done_of r) P
+found-there (Ok Granted) P not there = there refl
+found-there (Ok Denied) P not there = absurd (not refl)
 found-there (Err fault) P not there = tt
 
 -- What holds of all entries
@@ -106,23 +108,23 @@ module _ {V D : Type 0} (loads : D → ℕ → Result V Fault → D → Type 0) 
     pub device : after ≡ before
     pub entries : es' ≡ es
 
-  pub full-stays : (cap key : ℕ) (before : D) (es : List (ℕ × Slot V)) (after : D) (es' : List (ℕ × Slot V)) → Readied nat_eq loads flushes cap false key before es (Ok false) after es' → IsFullNow cap key before es after es'
+  pub full-stays : (cap key : ℕ) (before : D) (es : List (ℕ × Slot V)) (after : D) (es' : List (ℕ × Slot V)) → Readied nat_eq loads flushes cap false key before es (Ok Denied) after es' → IsFullNow cap key before es after es'
   full-stays cap key before es after es' r = elim (is-there (lookup (nat_eq key) es)) [
     | inl there ↦ absurd (let no = (r.found there).0 in cc)
     | inr none ↦ let m = r.missed none in elim (cases_lt (length es) cap) [
       | inl roomy ↦ let made = m.made.roomy roomy in absurd (loaded-not m.room m.mid m.entries made.0 m.loaded)
       | inr full ↦
           let made = m.made.full full refl in
-          let later : (Ok false ≡ Ok false) × (after ≡ m.mid) × (es' ≡ m.entries) = subst (λ (q : Result Bool Fault). LoadedAfter loads key m.mid m.entries q (Ok false) after es') made.0 m.loaded in
+          let later : (Ok Denied ≡ Ok Denied) × (after ≡ m.mid) × (es' ≡ m.entries) = subst (λ (q : Result Admission Fault). LoadedAfter loads key m.mid m.entries q (Ok Denied) after es') made.0 m.loaded in
           record { absent = none; full = full; device = later.1 ∙ made.1; entries = later.2 ∙ made.2 }
     ]
   ]
     where
-      loaded-not : (room : Result Bool Fault) (mid : D) (entries : List (ℕ × Slot V)) → room ≡ Ok true → LoadedAfter loads key mid entries room (Ok false) after es' → ⊥
-      loaded-not room mid entries is later = let load = subst (λ (q : Result Bool Fault). LoadedAfter loads key mid entries q (Ok false) after es') is later in let no = load.0 in cc
+      loaded-not : (room : Result Admission Fault) (mid : D) (entries : List (ℕ × Slot V)) → room ≡ Ok Granted → LoadedAfter loads key mid entries room (Ok Denied) after es' → ⊥
+      loaded-not room mid entries is later = let load = subst (λ (q : Result Admission Fault). LoadedAfter loads key mid entries q (Ok Denied) after es') is later in let no = load.0 in cc
 
   -- the list once room was made
-  pub room-list : (cap : ℕ) (may_flush : Bool) (before : D) (es : List (ℕ × Slot V)) (after : D) (es' : List (ℕ × Slot V)) → MadeRoom nat_eq flushes cap may_flush before es (Ok true) after es' → es' ≡ with_room cap es
+  pub room-list : (cap : ℕ) (may_flush : Bool) (before : D) (es : List (ℕ × Slot V)) (after : D) (es' : List (ℕ × Slot V)) → MadeRoom nat_eq flushes cap may_flush before es (Ok Granted) after es' → es' ≡ with_room cap es
   room-list cap may_flush before es after es' made = elim (cases_lt (length es) cap) [
     | inl roomy ↦ rw (lt-ltb (length es) cap roomy) (made.roomy roomy).2
     | inr full ↦ elim (cases_Bool may_flush) [
@@ -171,8 +173,8 @@ module _ {V D : Type 0} (loads : D → ℕ → Result V Fault → D → Type 0) 
   -- What the search leaves.
   pub sought : (written : ℕ × Slot V → ℕ × Slot V)
       (kept : (key : ℕ) (slot : Slot V) (old new : D) (result : Result Unit Fault) (value : V) → flushes old key slot.value result new value → written (key, record slot { value = value }) ≡ written (key, slot))
-      (read : V) (cap : ℕ) (may_flush : Bool) (key : ℕ) (before : D) (es : List (ℕ × Slot V)) (result : Result Bool Fault) (after : D) (es' : List (ℕ × Slot V))
-      → ((mid : D) (value : V) → loads mid key (Ok value) after → value ≡ read) → (result ≡ Ok false → ⊥)
+      (read : V) (cap : ℕ) (may_flush : Bool) (key : ℕ) (before : D) (es : List (ℕ × Slot V)) (result : Result Admission Fault) (after : D) (es' : List (ℕ × Slot V))
+      → ((mid : D) (value : V) → loads mid key (Ok value) after → value ≡ read) → (result ≡ Ok Denied → ⊥)
       → Readied nat_eq loads flushes cap may_flush key before es result after es' → Sought written cap key read es (done_of result) es'
   sought written kept read cap may_flush key before es result after es' reads not r = record {
     there = λ there. (r.found there).2;
@@ -184,30 +186,30 @@ module _ {V D : Type 0} (loads : D → ℕ → Result V Fault → D → Type 0) 
     ];
   }
     where
-      by-load : (room : Result Bool Fault) (mid : D) (entries : List (ℕ × Slot V)) → MadeRoom nat_eq flushes cap may_flush before es room mid entries → (result : Result Bool Fault) → ((value : V) → loads mid key (Ok value) after → value ≡ read) → (result ≡ Ok false → ⊥)
+      by-load : (room : Result Admission Fault) (mid : D) (entries : List (ℕ × Slot V)) → MadeRoom nat_eq flushes cap may_flush before es room mid entries → (result : Result Admission Fault) → ((value : V) → loads mid key (Ok value) after → value ≡ read) → (result ≡ Ok Denied → ⊥)
           → LoadedAfter loads key mid entries room result after es' → OnOk (done_of result) (es' ≡ (key, record { value = read; pins = 0 }) ∷ with_room cap es)
       by-load room mid entries made (Err fault) reads not later = tt
-      by-load (Ok true) mid entries made (Ok found) reads not (is, value, load, list) =
+      by-load (Ok Granted) mid entries made (Ok found) reads not (is, value, load, list) =
           list ∙ ap (λ (v : V). (key, record { value = v; pins = 0 }) ∷ entries) (reads value load) ∙ ap (λ (l : List (ℕ × Slot V)). (key, record { value = read; pins = 0 }) ∷ l) (room-list cap may_flush before es mid entries made)
-      by-load (Ok false) mid entries made (Ok found) reads not later = absurd (not later.0)
+      by-load (Ok Denied) mid entries made (Ok found) reads not later = absurd (not later.0)
       by-load (Err fault) mid entries made (Ok found) reads not later = absurd (let no = later.0 in cc)
 
-      by-pins : (room : Result Bool Fault) (mid : D) (entries : List (ℕ × Slot V)) → MadeRoom nat_eq flushes cap may_flush before es room mid entries → (result : Result Bool Fault) → (result ≡ Ok false → ⊥)
+      by-pins : (room : Result Admission Fault) (mid : D) (entries : List (ℕ × Slot V)) → MadeRoom nat_eq flushes cap may_flush before es room mid entries → (result : Result Admission Fault) → (result ≡ Ok Denied → ⊥)
           → LoadedAfter loads key mid entries room result after es' → PinsNothing es es'
-      by-pins (Ok true) mid entries made (Ok found) not (is, value, load, list) =
+      by-pins (Ok Granted) mid entries made (Ok found) not (is, value, load, list) =
           let made-room = room-list cap may_flush before es mid entries made in
           subst (λ l. PinsNothing es l) (sym list) (subst (λ l. PinsNothing es ((key, record { value = value; pins = 0 }) ∷ l)) (sym made-room) (pins-then es (with_room cap es) _ (pins-room cap es) (pins-new key value (with_room cap es))))
-      by-pins (Ok true) mid entries made (Err fault) not (same, why) = subst (λ l. PinsNothing es l) (sym (same ∙ room-list cap may_flush before es mid entries made)) (pins-room cap es)
-      by-pins (Ok false) mid entries made result not later = absurd (not later.0)
+      by-pins (Ok Granted) mid entries made (Err fault) not (same, why) = subst (λ l. PinsNothing es l) (sym (same ∙ room-list cap may_flush before es mid entries made)) (pins-room cap es)
+      by-pins (Ok Denied) mid entries made result not later = absurd (not later.0)
       by-pins (Err fault) mid entries made result not later = subst (λ l. PinsNothing es l) (sym later.2) (room-refused written kept cap may_flush before es fault mid entries made).1
 
-      by-refused : (room : Result Bool Fault) (mid : D) (entries : List (ℕ × Slot V)) (fault : Fault) → MadeRoom nat_eq flushes cap may_flush before es room mid entries → LoadedAfter loads key mid entries room (Err fault) after es'
+      by-refused : (room : Result Admission Fault) (mid : D) (entries : List (ℕ × Slot V)) (fault : Fault) → MadeRoom nat_eq flushes cap may_flush before es room mid entries → LoadedAfter loads key mid entries room (Err fault) after es'
           → (map written es' ≡ map written es) ⊎ (es' ≡ with_room cap es)
-      by-refused (Ok true) mid entries fault made (same, why) = inr (same ∙ room-list cap may_flush before es mid entries made)
-      by-refused (Ok false) mid entries fault made later = absurd (let no = later.0 in cc)
+      by-refused (Ok Granted) mid entries fault made (same, why) = inr (same ∙ room-list cap may_flush before es mid entries made)
+      by-refused (Ok Denied) mid entries fault made later = absurd (let no = later.0 in cc)
       by-refused (Err other) mid entries fault made later = inl (ap (λ l. map written l) later.2 ∙ (room-refused written kept cap may_flush before es other mid entries made).0)
 
-      by-refusal : (result : Result Bool Fault) → Readied nat_eq loads flushes cap may_flush key before es result after es' → OnErr (done_of result) ((map written es' ≡ map written es) ⊎ (es' ≡ with_room cap es))
+      by-refusal : (result : Result Admission Fault) → Readied nat_eq loads flushes cap may_flush key before es result after es' → OnErr (done_of result) ((map written es' ≡ map written es) ⊎ (es' ≡ with_room cap es))
       by-refusal (Ok found) r = tt
       by-refusal (Err fault) r = elim (is-there (lookup (nat_eq key) es)) [
         | inl there ↦ inl (ap (λ l. map written l) (r.found there).2)
@@ -218,7 +220,7 @@ module _ {V D : Type 0} (loads : D → ℕ → Result V Fault → D → Type 0) 
   pub readied-related : (R : D → D → Type 0) (R-refl : (a : D) → R a a) (R-trans : (a b c : D) → R a b → R b c → R a c)
       → ((old new : D) (key : ℕ) (answer : Result V Fault) → loads old key answer new → R old new)
       → ((old new : D) (key : ℕ) (value value' : V) (answer : Result Unit Fault) → flushes old key value answer new value' → R old new)
-      → (cap : ℕ) (may_flush : Bool) (key : ℕ) (before : D) (es : List (ℕ × Slot V)) (result : Result Bool Fault) (after : D) (es' : List (ℕ × Slot V)) → Readied nat_eq loads flushes cap may_flush key before es result after es' → R before after
+      → (cap : ℕ) (may_flush : Bool) (key : ℕ) (before : D) (es : List (ℕ × Slot V)) (result : Result Admission Fault) (after : D) (es' : List (ℕ × Slot V)) → Readied nat_eq loads flushes cap may_flush key before es result after es' → R before after
   readied-related R R-refl R-trans loading flushing cap may_flush key before es result after es' r = elim (is-there (lookup (nat_eq key) es)) [
     | inl there ↦ same before after (r.found there).1
     | inr none ↦ let m = r.missed none in R-trans before m.mid after (room-related m.room m.mid m.entries m.made) (by-room m.room m.mid m.entries m.loaded)
@@ -227,11 +229,11 @@ module _ {V D : Type 0} (loads : D → ℕ → Result V Fault → D → Type 0) 
       same : (a b : D) → b ≡ a → R a b
       same a b is = subst (λ (d : D). R a d) (sym is) (R-refl a)
 
-      by-eviction : (k : ℕ) (room : Result Bool Fault) (mid : D) (entries : List (ℕ × Slot V)) → Evicted nat_eq flushes k before es room mid entries → R before mid
+      by-eviction : (k : ℕ) (room : Result Admission Fault) (mid : D) (entries : List (ℕ × Slot V)) → Evicted nat_eq flushes k before es room mid entries → R before mid
       by-eviction k (Ok made) mid entries (is, between, at, removed) = flushing before mid k at.slot.value at.value (Ok tt) at.flush
       by-eviction k (Err fault) mid entries at = flushing before mid k at.slot.value at.value (Err fault) at.flush
 
-      room-related : (room : Result Bool Fault) (mid : D) (entries : List (ℕ × Slot V)) → MadeRoom nat_eq flushes cap may_flush before es room mid entries → R before mid
+      room-related : (room : Result Admission Fault) (mid : D) (entries : List (ℕ × Slot V)) → MadeRoom nat_eq flushes cap may_flush before es room mid entries → R before mid
       room-related room mid entries made = elim (cases_lt (length es) cap) [
         | inl roomy ↦ same before mid (made.roomy roomy).1
         | inr full ↦ elim (cases_Bool may_flush) [
@@ -244,17 +246,17 @@ module _ {V D : Type 0} (loads : D → ℕ → Result V Fault → D → Type 0) 
           by-victim None is full may = same before mid (made.pinned full may is).1
           by-victim (Some k) is full may = by-eviction k room mid entries (made.evicted full may k is)
 
-      by-answer : (mid : D) (entries : List (ℕ × Slot V)) (result : Result Bool Fault) → Loaded loads key mid entries result after es' → R mid after
+      by-answer : (mid : D) (entries : List (ℕ × Slot V)) (result : Result Admission Fault) → Loaded loads key mid entries result after es' → R mid after
       by-answer mid entries (Ok made) (is, value, load, list) = loading mid after key (Ok value) load
       by-answer mid entries (Err fault) (is, why) = elim why [ inl load ↦ loading mid after key (Err fault) load | inr short ↦ loading mid after key (Ok short.1) short.2 ]
 
-      by-room : (room : Result Bool Fault) (mid : D) (entries : List (ℕ × Slot V)) → LoadedAfter loads key mid entries room result after es' → R mid after
-      by-room (Ok true) mid entries later = by-answer mid entries result later
-      by-room (Ok false) mid entries later = same mid after later.1
+      by-room : (room : Result Admission Fault) (mid : D) (entries : List (ℕ × Slot V)) → LoadedAfter loads key mid entries room result after es' → R mid after
+      by-room (Ok Granted) mid entries later = by-answer mid entries result later
+      by-room (Ok Denied) mid entries later = same mid after later.1
       by-room (Err fault) mid entries later = same mid after later.1
 
   -- Where there is room nothing is written.
-  pub roomy-kept : (state : D → StorageState) (cap : ℕ) (may_flush : Bool) (key : ℕ) (before : D) (es : List (ℕ × Slot V)) (result : Result Bool Fault) (after : D) (es' : List (ℕ × Slot V))
+  pub roomy-kept : (state : D → StorageState) (cap : ℕ) (may_flush : Bool) (key : ℕ) (before : D) (es : List (ℕ × Slot V)) (result : Result Admission Fault) (after : D) (es' : List (ℕ × Slot V))
       → ((old new : D) (answer : Result V Fault) → loads old key answer new → Kept (state old) (state new)) → Kept (state before) (state before)
       → length es < cap → Readied nat_eq loads flushes cap may_flush key before es result after es' → Kept (state before) (state after)
   roomy-kept state cap may_flush key before es result after es' loading same roomy r = elim (is-there (lookup (nat_eq key) es)) [
@@ -262,36 +264,36 @@ module _ {V D : Type 0} (loads : D → ℕ → Result V Fault → D → Type 0) 
     | inr none ↦ let m = r.missed none in let made = m.made.roomy roomy in by-room m.room m.mid m.entries made.0 made.1 m.loaded
   ]
     where
-      by-answer : (result : Result Bool Fault) (mid : D) (entries : List (ℕ × Slot V)) → Loaded loads key mid entries result after es' → Kept (state mid) (state after)
+      by-answer : (result : Result Admission Fault) (mid : D) (entries : List (ℕ × Slot V)) → Loaded loads key mid entries result after es' → Kept (state mid) (state after)
       by-answer (Ok found) mid entries (is, value, load, list) = loading mid after (Ok value) load
       by-answer (Err fault) mid entries (same, why) = elim why [ inl load ↦ loading mid after (Err fault) load | inr full ↦ loading mid after (Ok full.1) full.2 ]
 
-      by-room : (room : Result Bool Fault) (mid : D) (entries : List (ℕ × Slot V)) → room ≡ Ok true → mid ≡ before → LoadedAfter loads key mid entries room result after es' → Kept (state before) (state after)
+      by-room : (room : Result Admission Fault) (mid : D) (entries : List (ℕ × Slot V)) → room ≡ Ok Granted → mid ≡ before → LoadedAfter loads key mid entries room result after es' → Kept (state before) (state after)
       by-room room mid entries is same later =
-          subst (λ (d : D). Kept (state d) (state after)) same (by-answer result mid entries (subst (λ (q : Result Bool Fault). LoadedAfter loads key mid entries q result after es') is later))
+          subst (λ (d : D). Kept (state d) (state after)) same (by-answer result mid entries (subst (λ (q : Result Admission Fault). LoadedAfter loads key mid entries q result after es') is later))
 
 -- Why it is refused.
 module _ {V D : Type 0} (state : D → StorageState) (loads : D → ℕ → Result V Fault → D → Type 0) (flushes : D → ℕ → V → Result Unit Fault → D → V → Type 0) (Reach : ℕ → V → Type 0)
     (step : (old : D) (key : ℕ) (value : V) (result : Result Unit Fault) (new : D) (value' : V) → flushes old key value result new value' → Counted (Reach key value) (state old) (state new) result) where
-  pub room-counted : (cap : ℕ) (may_flush : Bool) (before : D) (es : List (ℕ × Slot V)) (result : Result Bool Fault) (after : D) (es' : List (ℕ × Slot V)) → MadeRoom nat_eq flushes cap may_flush before es result after es'
+  pub room-counted : (cap : ℕ) (may_flush : Bool) (before : D) (es : List (ℕ × Slot V)) (result : Result Admission Fault) (after : D) (es' : List (ℕ × Slot V)) → MadeRoom nat_eq flushes cap may_flush before es result after es'
       → ((state before).faults ≤ (state after).faults) × CountsSearch (AllByRecursion (λ (e : ℕ × Slot V). Reach e.0 e.1.value) es) (IsPinnedFull cap es) (state before).faults (state after).faults (done_of result)
   room-counted cap may_flush before es result after es' made = elim (cases_lt (length es) cap) [
-    | inl roomy ↦ let r = made.roomy roomy in same-counted true r.0 r.1
+    | inl roomy ↦ let r = made.roomy roomy in same-counted Granted r.0 r.1
     | inr full ↦ elim (cases_Bool may_flush) [
-      | inr not ↦ let r = made.full full not in same-counted false r.0 r.1
+      | inr not ↦ let r = made.full full not in same-counted Denied r.0 r.1
       | inl may ↦ by-victim (victim es) refl full may
     ]
   ]
     where
-      same-counted : (made : Bool) → result ≡ Ok made → after ≡ before
+      same-counted : (made : Admission) → result ≡ Ok made → after ≡ before
           → ((state before).faults ≤ (state after).faults) × CountsSearch (AllByRecursion (λ (e : ℕ × Slot V). Reach e.0 e.1.value) es) (IsPinnedFull cap es) (state before).faults (state after).faults (done_of result)
       same-counted made is same =
           let n = ap (λ (d : D). (state d).faults) same in (
             omega (arith, n),
-            subst (λ (q : Result Bool Fault). CountsSearch (AllByRecursion (λ (e : ℕ × Slot V). Reach e.0 e.1.value) es) (IsPinnedFull cap es) (state before).faults (state after).faults (done_of q)) (sym is) n,
+            subst (λ (q : Result Admission Fault). CountsSearch (AllByRecursion (λ (e : ℕ × Slot V). Reach e.0 e.1.value) es) (IsPinnedFull cap es) (state before).faults (state after).faults (done_of q)) (sym is) n,
           )
 
-      by-eviction : (key : ℕ) (result : Result Bool Fault) → Evicted nat_eq flushes key before es result after es'
+      by-eviction : (key : ℕ) (result : Result Admission Fault) → Evicted nat_eq flushes key before es result after es'
           → ((state before).faults ≤ (state after).faults) × CountsSearch (AllByRecursion (λ (e : ℕ × Slot V). Reach e.0 e.1.value) es) (IsPinnedFull cap es) (state before).faults (state after).faults (done_of result)
       by-eviction key (Ok made) (is, mid, at, removed) = let c = step before key at.slot.value (Ok tt) after at.value at.flush in (c.rising, c.counts)
       by-eviction key (Err fault) at =
@@ -306,7 +308,7 @@ module _ {V D : Type 0} (state : D → StorageState) (loads : D → ℕ → Resu
           let r = made.pinned full may is in
           let n = ap (λ (d : D). (state d).faults) r.1 in (
             omega (arith, n),
-            subst (λ (q : Result Bool Fault). CountsSearch (AllByRecursion (λ (e : ℕ × Slot V). Reach e.0 e.1.value) es) (IsPinnedFull cap es) (state before).faults (state after).faults (done_of q)) (sym r.0)
+            subst (λ (q : Result Admission Fault). CountsSearch (AllByRecursion (λ (e : ℕ × Slot V). Reach e.0 e.1.value) es) (IsPinnedFull cap es) (state before).faults (state after).faults (done_of q)) (sym r.0)
                 (record { full = full; pinned = (victim-none es None is).1 }),
           )
       by-victim (Some key) is full may = by-eviction key result (made.evicted full may key is)
@@ -314,7 +316,7 @@ module _ {V D : Type 0} (state : D → StorageState) (loads : D → ℕ → Resu
   -- how the load of the key counts
   module _ (fine : D → ℕ → Type 0)
       (loading : (old : D) (key : ℕ) (answer : Result V Fault) (new : D) → loads old key answer new → ((state old).faults ≤ (state new).faults) × MatchResult answer (λ _. (state new).faults ≡ (state old).faults) (WhyNotFound (fine new key) ⊥ (state old).faults (state new).faults)) where
-    load-counted : (full : Type 0) (key : ℕ) (before : D) (es : List (ℕ × Slot V)) (result : Result Bool Fault) (after : D) (es' : List (ℕ × Slot V)) → Loaded loads key before es result after es'
+    load-counted : (full : Type 0) (key : ℕ) (before : D) (es : List (ℕ × Slot V)) (result : Result Admission Fault) (after : D) (es' : List (ℕ × Slot V)) → Loaded loads key before es result after es'
         → ((state before).faults ≤ (state after).faults) × CountsSearch (fine after key) full (state before).faults (state after).faults (done_of result)
     load-counted full key before es (Ok made) after es' (is, value, load, list) = loading before key (Ok value) after load
     load-counted full key before es (Err fault) after es' (same, why) = elim why [
@@ -322,41 +324,41 @@ module _ {V D : Type 0} (state : D → StorageState) (loads : D → ℕ → Resu
       | inr short ↦ let l = loading before key (Ok short.1) after short.2 in (l.0, subst (λ (q : Fault). WhyNotFound (fine after key) full (state before).faults (state after).faults q) (sym short.0) tt)
     ]
 
-    pub readied-counted : (cap : ℕ) (may_flush : Bool) (key : ℕ) (before : D) (es : List (ℕ × Slot V)) (result : Result Bool Fault) (after : D) (es' : List (ℕ × Slot V)) → Readied nat_eq loads flushes cap may_flush key before es result after es'
+    pub readied-counted : (cap : ℕ) (may_flush : Bool) (key : ℕ) (before : D) (es : List (ℕ × Slot V)) (result : Result Admission Fault) (after : D) (es' : List (ℕ × Slot V)) → Readied nat_eq loads flushes cap may_flush key before es result after es'
         → ((state before).faults ≤ (state after).faults) × CountsSearch (fine after key × AllByRecursion (λ (e : ℕ × Slot V). Reach e.0 e.1.value) es) (IsPinnedFull cap es) (state before).faults (state after).faults (done_of result)
     readied-counted cap may_flush key before es result after es' r = elim (is-there (lookup (nat_eq key) es)) [
       | inl there ↦
           let f = r.found there in
           let n = ap (λ (d : D). (state d).faults) f.1 in (
             omega (arith, n),
-            subst (λ (q : Result Bool Fault). CountsSearch (fine after key × AllByRecursion (λ (e : ℕ × Slot V). Reach e.0 e.1.value) es) (IsPinnedFull cap es) (state before).faults (state after).faults (done_of q)) (sym f.0) n,
+            subst (λ (q : Result Admission Fault). CountsSearch (fine after key × AllByRecursion (λ (e : ℕ × Slot V). Reach e.0 e.1.value) es) (IsPinnedFull cap es) (state before).faults (state after).faults (done_of q)) (sym f.0) n,
           )
       | inr none ↦ let m = r.missed none in by-room m.room m.mid m.entries (room-counted cap may_flush before es m.room m.mid m.entries m.made) m.loaded
     ]
       where
-        by-load : (mid : D) (result : Result Bool Fault) → (state mid).faults ≡ (state before).faults → CountsSearch (fine after key) (IsPinnedFull cap es) (state mid).faults (state after).faults (done_of result)
+        by-load : (mid : D) (result : Result Admission Fault) → (state mid).faults ≡ (state before).faults → CountsSearch (fine after key) (IsPinnedFull cap es) (state mid).faults (state after).faults (done_of result)
             → CountsSearch (fine after key × AllByRecursion (λ (e : ℕ × Slot V). Reach e.0 e.1.value) es) (IsPinnedFull cap es) (state before).faults (state after).faults (done_of result)
         by-load mid (Ok found) same counts = counts ∙ same
         by-load mid (Err fault) same why = found-wider (fine after key) _ _ _ _ _ _ _ (λ f. f.0) (λ f. f) (omega (arith, same)) (omega arith) fault why
 
-        by-room : (room : Result Bool Fault) (mid : D) (entries : List (ℕ × Slot V))
+        by-room : (room : Result Admission Fault) (mid : D) (entries : List (ℕ × Slot V))
             → ((state before).faults ≤ (state mid).faults) × CountsSearch (AllByRecursion (λ (e : ℕ × Slot V). Reach e.0 e.1.value) es) (IsPinnedFull cap es) (state before).faults (state mid).faults (done_of room)
             → LoadedAfter loads key mid entries room result after es'
             → ((state before).faults ≤ (state after).faults) × CountsSearch (fine after key × AllByRecursion (λ (e : ℕ × Slot V). Reach e.0 e.1.value) es) (IsPinnedFull cap es) (state before).faults (state after).faults (done_of result)
-        by-room (Ok true) mid entries counted later =
+        by-room (Ok Granted) mid entries counted later =
             let l = load-counted (IsPinnedFull cap es) key mid entries result after es' later in
             let same : (state mid).faults ≡ (state before).faults = counted.1 in
             let le = l.0 in (omega (arith, le, same), by-load mid result same l.1)
-        by-room (Ok false) mid entries counted later =
+        by-room (Ok Denied) mid entries counted later =
             let n = ap (λ (d : D). (state d).faults) later.1 in
             let same : (state mid).faults ≡ (state before).faults = counted.1 in (
               omega (arith, n, same),
-              subst (λ (q : Result Bool Fault). CountsSearch (fine after key × AllByRecursion (λ (e : ℕ × Slot V). Reach e.0 e.1.value) es) (IsPinnedFull cap es) (state before).faults (state after).faults (done_of q)) (sym later.0) (n ∙ same),
+              subst (λ (q : Result Admission Fault). CountsSearch (fine after key × AllByRecursion (λ (e : ℕ × Slot V). Reach e.0 e.1.value) es) (IsPinnedFull cap es) (state before).faults (state after).faults (done_of q)) (sym later.0) (n ∙ same),
             )
         by-room (Err fault) mid entries counted later =
             let n = ap (λ (d : D). (state d).faults) later.1 in
             let le = counted.0 in (
               omega (arith, n, le),
-              subst (λ (q : Result Bool Fault). CountsSearch (fine after key × AllByRecursion (λ (e : ℕ × Slot V). Reach e.0 e.1.value) es) (IsPinnedFull cap es) (state before).faults (state after).faults (done_of q)) (sym later.0)
+              subst (λ (q : Result Admission Fault). CountsSearch (fine after key × AllByRecursion (λ (e : ℕ × Slot V). Reach e.0 e.1.value) es) (IsPinnedFull cap es) (state before).faults (state after).faults (done_of q)) (sym later.0)
                   (found-wider (AllByRecursion (λ (e : ℕ × Slot V). Reach e.0 e.1.value) es) _ _ _ _ _ _ _ (λ f. f.1) (λ f. f) (omega arith) (omega (arith, n)) fault counted.1),
             )

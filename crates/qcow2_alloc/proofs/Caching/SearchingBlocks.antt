@@ -13,6 +13,8 @@ use Rattle.qcow2_types.specs.Words.{max_offset}
 use Rattle.qcow2_types.specs.Header.{Header, Fields}
 use Rattle.qcow2_metadata.specs.Places.{IsInReach}
 use Rattle.qcow2_metadata.specs.Blocks.{Block, block_in}
+use Rattle.qcow2_alloc.specs.declared.async_lru_cache.Admission.{Admission}
+use Rattle.qcow2_alloc.specs.declared.async_lru_cache.Admission.TheVariants.{Denied}
 use Rattle.qcow2_alloc.specs.declared.async_lru_cache.Slot.{Slot}
 use Rattle.qcow2_alloc.specs.declared.cache.CacheDependency.TheVariants.{RbDependsOnL2}
 use Rattle.qcow2_alloc.specs.declared.cache.MetadataCaches.{MetadataCaches}
@@ -61,10 +63,10 @@ pub l2-alone : {S : Type 0} (old mid : MetadataCaches S) → mid.rb ≡ old.rb �
 l2-alone old mid same order = ap (λ l. record mid { rb = l }) same ∙ ap (λ o. record old { l2 = mid.l2; order = o }) order
 
 module _ {S : Type 0} (state : S → StorageState) (cluster : ℕ) where
-  abbrev Ready : Bool → ℕ → ImageFile S → List (ℕ × Slot Block) → Result Bool Fault → ImageFile S → List (ℕ × Slot Block) → Type 0
+  abbrev Ready : Bool → ℕ → ImageFile S → List (ℕ × Slot Block) → Result Admission Fault → ImageFile S → List (ℕ × Slot Block) → Type 0
   Ready may_flush cap before es result after es' = Readied nat_eq (block_loads state) (block_flushes state) cap may_flush cluster before es result after es'
 
-  header-stays : (may_flush : Bool) (cap : ℕ) (before : ImageFile S) (es : List (ℕ × Slot Block)) (result : Result Bool Fault) (after : ImageFile S) (es' : List (ℕ × Slot Block)) → Ready may_flush cap before es result after es' → after.header ≡ before.header
+  header-stays : (may_flush : Bool) (cap : ℕ) (before : ImageFile S) (es : List (ℕ × Slot Block)) (result : Result Admission Fault) (after : ImageFile S) (es' : List (ℕ × Slot Block)) → Ready may_flush cap before es result after es' → after.header ≡ before.header
   header-stays may_flush cap before es result after es' r =
       readied-related (block_loads state) (block_flushes state) (λ a b. b.header ≡ a.header) (λ a. refl) (λ a b c x y. y ∙ x) (λ old new key answer l. l.0) (λ old new key value value' answer f. f.0)
       cap may_flush cluster before es result after es' r
@@ -75,7 +77,7 @@ module _ {S : Type 0} (state : S → StorageState) (cluster : ℕ) where
   abbrev Read : ImageFile S → Header → Block
   Read after H = block_in (bytes_of (state after.image).bytes) H.fields cluster
 
-  block-sought : (may_flush : Bool) (cap : ℕ) (before : ImageFile S) (es : List (ℕ × Slot Block)) (result : Result Bool Fault) (after : ImageFile S) (es' : List (ℕ × Slot Block)) (H : Header) → after.header ≡ H → (result ≡ Ok false → ⊥)
+  block-sought : (may_flush : Bool) (cap : ℕ) (before : ImageFile S) (es : List (ℕ × Slot Block)) (result : Result Admission Fault) (after : ImageFile S) (es' : List (ℕ × Slot Block)) (H : Header) → after.header ≡ H → (result ≡ Ok Denied → ⊥)
       → Ready may_flush cap before es result after es' → Sought written_block cap cluster (Read after H) es (done_of result) es'
   block-sought may_flush cap before es result after es' H header not r =
       subst (λ (h : Header). Sought written_block cap cluster (Read after h) es (done_of result) es') header
@@ -85,7 +87,7 @@ module _ {S : Type 0} (state : S → StorageState) (cluster : ℕ) where
       (λ mid value load. load.1.ok.1 ∙ ap (λ (l : List ℕ). block_in (bytes_of l) mid.header.fields cluster) (sym load.1.kept.bytes) ∙ ap (λ (h : Header). Read after h) (sym load.0))
       not r)
 
-  block-counts : (may_flush : Bool) (cap : ℕ) (before : ImageFile S) (es : List (ℕ × Slot Block)) (result : Result Bool Fault) (after : ImageFile S) (es' : List (ℕ × Slot Block)) (H : Header) → after.header ≡ H → (faults : ℕ) → (state before.image).faults ≡ faults → (other : Type 0)
+  block-counts : (may_flush : Bool) (cap : ℕ) (before : ImageFile S) (es : List (ℕ × Slot Block)) (result : Result Admission Fault) (after : ImageFile S) (es' : List (ℕ × Slot Block)) (H : Header) → after.header ≡ H → (faults : ℕ) → (state before.image).faults ≡ faults → (other : Type 0)
       → Ready may_flush cap before es result after es'
       → CountsSearch (IsInReach H.fields.cluster_bits cluster × other × AllByRecursion (λ (e : ℕ × Slot Block). e.1.value.modified ≡ true → IsInReach e.1.value.cluster_bits e.0) es) (IsPinnedFull cap es) faults (state after.image).faults (done_of result)
   block-counts may_flush cap before es result after es' H header faults is other r =
@@ -96,7 +98,7 @@ module _ {S : Type 0} (state : S → StorageState) (cluster : ℕ) where
       (block-loading old.header.fields key (state old.image) answer (state new.image) load.1))
       cap may_flush cluster before es result after es' r).1
     where
-      by-result : (result : Result Bool Fault)
+      by-result : (result : Result Admission Fault)
           → CountsSearch (IsInReach after.header.fields.cluster_bits cluster × AllByRecursion (λ (e : ℕ × Slot Block). e.1.value.modified ≡ true → IsInReach e.1.value.cluster_bits e.0) es) (IsPinnedFull cap es) (state before.image).faults (state after.image).faults (done_of result)
           → CountsSearch (IsInReach H.fields.cluster_bits cluster × other × AllByRecursion (λ (e : ℕ × Slot Block). e.1.value.modified ≡ true → IsInReach e.1.value.cluster_bits e.0) es) (IsPinnedFull cap es) faults (state after.image).faults (done_of result)
       by-result (Ok found) same = same ∙ is
@@ -104,21 +106,21 @@ module _ {S : Type 0} (state : S → StorageState) (cluster : ℕ) where
           found-wider _ _ _ _ _ _ _ _ (λ f. (subst (λ (h : Header). IsInReach h.fields.cluster_bits cluster) (sym header) f.0, f.2)) (λ f. f) (omega (arith, is)) (omega arith) fault why
 
   -- What it asks for where no block is modified,
-  block-still : (may_flush : Bool) (cap : ℕ) (before : ImageFile S) (es : List (ℕ × Slot Block)) (result : Result Bool Fault) (after : ImageFile S) (es' : List (ℕ × Slot Block)) → Ready may_flush cap before es result after es'
+  block-still : (may_flush : Bool) (cap : ℕ) (before : ImageFile S) (es : List (ℕ × Slot Block)) (result : Result Admission Fault) (after : ImageFile S) (es' : List (ℕ × Slot Block)) → Ready may_flush cap before es result after es'
       → AllByRecursion (λ (e : ℕ × Slot Block). e.1.value.modified ≡ false) es → Kept (state before.image) (state after.image) × AllByRecursion (λ (e : ℕ × Slot Block). e.1.value.modified ≡ false) es'
   block-still may_flush cap before es result after es' r =
       readied-still (λ (d : ImageFile S). state d.image) (block_loads state) (block_flushes state) (λ a b key answer load. load.1.kept) (λ t. t.modified ≡ false) (λ a b key block load. ap (λ (t : Block). t.modified) load.1.ok.1)
       (λ a b key block block' answer clean flush. flush.1.clean clean) cap may_flush cluster before es result after es' r
 
   -- and in a full cache.
-  block-over : (cap : ℕ) (before : ImageFile S) (es : List (ℕ × Slot Block)) (result : Result Bool Fault) (after : ImageFile S) (es' : List (ℕ × Slot Block)) → lookup (nat_eq cluster) es ≡ None → cap ≤ length es → Ready true cap before es result after es'
+  block-over : (cap : ℕ) (before : ImageFile S) (es : List (ℕ × Slot Block)) (result : Result Admission Fault) (after : ImageFile S) (es' : List (ℕ × Slot Block)) → lookup (nat_eq cluster) es ≡ None → cap ≤ length es → Ready true cap before es result after es'
       → LetsIn (λ a key block answer b block'. BlockFlushed key block a answer b block') (state before.image) es (done_of result) (state after.image) es'
   block-over cap before es result after es' =
       lets-in (λ (d : ImageFile S). state d.image) (block_loads state) (block_flushes state) (λ a b key answer load. load.1.kept) (λ a key block answer b block'. BlockFlushed key block a answer b block') (λ a b key block block' answer flush. flush.1)
       cap cluster before es result after es'
 
   -- One that is found, or loaded into room that there is.
-  pub block-found-quietly : (old : MetadataCaches S) (before : ImageFile S) (result : Result Bool Fault) (after : ImageFile S) (es' : List (ℕ × Slot Block)) → (result ≡ Ok false → ⊥)
+  pub block-found-quietly : (old : MetadataCaches S) (before : ImageFile S) (result : Result Admission Fault) (after : ImageFile S) (es' : List (ℕ × Slot Block)) → (result ≡ Ok Denied → ⊥)
       → Ready false old.rb.slots.cap before old.rb.slots.entries result after es' → BlockFound state cluster old before (done_of result) (with_blocks old es') after
   block-found-quietly old before result after es' not r =
       let header = header-stays false old.rb.slots.cap before old.rb.slots.entries result after es' r in
@@ -148,7 +150,7 @@ module _ {S : Type 0} (state : S → StorageState) (cluster : ℕ) where
 
   -- Without leave to flush
   module _ (old new : MetadataCaches S) (before after : ImageFile S) (same : new ≡ with_blocks old new.rb.slots.entries) where
-    pub block-found-now : (result : Result Bool Fault) → (result ≡ Ok false → ⊥) → Ready false old.rb.slots.cap before old.rb.slots.entries result after new.rb.slots.entries → BlockFound state cluster old before (done_of result) new after
+    pub block-found-now : (result : Result Admission Fault) → (result ≡ Ok Denied → ⊥) → Ready false old.rb.slots.cap before old.rb.slots.entries result after new.rb.slots.entries → BlockFound state cluster old before (done_of result) new after
     block-found-now result not r = subst (λ (m : MetadataCaches S). BlockFound state cluster old before (done_of result) m after) (sym same) (block-found-quietly old before result after new.rb.slots.entries not r)
 
     -- a full cache stays as it is.
@@ -158,7 +160,7 @@ module _ {S : Type 0} (state : S → StorageState) (cluster : ℕ) where
       pub caches : new ≡ old
       pub file : after ≡ before
 
-    pub block-stuck : Ready false old.rb.slots.cap before old.rb.slots.entries (Ok false) after new.rb.slots.entries → IsStuck
+    pub block-stuck : Ready false old.rb.slots.cap before old.rb.slots.entries (Ok Denied) after new.rb.slots.entries → IsStuck
     block-stuck r =
         let f = full-stays (block_loads state) (block_flushes state) old.rb.slots.cap cluster before old.rb.slots.entries after new.rb.slots.entries r in
         let cap : new.rb.slots.cap ≡ old.rb.slots.cap = ap (λ (m : MetadataCaches S). m.rb.slots.cap) same in
@@ -179,7 +181,7 @@ module _ {S : Type 0} (state : S → StorageState) (cluster : ℕ) where
 
     block-found-loading : Going before.header (order_of old) Always (Succeeded (Ok tt)) (state before.image) (cached_in old) (state between.image) (cached_in mid) → ReadyBlocks (order_of old) (cached_in mid) → (state between.image).faults ≡ (state before.image).faults
         → (order_of old ≡ RbDependsOnL2 → WritesTables (state before.image) (cached_in old) (Ok tt) (state between.image) (cached_in mid))
-        → (result : Result Bool Fault) (after : ImageFile S) (es' : List (ℕ × Slot Block)) → (result ≡ Ok false → ⊥)
+        → (result : Result Admission Fault) (after : ImageFile S) (es' : List (ℕ × Slot Block)) → (result ≡ Ok Denied → ⊥)
         → Ready true old.rb.slots.cap between old.rb.slots.entries result after es' → BlockFound state cluster old before (done_of result) (record old { l2 = mid.l2; rb = with_entries old.rb es' }) after
     block-found-loading going ready faults did result after es' not r =
         let stays = header-stays true old.rb.slots.cap between old.rb.slots.entries result after es' r ∙ header in
@@ -211,7 +213,7 @@ module _ {S : Type 0} (state : S → StorageState) (cluster : ℕ) where
 
     pub block-found-full : Going before.header (order_of old) Always (Succeeded (Ok tt)) (state before.image) (cached_in old) (state between.image) (cached_in mid) → ReadyBlocks (order_of mid) (cached_in mid) → (state between.image).faults ≡ (state before.image).faults
         → (order_of old ≡ RbDependsOnL2 → WritesTables (state before.image) (cached_in old) (Ok tt) (state between.image) (cached_in mid))
-        → (result : Result Bool Fault) (after : ImageFile S) (new : MetadataCaches S) → new ≡ record mid { rb = with_entries mid.rb new.rb.slots.entries }
+        → (result : Result Admission Fault) (after : ImageFile S) (new : MetadataCaches S) → new ≡ record mid { rb = with_entries mid.rb new.rb.slots.entries }
         → Ready true mid.rb.slots.cap between mid.rb.slots.entries result after new.rb.slots.entries → BlockFound state cluster old before (done_of result) new after
     block-found-full going ready faults did result after new is r =
         let es' = new.rb.slots.entries in
@@ -219,7 +221,7 @@ module _ {S : Type 0} (state : S → StorageState) (cluster : ℕ) where
         let now : new ≡ record old { l2 = mid.l2; rb = with_entries old.rb es' } = is ∙ ap (λ (m : MetadataCaches S). record m { rb = with_entries m.rb es' }) same in
         subst (λ (m : MetadataCaches S). BlockFound state cluster old before (done_of result) m after) (sym now)
         (block-found-loading going (subst (λ (m : MetadataCaches S). ReadyBlocks (order_of m) (cached_in mid)) same ready) faults did result after es'
-        (λ full. never-full (block_loads state) (block_flushes state) old.rb.slots.cap cluster between old.rb.slots.entries after es' (subst (λ (q : Result Bool Fault). Ready true old.rb.slots.cap between old.rb.slots.entries q after es') full r')) r')
+        (λ full. never-full (block_loads state) (block_flushes state) old.rb.slots.cap cluster between old.rb.slots.entries after es' (subst (λ (q : Result Admission Fault). Ready true old.rb.slots.cap between old.rb.slots.entries q after es') full r')) r')
 
     pub block-found-halted : (fault : Fault) → Going before.header (order_of old) Always (Succeeded (Err fault)) (state before.image) (cached_in old) (state between.image) (cached_in mid)
         → CountsWrites (AreTablesInReach (cached_in old)) (state before.image).faults (state between.image).faults (Err fault)

@@ -15,6 +15,8 @@ use Rattle.qcow2_types.specs.Words.{max_offset}
 use Rattle.qcow2_types.specs.Header.{Header, Fields, words_of_cluster, cluster_size, layout_of}
 use Rattle.qcow2_metadata.specs.Places.{IsInReach}
 use Rattle.qcow2_metadata.specs.Tables.{TableValue, table_in, words_in, l2_words, WhyNotLoaded, HasUnsound}
+use Rattle.qcow2_alloc.specs.declared.async_lru_cache.Admission.{Admission}
+use Rattle.qcow2_alloc.specs.declared.async_lru_cache.Admission.TheVariants.{Denied}
 use Rattle.qcow2_alloc.specs.declared.async_lru_cache.Slot.{Slot}
 use Rattle.qcow2_alloc.specs.declared.cache.CacheDependency.TheVariants.{L2DependsOnRb}
 use Rattle.qcow2_alloc.specs.declared.cache.MetadataCaches.{MetadataCaches}
@@ -70,10 +72,10 @@ pub rb-alone : {S : Type 0} (old mid : MetadataCaches S) → mid.l2 ≡ old.l2 �
 rb-alone old mid same order = ap (λ l. record mid { l2 = l }) same ∙ ap (λ o. record old { rb = mid.rb; order = o }) order
 
 module _ {S : Type 0} (state : S → StorageState) (cluster : ℕ) where
-  abbrev Ready : Bool → ℕ → ImageFile S → List (ℕ × Slot TableValue) → Result Bool Fault → ImageFile S → List (ℕ × Slot TableValue) → Type 0
+  abbrev Ready : Bool → ℕ → ImageFile S → List (ℕ × Slot TableValue) → Result Admission Fault → ImageFile S → List (ℕ × Slot TableValue) → Type 0
   Ready may_flush cap before es result after es' = Readied nat_eq (table_loads state) (table_flushes state) cap may_flush cluster before es result after es'
 
-  header-stays : (may_flush : Bool) (cap : ℕ) (before : ImageFile S) (es : List (ℕ × Slot TableValue)) (result : Result Bool Fault) (after : ImageFile S) (es' : List (ℕ × Slot TableValue)) → Ready may_flush cap before es result after es' → after.header ≡ before.header
+  header-stays : (may_flush : Bool) (cap : ℕ) (before : ImageFile S) (es : List (ℕ × Slot TableValue)) (result : Result Admission Fault) (after : ImageFile S) (es' : List (ℕ × Slot TableValue)) → Ready may_flush cap before es result after es' → after.header ≡ before.header
   header-stays may_flush cap before es result after es' r =
       readied-related (table_loads state) (table_flushes state) (λ a b. b.header ≡ a.header) (λ a. refl) (λ a b c x y. y ∙ x) (λ old new key answer l. l.0) (λ old new key value value' answer f. f.0)
       cap may_flush cluster before es result after es' r
@@ -84,7 +86,7 @@ module _ {S : Type 0} (state : S → StorageState) (cluster : ℕ) where
   abbrev Read : ImageFile S → Header → TableValue
   Read after H = table_in (bytes_of (state after.image).bytes) H.fields cluster (words_of_cluster H.fields)
 
-  table-sought : (may_flush : Bool) (cap : ℕ) (before : ImageFile S) (es : List (ℕ × Slot TableValue)) (result : Result Bool Fault) (after : ImageFile S) (es' : List (ℕ × Slot TableValue)) (H : Header) → after.header ≡ H → (result ≡ Ok false → ⊥)
+  table-sought : (may_flush : Bool) (cap : ℕ) (before : ImageFile S) (es : List (ℕ × Slot TableValue)) (result : Result Admission Fault) (after : ImageFile S) (es' : List (ℕ × Slot TableValue)) (H : Header) → after.header ≡ H → (result ≡ Ok Denied → ⊥)
       → Ready may_flush cap before es result after es' → Sought written_table cap cluster (Read after H) es (done_of result) es'
   table-sought may_flush cap before es result after es' H header not r =
       subst (λ (h : Header). Sought written_table cap cluster (Read after h) es (done_of result) es') header
@@ -94,7 +96,7 @@ module _ {S : Type 0} (state : S → StorageState) (cluster : ℕ) where
       (λ mid value load. load.1.ok.1 ∙ ap (λ (l : List ℕ). table_in (bytes_of l) mid.header.fields cluster (words_of_cluster mid.header.fields)) (sym load.1.kept.bytes) ∙ ap (λ (h : Header). Read after h) (sym load.0))
       not r)
 
-  table-counts : (may_flush : Bool) (cap : ℕ) (before : ImageFile S) (es : List (ℕ × Slot TableValue)) (result : Result Bool Fault) (after : ImageFile S) (es' : List (ℕ × Slot TableValue)) (H : Header) → after.header ≡ H → (faults : ℕ) → (state before.image).faults ≡ faults → (blocks : Type 0)
+  table-counts : (may_flush : Bool) (cap : ℕ) (before : ImageFile S) (es : List (ℕ × Slot TableValue)) (result : Result Admission Fault) (after : ImageFile S) (es' : List (ℕ × Slot TableValue)) (H : Header) → after.header ≡ H → (faults : ℕ) → (state before.image).faults ≡ faults → (blocks : Type 0)
       → Ready may_flush cap before es result after es'
       → CountsSearch (IsTableFine (bytes_of (state after.image).bytes) H.fields cluster × AllByRecursion (λ (e : ℕ × Slot TableValue). e.1.value.modified ≡ true → IsInReach e.1.value.layout.cluster_bits e.0) es × blocks) (IsPinnedFull cap es) faults (state after.image).faults (done_of result)
   table-counts may_flush cap before es result after es' H header faults is blocks r =
@@ -105,7 +107,7 @@ module _ {S : Type 0} (state : S → StorageState) (cluster : ℕ) where
       (table-loading old.header.fields key (state old.image) answer (state new.image) load.1))
       cap may_flush cluster before es result after es' r).1
     where
-      by-result : (result : Result Bool Fault)
+      by-result : (result : Result Admission Fault)
           → CountsSearch (IsTableFine (bytes_of (state after.image).bytes) after.header.fields cluster × AllByRecursion (λ (e : ℕ × Slot TableValue). e.1.value.modified ≡ true → IsInReach e.1.value.layout.cluster_bits e.0) es) (IsPinnedFull cap es) (state before.image).faults (state after.image).faults (done_of result)
           → CountsSearch (IsTableFine (bytes_of (state after.image).bytes) H.fields cluster × AllByRecursion (λ (e : ℕ × Slot TableValue). e.1.value.modified ≡ true → IsInReach e.1.value.layout.cluster_bits e.0) es × blocks) (IsPinnedFull cap es) faults (state after.image).faults (done_of result)
       by-result (Ok found) same = same ∙ is
@@ -113,21 +115,21 @@ module _ {S : Type 0} (state : S → StorageState) (cluster : ℕ) where
           found-wider _ _ _ _ _ _ _ _ (λ f. (subst (λ (h : Header). IsTableFine (bytes_of (state after.image).bytes) h.fields cluster) (sym header) f.0, f.1)) (λ f. f) (omega (arith, is)) (omega arith) fault why
 
   -- What it asks for where no table is modified,
-  table-still : (may_flush : Bool) (cap : ℕ) (before : ImageFile S) (es : List (ℕ × Slot TableValue)) (result : Result Bool Fault) (after : ImageFile S) (es' : List (ℕ × Slot TableValue)) → Ready may_flush cap before es result after es'
+  table-still : (may_flush : Bool) (cap : ℕ) (before : ImageFile S) (es : List (ℕ × Slot TableValue)) (result : Result Admission Fault) (after : ImageFile S) (es' : List (ℕ × Slot TableValue)) → Ready may_flush cap before es result after es'
       → AllByRecursion (λ (e : ℕ × Slot TableValue). e.1.value.modified ≡ false) es → Kept (state before.image) (state after.image) × AllByRecursion (λ (e : ℕ × Slot TableValue). e.1.value.modified ≡ false) es'
   table-still may_flush cap before es result after es' r =
       readied-still (λ (d : ImageFile S). state d.image) (table_loads state) (table_flushes state) (λ a b key answer load. load.1.kept) (λ t. t.modified ≡ false) (λ a b key table load. ap (λ (t : TableValue). t.modified) load.1.ok.1)
       (λ a b key table table' answer clean flush. flush.1.clean clean) cap may_flush cluster before es result after es' r
 
   -- and in a full cache.
-  table-over : (cap : ℕ) (before : ImageFile S) (es : List (ℕ × Slot TableValue)) (result : Result Bool Fault) (after : ImageFile S) (es' : List (ℕ × Slot TableValue)) → lookup (nat_eq cluster) es ≡ None → cap ≤ length es → Ready true cap before es result after es'
+  table-over : (cap : ℕ) (before : ImageFile S) (es : List (ℕ × Slot TableValue)) (result : Result Admission Fault) (after : ImageFile S) (es' : List (ℕ × Slot TableValue)) → lookup (nat_eq cluster) es ≡ None → cap ≤ length es → Ready true cap before es result after es'
       → LetsIn (λ a key table answer b table'. TableFlushed key table a answer b table') (state before.image) es (done_of result) (state after.image) es'
   table-over cap before es result after es' =
       lets-in (λ (d : ImageFile S). state d.image) (table_loads state) (table_flushes state) (λ a b key answer load. load.1.kept) (λ a key table answer b table'. TableFlushed key table a answer b table') (λ a b key table table' answer flush. flush.1)
       cap cluster before es result after es'
 
   -- One that is found, or loaded into room that there is.
-  pub table-found-quietly : (old : MetadataCaches S) (before : ImageFile S) (result : Result Bool Fault) (after : ImageFile S) (es' : List (ℕ × Slot TableValue)) → (result ≡ Ok false → ⊥)
+  pub table-found-quietly : (old : MetadataCaches S) (before : ImageFile S) (result : Result Admission Fault) (after : ImageFile S) (es' : List (ℕ × Slot TableValue)) → (result ≡ Ok Denied → ⊥)
       → Ready false old.l2.slots.cap before old.l2.slots.entries result after es' → TableFound state cluster old before (done_of result) (with_tables old es') after
   table-found-quietly old before result after es' not r =
       let header = header-stays false old.l2.slots.cap before old.l2.slots.entries result after es' r in
@@ -157,7 +159,7 @@ module _ {S : Type 0} (state : S → StorageState) (cluster : ℕ) where
 
   -- Without leave to flush
   module _ (old new : MetadataCaches S) (before after : ImageFile S) (same : new ≡ with_tables old new.l2.slots.entries) where
-    pub table-found-now : (result : Result Bool Fault) → (result ≡ Ok false → ⊥) → Ready false old.l2.slots.cap before old.l2.slots.entries result after new.l2.slots.entries → TableFound state cluster old before (done_of result) new after
+    pub table-found-now : (result : Result Admission Fault) → (result ≡ Ok Denied → ⊥) → Ready false old.l2.slots.cap before old.l2.slots.entries result after new.l2.slots.entries → TableFound state cluster old before (done_of result) new after
     table-found-now result not r = subst (λ (m : MetadataCaches S). TableFound state cluster old before (done_of result) m after) (sym same) (table-found-quietly old before result after new.l2.slots.entries not r)
 
     -- a full cache stays as it is.
@@ -167,7 +169,7 @@ module _ {S : Type 0} (state : S → StorageState) (cluster : ℕ) where
       pub caches : new ≡ old
       pub file : after ≡ before
 
-    pub table-stuck : Ready false old.l2.slots.cap before old.l2.slots.entries (Ok false) after new.l2.slots.entries → IsStuck
+    pub table-stuck : Ready false old.l2.slots.cap before old.l2.slots.entries (Ok Denied) after new.l2.slots.entries → IsStuck
     table-stuck r =
         let f = full-stays (table_loads state) (table_flushes state) old.l2.slots.cap cluster before old.l2.slots.entries after new.l2.slots.entries r in
         let cap : new.l2.slots.cap ≡ old.l2.slots.cap = ap (λ (m : MetadataCaches S). m.l2.slots.cap) same in
@@ -188,7 +190,7 @@ module _ {S : Type 0} (state : S → StorageState) (cluster : ℕ) where
 
     table-found-loading : Going before.header (order_of old) Always (Succeeded (Ok tt)) (state before.image) (cached_in old) (state between.image) (cached_in mid) → ReadyTables (order_of old) (cached_in mid) → (state between.image).faults ≡ (state before.image).faults
         → (order_of old ≡ L2DependsOnRb → WritesBlocks (state before.image) (cached_in old) (Ok tt) (state between.image) (cached_in mid))
-        → (result : Result Bool Fault) (after : ImageFile S) (es' : List (ℕ × Slot TableValue)) → (result ≡ Ok false → ⊥)
+        → (result : Result Admission Fault) (after : ImageFile S) (es' : List (ℕ × Slot TableValue)) → (result ≡ Ok Denied → ⊥)
         → Ready true old.l2.slots.cap between old.l2.slots.entries result after es' → TableFound state cluster old before (done_of result) (record old { l2 = with_entries old.l2 es'; rb = mid.rb }) after
     table-found-loading going ready faults did result after es' not r =
         let stays = header-stays true old.l2.slots.cap between old.l2.slots.entries result after es' r ∙ header in
@@ -220,7 +222,7 @@ module _ {S : Type 0} (state : S → StorageState) (cluster : ℕ) where
 
     pub table-found-full : Going before.header (order_of old) Always (Succeeded (Ok tt)) (state before.image) (cached_in old) (state between.image) (cached_in mid) → ReadyTables (order_of mid) (cached_in mid) → (state between.image).faults ≡ (state before.image).faults
         → (order_of old ≡ L2DependsOnRb → WritesBlocks (state before.image) (cached_in old) (Ok tt) (state between.image) (cached_in mid))
-        → (result : Result Bool Fault) (after : ImageFile S) (new : MetadataCaches S) → new ≡ record mid { l2 = with_entries mid.l2 new.l2.slots.entries }
+        → (result : Result Admission Fault) (after : ImageFile S) (new : MetadataCaches S) → new ≡ record mid { l2 = with_entries mid.l2 new.l2.slots.entries }
         → Ready true mid.l2.slots.cap between mid.l2.slots.entries result after new.l2.slots.entries → TableFound state cluster old before (done_of result) new after
     table-found-full going ready faults did result after new is r =
         let es' = new.l2.slots.entries in
@@ -228,7 +230,7 @@ module _ {S : Type 0} (state : S → StorageState) (cluster : ℕ) where
         let now : new ≡ record old { l2 = with_entries old.l2 es'; rb = mid.rb } = is ∙ ap (λ (m : MetadataCaches S). record m { l2 = with_entries m.l2 es' }) same in
         subst (λ (m : MetadataCaches S). TableFound state cluster old before (done_of result) m after) (sym now)
         (table-found-loading going (subst (λ (m : MetadataCaches S). ReadyTables (order_of m) (cached_in mid)) same ready) faults did result after es'
-        (λ full. never-full (table_loads state) (table_flushes state) old.l2.slots.cap cluster between old.l2.slots.entries after es' (subst (λ (q : Result Bool Fault). Ready true old.l2.slots.cap between old.l2.slots.entries q after es') full r')) r')
+        (λ full. never-full (table_loads state) (table_flushes state) old.l2.slots.cap cluster between old.l2.slots.entries after es' (subst (λ (q : Result Admission Fault). Ready true old.l2.slots.cap between old.l2.slots.entries q after es') full r')) r')
 
     pub table-found-halted : (fault : Fault) → Going before.header (order_of old) Always (Succeeded (Err fault)) (state before.image) (cached_in old) (state between.image) (cached_in mid)
         → CountsWrites (AreBlocksInReach (cached_in old)) (state before.image).faults (state between.image).faults (Err fault)
