@@ -6,6 +6,7 @@ pub mod Empty
 pub mod Entering
 pub mod Pins
 pub mod Places
+pub mod Kinds
 pub mod Readying
 pub mod FindingTables
 pub mod FindingBlocks
@@ -15,6 +16,7 @@ pub mod SearchingTables
 pub mod SearchingBlocks
 pub mod Staying
 pub mod Inserting
+pub mod PuttingEntries
 pub mod InsertingTables
 pub mod InsertingBlocks
 pub mod Dropping

@@ -1,5 +1,5 @@
 -- A cached block is found or loaded.
-use Rattle.std.proofs.Common.{◌≡◌, ℕ, ◌*◌, ◌^◌, refl, arith, ap, sym, subst, ◌∙◌, List, [], ◌∷◌, ◌++◌, inl, inr, length, None, Result, Ok, Err, Bool, true, false}
+use Rattle.std.proofs.Common.{◌≡◌, ℕ, ◌*◌, ◌^◌, refl, arith, ap, sym, subst, ◌∙◌, List, [], ◌∷◌, ◌++◌, inl, inr, length, None, Result, Ok, Err, false}
 use Rattle.std.proofs.lemmas.Bool.{cases_lt}
 use Rattle.std.specs.Prelude.{nat_eq, ⊤}
 use Rattle.std.specs.Map.{lookup}
@@ -10,9 +10,8 @@ use Rattle.qcow2_types.specs.Bytes.{bytes_of}
 use Rattle.qcow2_types.specs.Header.{Fields, Header}
 use Rattle.qcow2_types.specs.Words.{max_offset}
 use Rattle.qcow2_types.specs.Counts.{counters_of_block}
-use Rattle.qcow2_alloc.specs.declared.async_lru_cache.Admission.{Admission}
-use Rattle.qcow2_alloc.specs.declared.async_lru_cache.Admission.TheVariants.{Granted}
-use Rattle.qcow2_alloc.specs.Backends.{BlockLoaded, BlockFlushed}
+use Rattle.qcow2_alloc.specs.Backends.{BlockLoaded}
+use Rattle.qcow2_alloc.proofs.Caching.Kinds.{LoadedKind, EntryKind}
 use Rattle.qcow2_alloc.proofs.Caching.Places.{away-of-all}
 use Rattle.qcow2_alloc.proofs.Caching.Entering.{block-leaves, block-leaves-safe, block-comes, block-comes-safe}
 use Rattle.qcow2_alloc.specs.Safety.{IsCachedBlock}
@@ -22,9 +21,8 @@ use Rattle.qcow2_alloc.specs.declared.async_lru_cache.Slot.{Slot}
 use Rattle.qcow2_alloc.specs.declared.cache.CacheDependency.{CacheDependency}
 use Rattle.qcow2_alloc.specs.Memory.{Cached}
 use Rattle.qcow2_alloc.specs.Going.{Going, ReadyBlocks, WasNotCutOff}
-use Rattle.qcow2_alloc.specs.Cache.{MadeRoom, Readied}
+use Rattle.qcow2_alloc.specs.CachesLending.{block_loads, block_flushes}
 use Rattle.qcow2_alloc.specs.declared.file.ImageFile.{ImageFile}
-use Rattle.qcow2_alloc.proofs.Caching.Readying.{readied, room-made, room-absent}
 use Rattle.qcow2_alloc.proofs.Flushing.FlushingBlocks.{block-flushed-whole, flushed-clean}
 use Rattle.qcow2_alloc.proofs.Flushing.Faultless.{never-mild}
 use Rattle.qcow2_alloc.proofs.Caching.FindingTables.{going-quiet, kept-same}
@@ -53,7 +51,7 @@ module _ {S : Type 0} (state : S → StorageState) (H : Header) (order : CacheDe
   abbrev put : List (ℕ × Slot Block) → Cached
   put blocks = record { tables = tables; blocks = blocks }
 
-  block-leaves-quietly : (ready : (A B : List (ℕ × Slot Block)) → Ready (put A) → Ready (put B)) (front : List (ℕ × Slot Block)) (key : ℕ) (slot : Slot Block) (back : List (ℕ × Slot Block)) (s : StorageState)
+  pub block-leaves-quietly : (ready : (A B : List (ℕ × Slot Block)) → Ready (put A) → Ready (put B)) (front : List (ℕ × Slot Block)) (key : ℕ) (slot : Slot Block) (back : List (ℕ × Slot Block)) (s : StorageState)
       → slot.value.modified ≡ false → Going H order Ready ⊤ s (put (front ++ (key, slot) ∷ back)) s (put (front ++ back))
   block-leaves-quietly ready front key slot back s clean =
       going-quiet H order Ready ⊤ s s (put (front ++ (key, slot) ∷ back)) (put (front ++ back)) (kept-same s) (omega arith) (λ o. refl) (ready (front ++ (key, slot) ∷ back) (front ++ back))
@@ -71,57 +69,30 @@ module _ {S : Type 0} (state : S → StorageState) (H : Header) (order : CacheDe
   block-asked key result es old new loaded =
       going-quiet H order Ready (WasNotCutOff result) old new (put es) (put es) loaded.kept loaded.later (block-load-counted H.fields key old result new loaded) (λ r. r) (λ r safe. safe) (λ r. refl)
 
--- A block is found or loaded, where what has to be written before is.
-module _ {S : Type 0} (state : S → StorageState) (H : Header) (order : CacheDependency) (tables : List (ℕ × Slot TableValue)) where
-  abbrev with_tables : List (ℕ × Slot Block) → Cached
-  with_tables blocks = record { tables = tables; blocks = blocks }
+  -- So are they loaded,
+  abbrev pub loaded_blocks : ((A B : List (ℕ × Slot Block)) → Ready (put A) → Ready (put B)) → LoadedKind Block (ImageFile S)
+  loaded_blocks ready = record {
+    state = λ d. state d.image;
+    header = H;
+    order = order;
+    Ready = Ready;
+    put = put;
+    Fits = λ d. d.header ≡ H;
+    loads = block_loads state;
+    comes = λ key value es old new same load none. block-comes-quietly ready key value es (state old.image) (state new.image)
+        (subst (λ (h : Header). BlockLoaded h.fields key (state old.image) (Ok value) (state new.image)) same load.1) none;
+    asked = λ key result es old new same load. block-asked key result es (state old.image) (state new.image)
+        (subst (λ (h : Header). BlockLoaded h.fields key (state old.image) result (state new.image)) same load.1);
+  }
 
-  abbrev loads : ImageFile S → ℕ → Result Block Fault → ImageFile S → Type 0
-  loads = λ old key result new. (new.header ≡ old.header) × BlockLoaded old.header.fields key (state old.image) result (state new.image)
-
-  abbrev flushes : ImageFile S → ℕ → Block → Result Unit Fault → ImageFile S → Block → Type 0
-  flushes = λ old key t result new t'. (new.header ≡ old.header) × BlockFlushed key t (state old.image) result (state new.image) t'
-
-  pub block-readied : (cap : ℕ) (may_flush : Bool) (key : ℕ) (before : ImageFile S) (es : List (ℕ × Slot Block)) (result : Result Admission Fault) (after : ImageFile S) (es' : List (ℕ × Slot Block)) → before.header ≡ H
-      → Readied nat_eq loads flushes cap may_flush key before es result after es'
-      → Going H order (ReadyBlocks order) (WasNotCutOff result) (state before.image) (with_tables es) (state after.image) (with_tables es')
-  block-readied cap may_flush key before es result after es' header r =
-      readied (λ d. state d.image) loads flushes H order (ReadyBlocks order) with_tables (λ t. t.modified ≡ false)
-      (λ old new key v v' flush. flushed-clean key v (state old.image) (state new.image) v' flush.1)
-      (λ front key slot back old new result value flush. block-flushed-whole H order tables front key slot back (state old.image) (state new.image) result value flush.1)
-      (λ front key slot back s clean. block-leaves-quietly state H order (ReadyBlocks order) tables (λ A B r. r) front key slot back s clean)
-      (λ d. d.header ≡ H) (λ old new key v v' result flush same. flush.0 ∙ same)
-      (λ key value es old new same load none. block-comes-quietly state H order (ReadyBlocks order) tables (λ A B r. r) key value es (state old.image) (state new.image)
-      (subst (λ (h : Header). BlockLoaded h.fields key (state old.image) (Ok value) (state new.image)) same load.1) none)
-      (λ key result es old new same load. block-asked state H order (ReadyBlocks order) tables key result es (state old.image) (state new.image)
-      (subst (λ (h : Header). BlockLoaded h.fields key (state old.image) result (state new.image)) same load.1))
-      cap may_flush key before es result after es' header r
-
-  -- Room is made.
-  pub block-room-made : (cap : ℕ) (may_flush : Bool) (before : ImageFile S) (es : List (ℕ × Slot Block)) (result : Result Admission Fault) (after : ImageFile S) (es' : List (ℕ × Slot Block))
-      → MadeRoom nat_eq flushes cap may_flush before es result after es' → Going H order (ReadyBlocks order) (WasNotCutOff result) (state before.image) (with_tables es) (state after.image) (with_tables es')
-  block-room-made cap may_flush before es result after es' made =
-      room-made (λ d. state d.image) loads flushes H order (ReadyBlocks order) with_tables (λ t. t.modified ≡ false)
-      (λ old new key v v' flush. flushed-clean key v (state old.image) (state new.image) v' flush.1)
-      (λ front key slot back old new result value flush. block-flushed-whole H order tables front key slot back (state old.image) (state new.image) result value flush.1)
-      (λ front key slot back s clean. block-leaves-quietly state H order (ReadyBlocks order) tables (λ A B r. r) front key slot back s clean)
-      (λ d. d.header ≡ H) (λ old new key v v' result flush same. flush.0 ∙ same)
-      (λ key value es old new same load none. block-comes-quietly state H order (ReadyBlocks order) tables (λ A B r. r) key value es (state old.image) (state new.image)
-      (subst (λ (h : Header). BlockLoaded h.fields key (state old.image) (Ok value) (state new.image)) same load.1) none)
-      (λ key result es old new same load. block-asked state H order (ReadyBlocks order) tables key result es (state old.image) (state new.image)
-      (subst (λ (h : Header). BlockLoaded h.fields key (state old.image) result (state new.image)) same load.1))
-      cap may_flush before es result after es' made
-
-  pub block-room-absent : (cap : ℕ) (may_flush : Bool) (key : ℕ) (before : ImageFile S) (es : List (ℕ × Slot Block)) (result : Result Admission Fault) (after : ImageFile S) (es' : List (ℕ × Slot Block))
-      → MadeRoom nat_eq flushes cap may_flush before es result after es' → result ≡ Ok Granted → lookup (nat_eq key) es ≡ None → lookup (nat_eq key) es' ≡ None
-  block-room-absent cap may_flush key before es result after es' made =
-      room-absent (λ d. state d.image) loads flushes H order (ReadyBlocks order) with_tables (λ t. t.modified ≡ false)
-      (λ old new key v v' flush. flushed-clean key v (state old.image) (state new.image) v' flush.1)
-      (λ front key slot back old new result value flush. block-flushed-whole H order tables front key slot back (state old.image) (state new.image) result value flush.1)
-      (λ front key slot back s clean. block-leaves-quietly state H order (ReadyBlocks order) tables (λ A B r. r) front key slot back s clean)
-      (λ d. d.header ≡ H) (λ old new key v v' result flush same. flush.0 ∙ same)
-      (λ key value es old new same load none. block-comes-quietly state H order (ReadyBlocks order) tables (λ A B r. r) key value es (state old.image) (state new.image)
-      (subst (λ (h : Header). BlockLoaded h.fields key (state old.image) (Ok value) (state new.image)) same load.1) none)
-      (λ key result es old new same load. block-asked state H order (ReadyBlocks order) tables key result es (state old.image) (state new.image)
-      (subst (λ (h : Header). BlockLoaded h.fields key (state old.image) result (state new.image)) same load.1))
-      cap may_flush key before es result after es' made
+-- and flushed, where what has to be written before is.
+abbrev pub blocks_behind : {S : Type 0} → (S → StorageState) → Header → CacheDependency → List (ℕ × Slot TableValue) → EntryKind Block (ImageFile S)
+blocks_behind state H order tables = record {
+  loading = loaded_blocks state H order (ReadyBlocks order) tables (λ A B r. r);
+  flushes = block_flushes state;
+  clean = λ t. t.modified ≡ false;
+  cleaned = λ old new key v v' flush. flushed-clean key v (state old.image) (state new.image) v' flush.1;
+  flushed = λ front key slot back old new result value flush. block-flushed-whole H order tables front key slot back (state old.image) (state new.image) result value flush.1;
+  leaves = λ front key slot back s clean. block-leaves-quietly state H order (ReadyBlocks order) tables (λ A B r. r) front key slot back s clean;
+  fits = λ old new key v v' result flush same. flush.0 ∙ same;
+}

@@ -1,5 +1,5 @@
 -- A cached table is found or loaded.
-use Rattle.std.proofs.Common.{◌≡◌, ℕ, ◌*◌, ◌^◌, ◌≤◌, refl, arith, ap, sym, subst, ◌∙◌, List, [], ◌∷◌, ◌++◌, inl, inr, Some, None, Result, Ok, Err, Bool, true, false}
+use Rattle.std.proofs.Common.{◌≡◌, ℕ, ◌*◌, ◌^◌, ◌≤◌, refl, arith, ap, sym, subst, ◌∙◌, List, [], ◌∷◌, ◌++◌, inl, inr, Some, None, Result, Ok, Err, false}
 use Rattle.std.proofs.lemmas.Bool.{cases_lt}
 use Rattle.std.specs.Prelude.{nat_eq, ⊤, IsTrue, ◌==◌, if◌then◌else◌}
 use Rattle.std.specs.Map.{lookup}
@@ -14,10 +14,9 @@ use Rattle.qcow2_types.specs.Words.{Layout, max_offset}
 use Rattle.std.proofs.lemmas.Nat.{le-div}
 use Rattle.std.proofs.Math.Nat.{pow-le-pow_right}
 use Rattle.std.proofs.lemmas.Bool.Decides.{nat_tests}
-use Rattle.qcow2_alloc.specs.declared.async_lru_cache.Admission.{Admission}
-use Rattle.qcow2_alloc.specs.declared.async_lru_cache.Admission.TheVariants.{Granted}
-use Rattle.qcow2_alloc.specs.Backends.{TableLoaded, TableFlushed, l2_words_in}
+use Rattle.qcow2_alloc.specs.Backends.{TableLoaded, l2_words_in}
 use Rattle.qcow2_alloc.proofs.Memory.Patches.{shaped-in}
+use Rattle.qcow2_alloc.proofs.Caching.Kinds.{LoadedKind, EntryKind}
 use Rattle.qcow2_alloc.proofs.Caching.Places.{away-of-all}
 use Rattle.qcow2_alloc.proofs.Caching.Entering.{table-leaves, table-leaves-safe, table-comes, table-comes-safe}
 use Rattle.qcow2_alloc.specs.Safety.{IsCachedTable}
@@ -28,10 +27,9 @@ use Rattle.qcow2_alloc.specs.declared.cache.CacheDependency.{CacheDependency}
 use Rattle.qcow2_alloc.specs.Memory.{Cached, memory}
 use Rattle.qcow2_alloc.specs.Safety.{Safe, IsLeft}
 use Rattle.qcow2_alloc.specs.Going.{Going, ReadyTables}
-use Rattle.qcow2_alloc.specs.Cache.{MadeRoom, Readied}
+use Rattle.qcow2_alloc.specs.CachesLending.{table_loads, table_flushes}
 use Rattle.qcow2_alloc.specs.Going.{IsMild, WasNotCutOff}
 use Rattle.qcow2_alloc.specs.declared.file.ImageFile.{ImageFile}
-use Rattle.qcow2_alloc.proofs.Caching.Readying.{readied, room-made, room-absent}
 use Rattle.qcow2_alloc.proofs.Flushing.FlushingTables.{table-flushed-whole, flushed-clean}
 use Rattle.qcow2_alloc.proofs.Flushing.Going.{left-same}
 
@@ -95,7 +93,7 @@ module _ {S : Type 0} (state : S → StorageState) (H : Header) (order : CacheDe
   abbrev put : List (ℕ × Slot TableValue) → Cached
   put tables = record { tables = tables; blocks = blocks }
 
-  table-leaves-quietly : (ready : (A B : List (ℕ × Slot TableValue)) → Ready (put A) → Ready (put B)) (front : List (ℕ × Slot TableValue)) (key : ℕ) (slot : Slot TableValue) (back : List (ℕ × Slot TableValue)) (s : StorageState)
+  pub table-leaves-quietly : (ready : (A B : List (ℕ × Slot TableValue)) → Ready (put A) → Ready (put B)) (front : List (ℕ × Slot TableValue)) (key : ℕ) (slot : Slot TableValue) (back : List (ℕ × Slot TableValue)) (s : StorageState)
       → slot.value.modified ≡ false → Going H order Ready ⊤ s (put (front ++ (key, slot) ∷ back)) s (put (front ++ back))
   table-leaves-quietly ready front key slot back s clean =
       going-quiet H order Ready ⊤ s s (put (front ++ (key, slot) ∷ back)) (put (front ++ back)) (kept-same s) (omega arith) (λ o. refl) (ready (front ++ (key, slot) ∷ back) (front ++ back))
@@ -113,57 +111,30 @@ module _ {S : Type 0} (state : S → StorageState) (H : Header) (order : CacheDe
   table-asked key result es old new loaded =
       going-quiet H order Ready (WasNotCutOff result) old new (put es) (put es) loaded.kept loaded.later (table-load-counted H.fields key old result new loaded) (λ r. r) (λ r safe. safe) (λ r. refl)
 
--- A table is found or loaded, where what has to be written before is; and without writing anything.
-module _ {S : Type 0} (state : S → StorageState) (H : Header) (order : CacheDependency) (blocks : List (ℕ × Slot Block)) where
-  abbrev with_blocks : List (ℕ × Slot TableValue) → Cached
-  with_blocks tables = record { tables = tables; blocks = blocks }
+  -- So are they loaded,
+  abbrev pub loaded_tables : ((A B : List (ℕ × Slot TableValue)) → Ready (put A) → Ready (put B)) → LoadedKind TableValue (ImageFile S)
+  loaded_tables ready = record {
+    state = λ d. state d.image;
+    header = H;
+    order = order;
+    Ready = Ready;
+    put = put;
+    Fits = λ d. d.header ≡ H;
+    loads = table_loads state;
+    comes = λ key value es old new same load none. table-comes-quietly ready key value es (state old.image) (state new.image)
+        (subst (λ (h : Header). TableLoaded h.fields key (state old.image) (Ok value) (state new.image)) same load.1) none;
+    asked = λ key result es old new same load. table-asked key result es (state old.image) (state new.image)
+        (subst (λ (h : Header). TableLoaded h.fields key (state old.image) result (state new.image)) same load.1);
+  }
 
-  abbrev loads : ImageFile S → ℕ → Result TableValue Fault → ImageFile S → Type 0
-  loads = λ old key result new. (new.header ≡ old.header) × TableLoaded old.header.fields key (state old.image) result (state new.image)
-
-  abbrev flushes : ImageFile S → ℕ → TableValue → Result Unit Fault → ImageFile S → TableValue → Type 0
-  flushes = λ old key t result new t'. (new.header ≡ old.header) × TableFlushed key t (state old.image) result (state new.image) t'
-
-  pub table-readied : (cap : ℕ) (may_flush : Bool) (key : ℕ) (before : ImageFile S) (es : List (ℕ × Slot TableValue)) (result : Result Admission Fault) (after : ImageFile S) (es' : List (ℕ × Slot TableValue)) → before.header ≡ H
-      → Readied nat_eq loads flushes cap may_flush key before es result after es'
-      → Going H order (ReadyTables order) (WasNotCutOff result) (state before.image) (with_blocks es) (state after.image) (with_blocks es')
-  table-readied cap may_flush key before es result after es' header r =
-      readied (λ d. state d.image) loads flushes H order (ReadyTables order) with_blocks (λ t. t.modified ≡ false)
-      (λ old new key v v' flush. flushed-clean key v (state old.image) (state new.image) v' flush.1)
-      (λ front key slot back old new result value flush. table-flushed-whole H order front key slot back blocks (state old.image) (state new.image) result value flush.1)
-      (λ front key slot back s clean. table-leaves-quietly state H order (ReadyTables order) blocks (λ A B r. r) front key slot back s clean)
-      (λ d. d.header ≡ H) (λ old new key v v' result flush same. flush.0 ∙ same)
-      (λ key value es old new same load none. table-comes-quietly state H order (ReadyTables order) blocks (λ A B r. r) key value es (state old.image) (state new.image)
-      (subst (λ (h : Header). TableLoaded h.fields key (state old.image) (Ok value) (state new.image)) same load.1) none)
-      (λ key result es old new same load. table-asked state H order (ReadyTables order) blocks key result es (state old.image) (state new.image)
-      (subst (λ (h : Header). TableLoaded h.fields key (state old.image) result (state new.image)) same load.1))
-      cap may_flush key before es result after es' header r
-
-  -- Room is made.
-  pub table-room-made : (cap : ℕ) (may_flush : Bool) (before : ImageFile S) (es : List (ℕ × Slot TableValue)) (result : Result Admission Fault) (after : ImageFile S) (es' : List (ℕ × Slot TableValue))
-      → MadeRoom nat_eq flushes cap may_flush before es result after es' → Going H order (ReadyTables order) (WasNotCutOff result) (state before.image) (with_blocks es) (state after.image) (with_blocks es')
-  table-room-made cap may_flush before es result after es' made =
-      room-made (λ d. state d.image) loads flushes H order (ReadyTables order) with_blocks (λ t. t.modified ≡ false)
-      (λ old new key v v' flush. flushed-clean key v (state old.image) (state new.image) v' flush.1)
-      (λ front key slot back old new result value flush. table-flushed-whole H order front key slot back blocks (state old.image) (state new.image) result value flush.1)
-      (λ front key slot back s clean. table-leaves-quietly state H order (ReadyTables order) blocks (λ A B r. r) front key slot back s clean)
-      (λ d. d.header ≡ H) (λ old new key v v' result flush same. flush.0 ∙ same)
-      (λ key value es old new same load none. table-comes-quietly state H order (ReadyTables order) blocks (λ A B r. r) key value es (state old.image) (state new.image)
-      (subst (λ (h : Header). TableLoaded h.fields key (state old.image) (Ok value) (state new.image)) same load.1) none)
-      (λ key result es old new same load. table-asked state H order (ReadyTables order) blocks key result es (state old.image) (state new.image)
-      (subst (λ (h : Header). TableLoaded h.fields key (state old.image) result (state new.image)) same load.1))
-      cap may_flush before es result after es' made
-
-  pub table-room-absent : (cap : ℕ) (may_flush : Bool) (key : ℕ) (before : ImageFile S) (es : List (ℕ × Slot TableValue)) (result : Result Admission Fault) (after : ImageFile S) (es' : List (ℕ × Slot TableValue))
-      → MadeRoom nat_eq flushes cap may_flush before es result after es' → result ≡ Ok Granted → lookup (nat_eq key) es ≡ None → lookup (nat_eq key) es' ≡ None
-  table-room-absent cap may_flush key before es result after es' made =
-      room-absent (λ d. state d.image) loads flushes H order (ReadyTables order) with_blocks (λ t. t.modified ≡ false)
-      (λ old new key v v' flush. flushed-clean key v (state old.image) (state new.image) v' flush.1)
-      (λ front key slot back old new result value flush. table-flushed-whole H order front key slot back blocks (state old.image) (state new.image) result value flush.1)
-      (λ front key slot back s clean. table-leaves-quietly state H order (ReadyTables order) blocks (λ A B r. r) front key slot back s clean)
-      (λ d. d.header ≡ H) (λ old new key v v' result flush same. flush.0 ∙ same)
-      (λ key value es old new same load none. table-comes-quietly state H order (ReadyTables order) blocks (λ A B r. r) key value es (state old.image) (state new.image)
-      (subst (λ (h : Header). TableLoaded h.fields key (state old.image) (Ok value) (state new.image)) same load.1) none)
-      (λ key result es old new same load. table-asked state H order (ReadyTables order) blocks key result es (state old.image) (state new.image)
-      (subst (λ (h : Header). TableLoaded h.fields key (state old.image) result (state new.image)) same load.1))
-      cap may_flush key before es result after es' made
+-- and flushed, where what has to be written before is.
+abbrev pub tables_behind : {S : Type 0} → (S → StorageState) → Header → CacheDependency → List (ℕ × Slot Block) → EntryKind TableValue (ImageFile S)
+tables_behind state H order blocks = record {
+  loading = loaded_tables state H order (ReadyTables order) blocks (λ A B r. r);
+  flushes = table_flushes state;
+  clean = λ t. t.modified ≡ false;
+  cleaned = λ old new key v v' flush. flushed-clean key v (state old.image) (state new.image) v' flush.1;
+  flushed = λ front key slot back old new result value flush. table-flushed-whole H order front key slot back blocks (state old.image) (state new.image) result value flush.1;
+  leaves = λ front key slot back s clean. table-leaves-quietly state H order (ReadyTables order) blocks (λ A B r. r) front key slot back s clean;
+  fits = λ old new key v v' result flush same. flush.0 ∙ same;
+}

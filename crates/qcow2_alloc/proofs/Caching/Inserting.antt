@@ -1,6 +1,6 @@
 -- What a put leaves of a cache, and why it is refused.
 use Rattle.std.proofs.Common.{◌≡◌, ℕ, ◌≤◌, refl, ap, sym, subst, ◌∙◌, List, [], ◌∷◌, ◌++◌, length, Option, Some, None, Result, Ok, Err, Bool, true, false, inl, inr}
-use Rattle.std.specs.Prelude.{map, nat_eq, ⊤, IsSome, OnOk, MatchResult}
+use Rattle.std.specs.Prelude.{◌⊎◌, map, nat_eq, ⊤, IsSome, OnOk, MatchResult}
 use Rattle.std.specs.List.{AllByRecursion}
 use Rattle.std.specs.Map.{lookup, set_value}
 use Rattle.std.proofs.lemmas.Bool.{cases_Bool, cases_lt}
@@ -294,3 +294,58 @@ module _ {V D : Type 0} (state : D → StorageState) (flushes : D → ℕ → V 
       let a = i.fresh none in
       let barred : (result ≡ Ok (Some value)) × (es' ≡ a.entries) = subst (λ (q : Result Admission Fault). PutAfter nat_eq flushes key value a.entries q result es') (a.made.full full refl).0 a.put in
       not (subst (λ (q : Result (Option V) (Fault × V)). IsBarred q) (sym barred.0) tt)
+
+-- It is put where nothing has to be written before.
+module _ {V D : Type 0} (flushes : D → ℕ → V → Result Unit Fault → D → V → Type 0) (cap key : ℕ) (value : V) (before : D) (es : List (ℕ × Slot V)) (after : D) (es' : List (ℕ × Slot V)) where
+  -- what a put without leave to flush does
+  pub record IsQuiet (result : Result (Option V) (Fault × V)) : Type 0 where
+    pub file : after ≡ before
+    pub absent : lookup (nat_eq key) es ≡ None
+    pub way : (es' ≡ es) ⊎ ((es' ≡ (key, record { value = value; pins = 0 }) ∷ es) × (result ≡ Ok None))
+
+  quiet-put : lookup (nat_eq key) es ≡ None → (room : Result Admission Fault) (entries : List (ℕ × Slot V)) → MadeRoom nat_eq flushes cap false before es room after entries → (result : Result (Option V) (Fault × V)) → (IsBarred result → ⊥)
+      → PutAfter nat_eq flushes key value entries room result es' → IsQuiet result
+  quiet-put none room entries made result not later = elim (cases_lt (length es) cap) [
+    | inl roomy ↦
+        let r = made.roomy roomy in
+        elim (subst (λ (q : Result Admission Fault). PutAfter nat_eq flushes key value entries q result es') r.0 later) [
+          | inl now ↦ record { file = r.1; absent = none; way = inr (now.1 ∙ ap (λ (l : List (ℕ × Slot V)). (key, record { value = value; pins = 0 }) ∷ l) r.2, now.0) }
+          | inr short ↦ record { file = r.1; absent = none; way = inl (short.1 ∙ r.2) }
+        ]
+    | inr full ↦
+        let r = made.full full refl in
+        let barred = subst (λ (q : Result Admission Fault). PutAfter nat_eq flushes key value entries q result es') r.0 later in
+        absurd (not (subst (λ (q : Result (Option V) (Fault × V)). IsBarred q) (sym barred.0) tt))
+  ]
+
+  pub quiet : (result : Result (Option V) (Fault × V)) → (IsBarred result → ⊥) → Inserted nat_eq flushes cap false key value before es result after es' → IsQuiet result
+  quiet result not i = elim (is-there (lookup (nat_eq key) es)) [
+    | inr none ↦ let added = i.fresh none in quiet-put none added.room added.entries added.made result not added.put
+    | inl there ↦ absurd (not (subst (λ (q : Result (Option V) (Fault × V)). IsBarred q) (sym (i.barred there refl).0) tt))
+  ]
+
+  -- Or it comes back, and changes nothing.
+  pub record IsBack (back : V) : Type 0 where
+    pub same : back ≡ value
+    pub file : after ≡ before
+    pub entries : es' ≡ es
+    pub full : lookup (nat_eq key) es ≡ None → cap ≤ length es
+
+  pub put-back : (back : V) → Inserted nat_eq flushes cap false key value before es (Ok (Some back)) after es' → IsBack back
+  put-back back i = elim (is-there (lookup (nat_eq key) es)) [
+    | inl there ↦
+        let b = i.barred there refl in
+        record { same = (let e = b.0 in cc); file = b.1; entries = b.2; full = λ none. absurd (let no = subst (λ (o : Option (Slot V)). IsSome o) none there in cc) }
+    | inr none ↦ let added = i.fresh none in elim (cases_lt (length es) cap) [
+      | inl roomy ↦
+          let r = added.made.roomy roomy in
+          absurd (elim (subst (λ (q : Result Admission Fault). PutAfter nat_eq flushes key value added.entries q (Ok (Some back)) es') r.0 added.put) [
+            | inl now ↦ let no = now.0 in cc
+            | inr short ↦ let no = short.0 in cc
+          ])
+      | inr full ↦
+          let r = added.made.full full refl in
+          let barred = subst (λ (q : Result Admission Fault). PutAfter nat_eq flushes key value added.entries q (Ok (Some back)) es') r.0 added.put in
+          record { same = (let e = barred.0 in cc); file = r.1; entries = barred.1 ∙ r.2; full = λ none. full }
+    ]
+  ]

@@ -1,49 +1,45 @@
 -- A refcount block is put into its cache.
-use Rattle.std.proofs.Common.{◌≡◌, ℕ, ◌<◌, ◌≤◌, refl, arith, ap, sym, subst, ◌∙◌, List, [], ◌∷◌, ◌++◌, length, Option, None, Some, Result, Ok, Err, Bool, true, false, inl, inr}
-use Rattle.std.specs.Prelude.{◌⊎◌, nat_eq, map, ⊤, IsSome}
+use Rattle.std.proofs.Common.{◌≡◌, ℕ, ◌<◌, ◌≤◌, refl, arith, ap, sym, subst, ◌∙◌, List, [], ◌∷◌, ◌++◌, length, Option, None, Some, Result, Ok, Err, Bool, true, false, inl}
+use Rattle.std.specs.Prelude.{nat_eq, map, ⊤}
 use Rattle.std.specs.List.{AllByRecursion}
 use Rattle.std.specs.Map.{lookup}
-use Rattle.std.proofs.lemmas.Bool.{cases_lt}
 use Rattle.imago_storage.specs.State.{StorageState}
 use Rattle.imago_storage.specs.Calls.{Kept, IsFaultless}
 use Rattle.imago_storage.specs.declared.fault.Fault.{Fault}
-use Rattle.imago_storage.specs.declared.fault.Fault.TheVariants.{Memory, Storage, DamagedTable}
 use Rattle.qcow2_types.specs.Bytes.{bytes_of}
 use Rattle.qcow2_types.specs.Header.{Header}
 use Rattle.qcow2_metadata.specs.Places.{IsInReach}
 use Rattle.qcow2_metadata.specs.Blocks.{Block}
 use Rattle.qcow2_metadata.specs.Tables.{TableValue}
-use Rattle.qcow2_alloc.specs.declared.async_lru_cache.Admission.{Admission}
-use Rattle.qcow2_alloc.specs.declared.async_lru_cache.Admission.TheVariants.{Granted, Denied}
 use Rattle.qcow2_alloc.specs.declared.async_lru_cache.Slot.{Slot}
 use Rattle.qcow2_alloc.specs.declared.cache.CacheDependency.{CacheDependency}
 use Rattle.qcow2_alloc.specs.declared.cache.CacheDependency.TheVariants.{RbDependsOnL2}
 use Rattle.qcow2_alloc.specs.declared.cache.MetadataCaches.{MetadataCaches}
 use Rattle.qcow2_alloc.specs.declared.file.ImageFile.{ImageFile}
 use Rattle.qcow2_alloc.specs.Backends.{BlockFlushed}
-use Rattle.qcow2_alloc.specs.Cache.{MadeRoom, PutAfter, Overwritten, Inserted, hit, with_entries}
+use Rattle.qcow2_alloc.specs.Cache.{Inserted, with_entries}
 use Rattle.qcow2_alloc.specs.Caches.{cached_in, order_of}
 use Rattle.qcow2_alloc.specs.CachesLending.{with_blocks, block_flushes}
 use Rattle.qcow2_alloc.specs.Finding.{IsPinnedFull, CountsSearch, LetsBlockIn}
 use Rattle.qcow2_alloc.specs.Putting.{refusal_of, IsNewBlock, BlockInserted}
-use Rattle.qcow2_alloc.specs.Going.{Going, Always, ReadyBlocks, WasNotCutOff, IsMild, AreTablesInReach, CountsWrites, WhyNotWritten, WritesTables}
+use Rattle.qcow2_alloc.specs.Going.{Going, Always, ReadyBlocks, WasNotCutOff, IsMild, AreTablesInReach, CountsWrites, WritesTables}
 use Rattle.qcow2_alloc.specs.Memory.{Cached, memory, written, written_block}
 use Rattle.qcow2_alloc.specs.Safety.{Safe, IsLeft, IsCachedBlock}
 use Rattle.qcow2_alloc.proofs.Flushing.Counting.{block-counted}
 use Rattle.qcow2_alloc.proofs.Caching.Entering.{away-of, block-leaves, block-leaves-safe, block-comes, block-comes-safe}
-use Rattle.qcow2_alloc.proofs.Caching.FindingBlocks.{block-room-made, block-room-absent}
+use Rattle.qcow2_alloc.proofs.Caching.FindingBlocks.{blocks_behind}
 use Rattle.qcow2_alloc.proofs.Caching.FindingTables.{going-quiet, kept-same}
-use Rattle.qcow2_alloc.proofs.Flushing.FlushingBlocks.{block-flushed-whole, flushed-clean}
 use Rattle.qcow2_alloc.proofs.Flushing.FlushingTables.{done_so}
-use Rattle.qcow2_alloc.proofs.Flushing.Going.{going-none, going-weaker, going-ready, going-under, going-both-from, going-safely}
-use Rattle.qcow2_alloc.proofs.Caching.Inserting.{put_of, IsBarred, hit-written, inserted-put, inserted-counted, inserted-related, never-barred, put-then, way-flushed, way-barred, inserted-lets-in, inserted-barred}
+use Rattle.qcow2_alloc.proofs.Flushing.Going.{going-none, going-under, going-safely}
+use Rattle.qcow2_alloc.proofs.Caching.Inserting.{put_of, IsBarred, inserted-put, inserted-counted, inserted-related, never-barred, put-then, way-flushed, way-barred, inserted-lets-in, inserted-barred, quiet, put-back}
+use Rattle.qcow2_alloc.proofs.Caching.Kinds.{NewEntry}
+use Rattle.qcow2_alloc.proofs.Caching.PuttingEntries.{put-going, put-quietly}
 use Rattle.qcow2_alloc.proofs.Flushing.Kept.{block-kept}
 use Rattle.qcow2_alloc.proofs.Caching.LettingIn.{behind-tables, behind-refused-tables}
 use Rattle.qcow2_alloc.proofs.Caching.Pins.{pins-none}
-use Rattle.qcow2_alloc.proofs.Caching.Places.{place-of-key, away-of-all}
-use Rattle.qcow2_alloc.proofs.Caching.Readying.{is-there}
+use Rattle.qcow2_alloc.proofs.Caching.Places.{away-of-all}
 use Rattle.qcow2_alloc.proofs.Memory.SafeLaws.{safe-reach}
-use Rattle.qcow2_alloc.proofs.Caching.Searching.{found-wider, found-written}
+use Rattle.qcow2_alloc.proofs.Caching.Searching.{counts-wider, found-written, never-refused}
 use Rattle.qcow2_alloc.proofs.Caching.Staying.{block-stays}
 
 -- a flush that was refused
@@ -55,110 +51,25 @@ module _ (H : Header) (order : CacheDependency) (tables : List (ℕ × Slot Tabl
   abbrev put : List (ℕ × Slot Block) → Cached
   put blocks = record { blocks = blocks; tables = tables }
 
-  abbrev Fits : StorageState → Cached → Type 0
-  Fits s cached = (value.modified ≡ false) × IsCachedBlock (bytes_of s.bytes) H.fields key value
+  abbrev Fits : StorageState → Type 0
+  Fits s = (value.modified ≡ false) × IsCachedBlock (bytes_of s.bytes) H.fields key value
 
-  block-put : (s : StorageState) (es : List (ℕ × Slot Block)) → lookup (nat_eq key) es ≡ None → Going H order (Fits s) ⊤ s (put es) s (put ((key, record { value = value; pins = 0 }) ∷ es))
+  pub block-put : (s : StorageState) (es : List (ℕ × Slot Block)) → lookup (nat_eq key) es ≡ None → Going H order (λ _. Fits s) ⊤ s (put es) s (put ((key, record { value = value; pins = 0 }) ∷ es))
   block-put s es none =
-      going-quiet H order (Fits s) ⊤ s s (put es) (put ((key, record { value = value; pins = 0 }) ∷ es)) (kept-same s) (omega arith) (λ o. refl) (λ r. r)
+      going-quiet H order (λ _. Fits s) ⊤ s s (put es) (put ((key, record { value = value; pins = 0 }) ∷ es)) (kept-same s) (omega arith) (λ o. refl) (λ r. r)
       (λ fits safe. block-comes-safe (bytes_of s.bytes) H order tables [] key (record { value = value; pins = 0 }) [] es fits.0 (away-of-all key es none) fits.1 safe)
       (λ fits. block-comes (bytes_of s.bytes) H order tables [] key (record { value = value; pins = 0 }) [] es fits.0)
 
-  block-replaced : (s : StorageState) (front : List (ℕ × Slot Block)) (slot : Slot Block) (back : List (ℕ × Slot Block)) → slot.value.modified ≡ false
-      → Going H order (Fits s) ⊤ s (put (front ++ (key, slot) ∷ back)) s (put ((key, record slot { value = value }) ∷ front ++ back))
+  pub block-replaced : (s : StorageState) (front : List (ℕ × Slot Block)) (slot : Slot Block) (back : List (ℕ × Slot Block)) → slot.value.modified ≡ false
+      → Going H order (λ _. Fits s) ⊤ s (put (front ++ (key, slot) ∷ back)) s (put ((key, record slot { value = value }) ∷ front ++ back))
   block-replaced s front slot back off =
-      going-quiet H order (Fits s) ⊤ s s (put (front ++ (key, slot) ∷ back)) (put ((key, record slot { value = value }) ∷ front ++ back)) (kept-same s) (omega arith) (λ o. refl) (λ r. r)
+      going-quiet H order (λ _. Fits s) ⊤ s s (put (front ++ (key, slot) ∷ back)) (put ((key, record slot { value = value }) ∷ front ++ back)) (kept-same s) (omega arith) (λ o. refl) (λ r. r)
       (λ fits safe. block-comes-safe (bytes_of s.bytes) H order tables [] key (record slot { value = value }) [] (front ++ back) fits.0 (away-of front key slot back safe.blocks_apart) fits.1 (block-leaves-safe (bytes_of s.bytes) H order tables front key slot back off safe))
       (λ fits. block-comes (bytes_of s.bytes) H order tables [] key (record slot { value = value }) [] (front ++ back) fits.0 ∙ block-leaves (bytes_of s.bytes) H order tables front key slot back off)
 
-  module _ (a : StorageState) (A : Cached) (P : Type 0) (from : Safe (bytes_of a.bytes) H A order → P → (x : List ℕ) → IsLeft (bytes_of a.bytes) (memory (bytes_of a.bytes) H.fields A) H (bytes_of x) → (value.modified ≡ false) × IsCachedBlock (bytes_of x) H.fields key value) where
-    -- It is so behind calls that keep the image.
-    last : (b : StorageState) (es es' : List (ℕ × Slot Block)) (ok ok' : Type 0) → (ok' → ok) → Going H order Always ok a A b (put es) → Going H order (Fits b) ⊤ b (put es) b (put es') → Going H order (λ _. P) ok' a A b (put es')
-    last b es es' ok ok' was first second =
-        going-weaker H order (λ _. P) (ok × ⊤) ok' a b A (put es') (λ o. (was o, tt))
-        (going-both-from H order (λ _. P) (Fits b) ok ⊤ a b b A (put es) (put es') (λ keeps safe p m. from safe p b.bytes m.left) (λ p. p) (going-under H order P ok a b A (put es) first) second)
-
-    halted : (b : StorageState) (es es' : List (ℕ × Slot Block)) (ok ok' : Type 0) → (ok' → ok) → es' ≡ es → Going H order Always ok a A b (put es) → Going H order (λ _. P) ok' a A b (put es')
-    halted b es es' ok ok' was same first =
-        subst (λ (l : List (ℕ × Slot Block)). Going H order (λ _. P) ok' a A b (put l)) (sym same) (going-under H order P ok' a b A (put es) (going-weaker H order Always ok ok' a b A (put es) was first))
-
-    module _ {S : Type 0} (state : S → StorageState) (cap : ℕ) (before : ImageFile S) (es : List (ℕ × Slot Block)) (after : ImageFile S) (es' : List (ℕ × Slot Block))
-        (ok : Type 0) (done : ok) (first : Going H order Always ok a A (state before.image) (put es)) (ready : ReadyBlocks order (put es)) where
-      then-so : (ok' : Type 0) (es2 : List (ℕ × Slot Block)) → Going H order (ReadyBlocks order) ok' (state before.image) (put es) (state after.image) (put es2) → Going H order Always ok' a A (state after.image) (put es2)
-      then-so ok' es2 second = going-ready H order (ReadyBlocks order) ok ok' a (state before.image) (state after.image) A (put es) (put es2) done ready first second
-
-      by-put : lookup (nat_eq key) es ≡ None → (room : Result Admission Fault) (entries : List (ℕ × Slot Block)) → MadeRoom nat_eq (block_flushes state) cap true before es room after entries → (result : Result (Option Block) (Fault × Block))
-          → PutAfter nat_eq (block_flushes state) key value entries room result es' → Going H order (λ _. P) (WasNotCutOff (refusal_of (put_of result))) a A (state after.image) (put es')
-      by-put none room entries made result later =
-          let second = then-so (WasNotCutOff room) entries (block-room-made state H order tables cap true before es room after entries made) in
-          by-room room (block-room-absent state H order tables cap true key before es room after entries made) second later
-        where
-          by-room : (room : Result Admission Fault) → (room ≡ Ok Granted → lookup (nat_eq key) es ≡ None → lookup (nat_eq key) entries ≡ None) → Going H order Always (WasNotCutOff room) a A (state after.image) (put entries)
-              → PutAfter nat_eq (block_flushes state) key value entries room result es' → Going H order (λ _. P) (WasNotCutOff (refusal_of (put_of result))) a A (state after.image) (put es')
-          by-room (Ok Granted) absent second (inl now) =
-              subst (λ (l : List (ℕ × Slot Block)). Going H order (λ _. P) (WasNotCutOff (refusal_of (put_of result))) a A (state after.image) (put l)) (sym now.1)
-              (last (state after.image) entries _ ⊤ (WasNotCutOff (refusal_of (put_of result))) (λ w. tt) second (block-put (state after.image) entries (absent refl none)))
-          by-room (Ok Granted) absent second (inr short) = halted (state after.image) entries es' ⊤ (WasNotCutOff (refusal_of (put_of result))) (λ w. tt) short.1 second
-          by-room (Ok Denied) absent second later = halted (state after.image) entries es' ⊤ (WasNotCutOff (refusal_of (put_of result))) (λ w. tt) later.1 second
-          by-room (Err fault) absent second later =
-              halted (state after.image) entries es' (IsMild fault) (WasNotCutOff (refusal_of (put_of result))) (λ w. subst (λ (q : Result (Option Block) (Fault × Block)). WasNotCutOff (refusal_of (put_of q))) later.0 w) later.1 second
-
-      by-over : (result : Result (Option Block) (Fault × Block)) → Overwritten nat_eq (block_flushes state) key value before es result after es' → Going H order (λ _. P) (WasNotCutOff (refusal_of (put_of result))) a A (state after.image) (put es')
-      by-over (Ok back) (none, mid, at, list) =
-          let p = place-of-key key es at.slot at.there in
-          let w = record at.slot { value = at.value } in
-          let flushed = block-flushed-whole H order tables p.front key at.slot p.back (state before.image) (state after.image) (Ok tt) at.value at.flush.1 in
-          let second = then-so ⊤ (p.front ++ (key, w) ∷ p.back)
-          (subst (λ (l : List (ℕ × Slot Block)). Going H order (ReadyBlocks order) ⊤ (state before.image) (put l) (state after.image) (put (p.front ++ (key, w) ∷ p.back))) (sym p.is) flushed) in
-          let now : es' ≡ (key, record w { value = value }) ∷ p.front ++ p.back =
-          list ∙ ap (λ (l : List (ℕ × Slot Block)). hit (nat_eq key) l value) at.entries ∙ hit-written key es at.slot w p value at.there in
-          subst (λ (l : List (ℕ × Slot Block)). Going H order (λ _. P) ⊤ a A (state after.image) (put l)) (sym now)
-          (last (state after.image) (p.front ++ (key, w) ∷ p.back) _ ⊤ ⊤ (λ w. tt) second
-          (block-replaced (state after.image) p.front w p.back (flushed-clean key at.slot.value (state before.image) (state after.image) at.value at.flush.1)))
-      by-over (Err refused) (back, at) =
-          let p = place-of-key key es at.slot at.there in
-          let w = record at.slot { value = at.value } in
-          let flushed = block-flushed-whole H order tables p.front key at.slot p.back (state before.image) (state after.image) (Err refused.0) at.value at.flush.1 in
-          let second = then-so (IsMild refused.0) (p.front ++ (key, w) ∷ p.back)
-          (subst (λ (l : List (ℕ × Slot Block)). Going H order (ReadyBlocks order) (IsMild refused.0) (state before.image) (put l) (state after.image) (put (p.front ++ (key, w) ∷ p.back))) (sym p.is) flushed) in
-          halted (state after.image) (p.front ++ (key, w) ∷ p.back) es' (IsMild refused.0) (IsMild refused.0) (λ w. w) (at.entries ∙ p.set w) second
-
-      -- It is put, where what has to be written before is,
-      pub block-inserted-going : (result : Result (Option Block) (Fault × Block)) → Inserted nat_eq (block_flushes state) cap true key value before es result after es'
-          → Going H order (λ _. P) (WasNotCutOff (refusal_of (put_of result))) a A (state after.image) (put es')
-      block-inserted-going result i = elim (is-there (lookup (nat_eq key) es)) [
-        | inr none ↦ let added = i.fresh none in by-put none added.room added.entries added.made result added.put
-        | inl there ↦ by-over result (i.over there refl)
-      ]
-
--- or where nothing has to.
-module _ {S : Type 0} (state : S → StorageState) (H : Header) (order : CacheDependency) (tables : List (ℕ × Slot TableValue)) (key : ℕ) (value : Block) (cap : ℕ) (before : ImageFile S) (es : List (ℕ × Slot Block)) (after : ImageFile S) (es' : List (ℕ × Slot Block)) where
-  -- what a put without leave to flush does
-  pub record IsQuiet (result : Result (Option Block) (Fault × Block)) : Type 0 where
-    pub file : after ≡ before
-    pub absent : lookup (nat_eq key) es ≡ None
-    pub way : (es' ≡ es) ⊎ ((es' ≡ (key, record { value = value; pins = 0 }) ∷ es) × (result ≡ Ok None))
-
-  quiet-put : lookup (nat_eq key) es ≡ None → (room : Result Admission Fault) (entries : List (ℕ × Slot Block)) → MadeRoom nat_eq (block_flushes state) cap false before es room after entries → (result : Result (Option Block) (Fault × Block)) → (IsBarred result → ⊥)
-      → PutAfter nat_eq (block_flushes state) key value entries room result es' → IsQuiet result
-  quiet-put none room entries made result not later = elim (cases_lt (length es) cap) [
-    | inl roomy ↦
-        let r = made.roomy roomy in
-        elim (subst (λ (q : Result Admission Fault). PutAfter nat_eq (block_flushes state) key value entries q result es') r.0 later) [
-          | inl now ↦ record { file = r.1; absent = none; way = inr (now.1 ∙ ap (λ (l : List (ℕ × Slot Block)). (key, record { value = value; pins = 0 }) ∷ l) r.2, now.0) }
-          | inr short ↦ record { file = r.1; absent = none; way = inl (short.1 ∙ r.2) }
-        ]
-    | inr full ↦
-        let r = made.full full refl in
-        let barred = subst (λ (q : Result Admission Fault). PutAfter nat_eq (block_flushes state) key value entries q result es') r.0 later in
-        absurd (not (subst (λ (q : Result (Option Block) (Fault × Block)). IsBarred q) (sym barred.0) tt))
-  ]
-
-  pub quiet : (result : Result (Option Block) (Fault × Block)) → (IsBarred result → ⊥) → Inserted nat_eq (block_flushes state) cap false key value before es result after es' → IsQuiet result
-  quiet result not i = elim (is-there (lookup (nat_eq key) es)) [
-    | inr none ↦ let added = i.fresh none in quiet-put none added.room added.entries added.made result not added.put
-    | inl there ↦ absurd (not (subst (λ (q : Result (Option Block) (Fault × Block)). IsBarred q) (sym (i.barred there refl).0) tt))
-  ]
+  -- what a new block is
+  abbrev pub new_block : {S : Type 0} → (S → StorageState) → NewEntry Block (ImageFile S)
+  new_block state = record { kind = blocks_behind state H order tables; key = key; value = value; Fits = Fits; comes = block-put; replaces = block-replaced }
 
 module _ {S : Type 0} (state : S → StorageState) (cluster : ℕ) (block : Block) where
   abbrev Put : Bool → ℕ → ImageFile S → List (ℕ × Slot Block) → Result (Option Block) (Fault × Block) → ImageFile S → List (ℕ × Slot Block) → Type 0
@@ -171,14 +82,16 @@ module _ {S : Type 0} (state : S → StorageState) (cluster : ℕ) (block : Bloc
       → Put may_flush cap before es result after es'
       → CountsSearch (other × AllByRecursion (λ (e : ℕ × Slot Block). e.1.value.modified ≡ true → IsInReach e.1.value.cluster_bits e.0) es) (IsPinnedFull cap es) faults (state after.image).faults (refusal_of (put_of result))
   block-put-counts may_flush cap before es result after es' faults is other i =
-      by-result result (inserted-counted (λ (d : ImageFile S). state d.image) (block_flushes state) (λ key t. t.modified ≡ true → IsInReach t.cluster_bits key)
+      counts-wider _ _ _ _ faults _ (refusal_of (put_of result)) (λ f. f.1) is
+      (inserted-counted (λ (d : ImageFile S). state d.image) (block_flushes state) (λ key t. t.modified ≡ true → IsInReach t.cluster_bits key)
       (λ old key value answer new value' flush. block-counted key value (state old.image) (state new.image) answer value' flush.1) cap may_flush cluster block before es after es' result i)
-    where
-      by-result : (result : Result (Option Block) (Fault × Block))
-          → CountsSearch (AllByRecursion (λ (e : ℕ × Slot Block). e.1.value.modified ≡ true → IsInReach e.1.value.cluster_bits e.0) es) (IsPinnedFull cap es) (state before.image).faults (state after.image).faults (refusal_of (put_of result))
-          → CountsSearch (other × AllByRecursion (λ (e : ℕ × Slot Block). e.1.value.modified ≡ true → IsInReach e.1.value.cluster_bits e.0) es) (IsPinnedFull cap es) faults (state after.image).faults (refusal_of (put_of result))
-      by-result (Ok back) same = same ∙ is
-      by-result (Err refused) why = found-wider _ _ _ _ _ _ _ _ (λ f. f.1) (λ f. f) (omega (arith, is)) (omega arith) refused.0 why
+
+  -- What is new fits behind calls that keep the image.
+  fresh-stays : (old : MetadataCaches S) (before : ImageFile S) → Safe (bytes_of (state before.image).bytes) before.header (cached_in old) (order_of old)
+      → IsNewBlock (bytes_of (state before.image).bytes) before.header.fields cluster block (cached_in old).blocks → (b : StorageState)
+      → IsLeft (bytes_of (state before.image).bytes) (memory (bytes_of (state before.image).bytes) before.header.fields (cached_in old)) before.header (bytes_of b.bytes)
+      → (block.modified ≡ false) × IsCachedBlock (bytes_of b.bytes) before.header.fields cluster block
+  fresh-stays old before safe fresh b left = (fresh.clean, block-stays (bytes_of (state before.image).bytes) before.header (order_of old) (cached_in old) safe (bytes_of b.bytes) left cluster block fresh.free fresh.clean fresh.fits)
 
   -- What is put without leave to flush
   module _ (old new : MetadataCaches S) (before after : ImageFile S) (same : new ≡ with_blocks old new.rb.slots.entries) where
@@ -187,18 +100,12 @@ module _ {S : Type 0} (state : S → StorageState) (cluster : ℕ) (block : Bloc
       where
         now : (es' : List (ℕ × Slot Block)) → Put false old.rb.slots.cap before old.rb.slots.entries result after es' → BlockInserted state block cluster old before (put_of result) (with_blocks old es') after
         now es' i =
-            let q = quiet state before.header (order_of old) old.l2.slots.entries cluster block old.rb.slots.cap before old.rb.slots.entries after es' result not i in
+            let q = quiet (block_flushes state) old.rb.slots.cap cluster block before old.rb.slots.entries after es' result not i in
             let kept : Kept (state before.image) (state after.image) = subst (λ (d : ImageFile S). Kept (state before.image) (state d.image)) (sym q.file) (kept-same (state before.image)) in
             record {
               going = subst (λ (d : ImageFile S). Going before.header (order_of old) (λ _. IsNewBlock (bytes_of (state before.image).bytes) before.header.fields cluster block old.rb.slots.entries) (WasNotCutOff (refusal_of (put_of result))) (state before.image) (cached_in old) (state d.image) (record { blocks = es'; tables = old.l2.slots.entries })) (sym q.file)
-                  (elim q.way [
-                    | inl stays ↦ subst (λ (l : List (ℕ × Slot Block)). Going before.header (order_of old) (λ _. IsNewBlock (bytes_of (state before.image).bytes) before.header.fields cluster block old.rb.slots.entries) (WasNotCutOff (refusal_of (put_of result))) (state before.image) (cached_in old) (state before.image) (record { blocks = l; tables = old.l2.slots.entries })) (sym stays)
-                        (going-none before.header (order_of old) _ (WasNotCutOff (refusal_of (put_of result))) (state before.image) (cached_in old))
-                    | inr comes ↦ subst (λ (l : List (ℕ × Slot Block)). Going before.header (order_of old) (λ _. IsNewBlock (bytes_of (state before.image).bytes) before.header.fields cluster block old.rb.slots.entries) (WasNotCutOff (refusal_of (put_of result))) (state before.image) (cached_in old) (state before.image) (record { blocks = l; tables = old.l2.slots.entries })) (sym comes.0)
-                        (going-quiet before.header (order_of old) _ (WasNotCutOff (refusal_of (put_of result))) (state before.image) (state before.image) (cached_in old) _ (kept-same (state before.image)) (omega arith) (λ o. refl) (λ r. r)
-                        (λ fresh safe. block-comes-safe (bytes_of (state before.image).bytes) before.header (order_of old) old.l2.slots.entries [] cluster (record { value = block; pins = 0 }) [] old.rb.slots.entries fresh.clean (away-of-all cluster old.rb.slots.entries q.absent) fresh.fits safe)
-                        (λ fresh. block-comes (bytes_of (state before.image).bytes) before.header (order_of old) old.l2.slots.entries [] cluster (record { value = block; pins = 0 }) [] old.rb.slots.entries fresh.clean))
-                  ]);
+                  (put-quietly (new_block before.header (order_of old) old.l2.slots.entries cluster block state) (state before.image) (cached_in old) _ (fresh-stays old before)
+                  (WasNotCutOff (refusal_of (put_of result))) (state before.image) old.rb.slots.entries es' _ (going-none before.header (order_of old) Always (WasNotCutOff (refusal_of (put_of result))) (state before.image) (cached_in old)) q.absent q.way);
               put = inserted-put (block_flushes state) written_block block-kept-by old.rb.slots.cap false cluster block before old.rb.slots.entries after es' result not i;
               flushed = λ k slot way there. absurd (way-barred (block_flushes state) old.rb.slots.cap cluster block before old.rb.slots.entries after es' result not i k slot way there);
               roomy = λ none room. (kept, refl);
@@ -212,42 +119,23 @@ module _ {S : Type 0} (state : S → StorageState) (cluster : ℕ) (block : Bloc
             }
 
     -- or comes back changes nothing.
-    pub record IsBack : Type 0 where
+    pub record IsUnchanged : Type 0 where
       pub caches : new ≡ old
       pub file : after ≡ before
       pub full : lookup (nat_eq cluster) new.rb.slots.entries ≡ None → new.rb.slots.cap ≤ length new.rb.slots.entries
 
-    pub block-back : (value : Block) → Put false old.rb.slots.cap before old.rb.slots.entries (Ok (Some value)) after new.rb.slots.entries → IsBack × (value ≡ block)
-    block-back value i = elim (is-there (lookup (nat_eq cluster) old.rb.slots.entries)) [
-      | inl there ↦
-          let b = i.barred there refl in
-          let back : value ≡ block = (let e = b.0 in cc) in (
-            record {
-              caches = same ∙ ap (λ (l : List (ℕ × Slot Block)). with_blocks old l) b.2;
-              file = b.1;
-              full = λ none. absurd (let no = subst (λ (o : Option (Slot Block)). IsSome o) (ap (λ (l : List (ℕ × Slot Block)). lookup (nat_eq cluster) l) (sym b.2) ∙ none) there in cc);
-            },
-            back,
-          )
-      | inr none ↦ let added = i.fresh none in elim (cases_lt (length old.rb.slots.entries) old.rb.slots.cap) [
-        | inl roomy ↦
-            let r = added.made.roomy roomy in
-            absurd (elim (subst (λ (q : Result Admission Fault). PutAfter nat_eq (block_flushes state) cluster block added.entries q (Ok (Some value)) new.rb.slots.entries) r.0 added.put) [
-              | inl now ↦ let no = now.0 in cc
-              | inr short ↦ let no = short.0 in cc
-            ])
-        | inr full ↦
-            let r = added.made.full full refl in
-            let barred = subst (λ (q : Result Admission Fault). PutAfter nat_eq (block_flushes state) cluster block added.entries q (Ok (Some value)) new.rb.slots.entries) r.0 added.put in
-            let list : new.rb.slots.entries ≡ old.rb.slots.entries = barred.1 ∙ r.2 in
-            let cap : new.rb.slots.cap ≡ old.rb.slots.cap = ap (λ (m : MetadataCaches S). m.rb.slots.cap) same in
-            let long = ap (λ (l : List (ℕ × Slot Block)). length l) list in
-            let back : value ≡ block = (let e = barred.0 in cc) in (
-              record { caches = same ∙ ap (λ (l : List (ℕ × Slot Block)). with_blocks old l) list; file = r.1; full = λ none. omega (arith, cap, long, full) },
-              back,
-            )
-      ]
-    ]
+    pub block-back : (value : Block) → Put false old.rb.slots.cap before old.rb.slots.entries (Ok (Some value)) after new.rb.slots.entries → IsUnchanged × (value ≡ block)
+    block-back value i =
+        let back = put-back (block_flushes state) old.rb.slots.cap cluster block before old.rb.slots.entries after new.rb.slots.entries value i in
+        let cap : new.rb.slots.cap ≡ old.rb.slots.cap = ap (λ (m : MetadataCaches S). m.rb.slots.cap) same in
+        let long = ap (λ (l : List (ℕ × Slot Block)). length l) back.entries in (
+          record {
+            caches = same ∙ ap (λ (l : List (ℕ × Slot Block)). with_blocks old l) back.entries;
+            file = back.file;
+            full = λ none. let full = back.full (ap (λ (l : List (ℕ × Slot Block)). lookup (nat_eq cluster) l) (sym back.entries) ∙ none) in omega (arith, cap, long, full);
+          },
+          back.same,
+        )
 
   -- What is put with it, once tables are written.
   module _ (old mid : MetadataCaches S) (before between : ImageFile S) (full : lookup (nat_eq cluster) old.rb.slots.entries ≡ None → old.rb.slots.cap ≤ length old.rb.slots.entries) (same : mid ≡ record old { l2 = mid.l2 })
@@ -269,9 +157,9 @@ module _ {S : Type 0} (state : S → StorageState) (cluster : ℕ) (block : Bloc
     block-put-full behind going ready faults result after es' not header' i =
         let now : cached_in mid ≡ record { blocks = old.rb.slots.entries; tables = mid.l2.slots.entries } = ap (λ (m : MetadataCaches S). cached_in m) same in
         record {
-          going = block-inserted-going before.header (order_of old) mid.l2.slots.entries cluster block (state before.image) (cached_in old) Fresh
-              (λ safe fresh x left. (fresh.clean, block-stays (bytes_of (state before.image).bytes) before.header (order_of old) (cached_in old) safe (bytes_of x) left cluster block fresh.free fresh.clean fresh.fits))
-              state old.rb.slots.cap between old.rb.slots.entries after es' (done_so ≡ Ok tt) refl
+          going = put-going (new_block before.header (order_of old) mid.l2.slots.entries cluster block state) (state before.image) (cached_in old) Fresh
+              (fresh-stays old before)
+              old.rb.slots.cap between old.rb.slots.entries after es' (done_so ≡ Ok tt) refl
               (subst (λ (c : Cached). Going before.header (order_of old) Always (done_so ≡ Ok tt) (state before.image) (cached_in old) (state between.image) c) now going)
               (subst (λ (c : Cached). ReadyBlocks (order_of old) c) now ready) result i;
           put = inserted-put (block_flushes state) written_block block-kept-by old.rb.slots.cap true cluster block between old.rb.slots.entries after es' result not i;
@@ -312,7 +200,7 @@ module _ {S : Type 0} (state : S → StorageState) (cluster : ℕ) (block : Bloc
         let blocks : (cached_in mid).blocks ≡ (cached_in old).blocks = ap (λ (m : MetadataCaches S). (cached_in m).blocks) same in
         record {
           going = going-under before.header (order_of old) Fresh (IsMild fault) (state before.image) (state between.image) (cached_in old) (cached_in mid)
-              (going-safely before.header (order_of old) Always (failed fault ≡ Ok tt) (IsMild fault) _ _ _ _ faultless (λ safe mild. absurd (never fault safe mild why)) going);
+              (going-safely before.header (order_of old) Always (failed fault ≡ Ok tt) (IsMild fault) _ _ _ _ faultless (λ safe mild. absurd (never-refused _ _ _ fault (safe-reach _ _ _ _ safe).0 mild why)) going);
           put = record { over = λ there. tt; added = λ none. tt; refused = (refl, inl (ap (λ l. map written_block l) blocks)); pinned = pins-none (cached_in old).blocks (cached_in mid).blocks blocks };
           flushed = λ k slot way there. tt;
           roomy = not-roomy;
@@ -323,9 +211,3 @@ module _ {S : Type 0} (state : S → StorageState) (cluster : ℕ) (block : Bloc
           room = record { blocks = ap (λ (m : MetadataCaches S). m.rb.slots.cap) same; tables = cap };
           cause = found-written (AreTablesInReach (cached_in old)) _ _ _ _ fault (λ f. f.0) why;
         }
-      where
-        never : (fault : Fault) → Safe (bytes_of (state before.image).bytes) before.header (cached_in old) (order_of old) → IsMild fault → WhyNotWritten (AreTablesInReach (cached_in old)) (state before.image).faults (state between.image).faults fault → ⊥
-        never Memory safe mild why = mild
-        never Storage safe mild why = mild
-        never DamagedTable safe mild why = why (safe-reach _ _ _ _ safe).0
-        never other safe mild why = why

@@ -15,7 +15,7 @@ use Rattle.qcow2_alloc.specs.declared.async_lru_cache.Admission.TheVariants.{Gra
 use Rattle.qcow2_alloc.specs.declared.async_lru_cache.Slot.{Slot}
 use Rattle.qcow2_alloc.specs.Cache.{Evicted, MadeRoom, Loaded, LoadedAfter, Readied, victim, victim_from}
 use Rattle.qcow2_alloc.specs.Finding.{with_room, IsPinnedFull, PinsNothing, Sought, WhyNotFound, CountsSearch}
-use Rattle.qcow2_alloc.specs.Going.{WhyNotWritten, WasNotCutOff}
+use Rattle.qcow2_alloc.specs.Going.{IsMild, WhyNotWritten, WasNotCutOff}
 use Rattle.qcow2_alloc.proofs.Flushing.Counting.{Counted}
 use Rattle.qcow2_alloc.proofs.Caching.Pins.{pins-none, pins-then, pins-removed, pins-set, pins-new}
 use Rattle.qcow2_alloc.proofs.Caching.Places.{place-of-key}
@@ -93,12 +93,24 @@ found-wider fine fine' full full' a b c d from to le le' DamagedTable why = λ f
 found-wider fine fine' full full' a b c d from to le le' CacheFull why = to why
 found-wider fine fine' full full' a b c d from to le le' fault why = absurd why
 
+-- So is the whole answer, also where less is known to be fine.
+pub counts-wider : (fine fine' full : Type 0) (a b c : ℕ) (result : Result Unit Fault) → (fine' → fine) → a ≡ b → CountsSearch fine full a c result → CountsSearch fine' full b c result
+counts-wider fine fine' full a b c (Ok done) from is same = same ∙ is
+counts-wider fine fine' full a b c (Err fault) from is why = found-wider fine fine' full full b a c c from (λ f. f) (omega (arith, is)) (omega arith) fault why
+
 -- That of a write is one.
 pub found-written : (reach fine full : Type 0) (a b : ℕ) (fault : Fault) → (fine → reach) → WhyNotWritten reach a b fault → WhyNotFound fine full a b fault
 found-written reach fine full a b Memory from why = tt
 found-written reach fine full a b Storage from why = why
 found-written reach fine full a b DamagedTable from why = λ f. why (from f)
 found-written reach fine full a b fault from why = absurd why
+
+-- Where all that is written is in reach, a write that wasn't cut off is not refused.
+pub never-refused : (reach : Type 0) (a b : ℕ) (fault : Fault) → reach → IsMild fault → WhyNotWritten reach a b fault → ⊥
+never-refused reach a b Memory near mild why = mild
+never-refused reach a b Storage near mild why = mild
+never-refused reach a b DamagedTable near mild why = why near
+never-refused reach a b fault near mild why = why
 
 module _ {V D : Type 0} (loads : D → ℕ → Result V Fault → D → Type 0) (flushes : D → ℕ → V → Result Unit Fault → D → V → Type 0) where
   -- Without leave to flush, what says that there is no room has changed nothing.

@@ -24,19 +24,19 @@ use Rattle.qcow2_alloc.specs.Cache.{Readied, with_entries}
 use Rattle.qcow2_alloc.specs.Caches.{cached_in, order_of}
 use Rattle.qcow2_alloc.specs.CachesLending.{with_blocks, block_loads, block_flushes}
 use Rattle.qcow2_alloc.specs.Finding.{Sought, BlockFound, LetsBlockIn, LetsIn, IsPinnedFull, WhyNotFound, CountsSearch}
-use Rattle.qcow2_alloc.specs.Going.{Going, Always, ReadyBlocks, WasNotCutOff, IsMild, AreTablesInReach, CountsWrites, WhyNotWritten, WritesTables}
+use Rattle.qcow2_alloc.specs.Going.{Going, Always, ReadyBlocks, WasNotCutOff, IsMild, AreTablesInReach, CountsWrites, WritesTables}
 use Rattle.qcow2_alloc.specs.Memory.{Cached, written, written_block}
-use Rattle.qcow2_alloc.specs.Safety.{Safe, AreTablesClean}
+use Rattle.qcow2_alloc.specs.Safety.{AreTablesClean}
 use Rattle.qcow2_alloc.proofs.Flushing.Counting.{block-counted}
-use Rattle.qcow2_alloc.proofs.Caching.FindingBlocks.{block-readied, block-comes-quietly, block-asked}
+use Rattle.qcow2_alloc.proofs.Caching.FindingBlocks.{loaded_blocks, blocks_behind}
 use Rattle.qcow2_alloc.proofs.Caching.FindingTables.{kept-same}
 use Rattle.qcow2_alloc.proofs.Flushing.Going.{going-weaker, going-ready, going-safely}
 use Rattle.qcow2_alloc.proofs.Flushing.Kept.{block-kept}
 use Rattle.qcow2_alloc.proofs.Caching.LettingIn.{never-now, lets-in, readied-still, tables-idle, behind-tables, behind-refused-tables}
 use Rattle.qcow2_alloc.proofs.Caching.Pins.{pins-none}
-use Rattle.qcow2_alloc.proofs.Caching.Readying.{readied-quietly, never-full}
+use Rattle.qcow2_alloc.proofs.Caching.Readying.{readied, readied-quietly, never-full}
 use Rattle.qcow2_alloc.proofs.Memory.SafeLaws.{safe-reach}
-use Rattle.qcow2_alloc.proofs.Caching.Searching.{done_of, sought, readied-related, readied-counted, full-stays, roomy-kept, found-wider, found-written, whole-done, found-there}
+use Rattle.qcow2_alloc.proofs.Caching.Searching.{done_of, sought, readied-related, readied-counted, full-stays, roomy-kept, counts-wider, found-written, never-refused, whole-done, found-there}
 
 -- what is known of a load's answer
 block-loading : (h : Fields) (key : ℕ) (old : StorageState) (answer : Result Block Fault) (new : StorageState) → BlockLoaded h key old answer new
@@ -91,19 +91,13 @@ module _ {S : Type 0} (state : S → StorageState) (cluster : ℕ) where
       → Ready may_flush cap before es result after es'
       → CountsSearch (IsInReach H.fields.cluster_bits cluster × other × AllByRecursion (λ (e : ℕ × Slot Block). e.1.value.modified ≡ true → IsInReach e.1.value.cluster_bits e.0) es) (IsPinnedFull cap es) faults (state after.image).faults (done_of result)
   block-counts may_flush cap before es result after es' H header faults is other r =
-      by-result result (readied-counted (λ (d : ImageFile S). state d.image) (block_loads state) (block_flushes state) (λ key t. t.modified ≡ true → IsInReach t.cluster_bits key)
+      counts-wider _ _ _ _ faults _ (done_of result) (λ f. (subst (λ (h : Header). IsInReach h.fields.cluster_bits cluster) (sym header) f.0, f.2)) is
+      (readied-counted (λ (d : ImageFile S). state d.image) (block_loads state) (block_flushes state) (λ key t. t.modified ≡ true → IsInReach t.cluster_bits key)
       (λ old key value answer new value' flush. block-counted key value (state old.image) (state new.image) answer value' flush.1)
       (λ d key. IsInReach d.header.fields.cluster_bits key)
       (λ old key answer new load. subst (λ (h : Header). ((state old.image).faults ≤ (state new.image).faults) × MatchResult answer (λ _. (state new.image).faults ≡ (state old.image).faults) (WhyNotFound (IsInReach h.fields.cluster_bits key) ⊥ (state old.image).faults (state new.image).faults)) (sym load.0)
       (block-loading old.header.fields key (state old.image) answer (state new.image) load.1))
       cap may_flush cluster before es result after es' r).1
-    where
-      by-result : (result : Result Admission Fault)
-          → CountsSearch (IsInReach after.header.fields.cluster_bits cluster × AllByRecursion (λ (e : ℕ × Slot Block). e.1.value.modified ≡ true → IsInReach e.1.value.cluster_bits e.0) es) (IsPinnedFull cap es) (state before.image).faults (state after.image).faults (done_of result)
-          → CountsSearch (IsInReach H.fields.cluster_bits cluster × other × AllByRecursion (λ (e : ℕ × Slot Block). e.1.value.modified ≡ true → IsInReach e.1.value.cluster_bits e.0) es) (IsPinnedFull cap es) faults (state after.image).faults (done_of result)
-      by-result (Ok found) same = same ∙ is
-      by-result (Err fault) why =
-          found-wider _ _ _ _ _ _ _ _ (λ f. (subst (λ (h : Header). IsInReach h.fields.cluster_bits cluster) (sym header) f.0, f.2)) (λ f. f) (omega (arith, is)) (omega arith) fault why
 
   -- What it asks for where no block is modified,
   block-still : (may_flush : Bool) (cap : ℕ) (before : ImageFile S) (es : List (ℕ × Slot Block)) (result : Result Admission Fault) (after : ImageFile S) (es' : List (ℕ × Slot Block)) → Ready may_flush cap before es result after es'
@@ -126,11 +120,7 @@ module _ {S : Type 0} (state : S → StorageState) (cluster : ℕ) where
       let header = header-stays false old.rb.slots.cap before old.rb.slots.entries result after es' r in
       record {
         going = going-weaker before.header (order_of old) Always (WasNotCutOff result) (WasNotCutOff (done_of result)) _ _ _ _ (whole-done result)
-            (readied-quietly (λ (d : ImageFile S). state d.image) (block_loads state) (block_flushes state) before.header (order_of old) Always (λ blocks. record { tables = old.l2.slots.entries; blocks = blocks }) (λ d. d.header ≡ before.header)
-            (λ key value es a b same load none. block-comes-quietly state before.header (order_of old) Always old.l2.slots.entries (λ A B r. r) key value es (state a.image) (state b.image)
-            (subst (λ (h : Header). BlockLoaded h.fields key (state a.image) (Ok value) (state b.image)) same load.1) none)
-            (λ key answer es a b same load. block-asked state before.header (order_of old) Always old.l2.slots.entries key answer es (state a.image) (state b.image)
-            (subst (λ (h : Header). BlockLoaded h.fields key (state a.image) answer (state b.image)) same load.1))
+            (readied-quietly (loaded_blocks state before.header (order_of old) Always old.l2.slots.entries (λ A B r. r)) (block_flushes state)
             old.rb.slots.cap cluster before old.rb.slots.entries result after es' refl r);
         hit = λ there. let f = r.found there in (ap done_of f.0, ap (λ (l : List (ℕ × Slot Block)). with_blocks old l) f.2, f.1);
         there = found-there result _ not r.there;
@@ -191,7 +181,7 @@ module _ {S : Type 0} (state : S → StorageState) (cluster : ℕ) where
               (going-ready before.header (order_of old) (ReadyBlocks (order_of old)) (Succeeded (Ok tt)) (WasNotCutOff result) (state before.image) (state between.image) (state after.image) (cached_in old) (record { tables = mid.l2.slots.entries; blocks = old.rb.slots.entries }) _ refl
               (subst (λ (c : Cached). ReadyBlocks (order_of old) c) now ready)
               (subst (λ (c : Cached). Going before.header (order_of old) Always (Succeeded (Ok tt)) (state before.image) (cached_in old) (state between.image) c) now going)
-              (block-readied state before.header (order_of old) mid.l2.slots.entries old.rb.slots.cap true cluster between old.rb.slots.entries result after es' header r));
+              (readied (blocks_behind state before.header (order_of old) mid.l2.slots.entries) old.rb.slots.cap true cluster between old.rb.slots.entries result after es' header r));
           hit = not-there;
           there = found-there result _ not r.there;
           sought = block-sought true old.rb.slots.cap between old.rb.slots.entries result after es' before.header stays not r;
@@ -230,7 +220,7 @@ module _ {S : Type 0} (state : S → StorageState) (cluster : ℕ) where
     block-found-halted fault going why faultless some did =
         let blocks : (cached_in mid).blocks ≡ (cached_in old).blocks = ap (λ (m : MetadataCaches S). (cached_in m).blocks) same in
         record {
-          going = going-safely before.header (order_of old) Always (Succeeded (Err fault)) (WasNotCutOff {T = Unit} (Err fault)) _ _ _ _ faultless (λ safe mild. absurd (never fault safe mild why)) going;
+          going = going-safely before.header (order_of old) Always (Succeeded (Err fault)) (WasNotCutOff {T = Unit} (Err fault)) _ _ _ _ faultless (λ safe mild. absurd (never-refused _ _ _ fault (safe-reach _ _ _ _ safe).0 mild why)) going;
           hit = not-there;
           there = tt;
           sought = record { there = not-there; loaded = λ none. tt; refused = inl (ap (λ l. map written_block l) blocks); pinned = pins-none (cached_in old).blocks (cached_in mid).blocks blocks };
@@ -243,9 +233,3 @@ module _ {S : Type 0} (state : S → StorageState) (cluster : ℕ) where
           room = record { tables = cap; blocks = ap (λ (m : MetadataCaches S). m.rb.slots.cap) same };
           cause = found-written (AreTablesInReach (cached_in old)) _ _ _ _ fault (λ f. f.1) why;
         }
-      where
-        never : (fault : Fault) → Safe (bytes_of (state before.image).bytes) before.header (cached_in old) (order_of old) → IsMild fault → WhyNotWritten (AreTablesInReach (cached_in old)) (state before.image).faults (state between.image).faults fault → ⊥
-        never Memory safe mild why = mild
-        never Storage safe mild why = mild
-        never DamagedTable safe mild why = why (safe-reach _ _ _ _ safe).0
-        never other safe mild why = why

@@ -26,18 +26,18 @@ use Rattle.qcow2_alloc.specs.Cache.{Readied, with_entries}
 use Rattle.qcow2_alloc.specs.Caches.{cached_in, order_of}
 use Rattle.qcow2_alloc.specs.CachesLending.{with_tables, table_loads, table_flushes}
 use Rattle.qcow2_alloc.specs.Finding.{Sought, TableFound, LetsTableIn, LetsIn, IsTableFine, IsPinnedFull, WhyNotFound, CountsSearch}
-use Rattle.qcow2_alloc.specs.Going.{Going, Always, ReadyTables, WasNotCutOff, IsMild, AreBlocksInReach, CountsWrites, WhyNotWritten, WritesBlocks}
+use Rattle.qcow2_alloc.specs.Going.{Going, Always, ReadyTables, WasNotCutOff, IsMild, AreBlocksInReach, CountsWrites, WritesBlocks}
 use Rattle.qcow2_alloc.specs.Memory.{Cached, written, written_table}
-use Rattle.qcow2_alloc.specs.Safety.{Safe, AreBlocksClean}
+use Rattle.qcow2_alloc.specs.Safety.{AreBlocksClean}
 use Rattle.qcow2_alloc.proofs.Flushing.Counting.{table-counted}
-use Rattle.qcow2_alloc.proofs.Caching.FindingTables.{table-readied, table-comes-quietly, table-asked, kept-same}
+use Rattle.qcow2_alloc.proofs.Caching.FindingTables.{loaded_tables, tables_behind, kept-same}
 use Rattle.qcow2_alloc.proofs.Flushing.Going.{going-weaker, going-ready, going-safely}
 use Rattle.qcow2_alloc.proofs.Flushing.Kept.{table-kept}
 use Rattle.qcow2_alloc.proofs.Caching.LettingIn.{never-now, lets-in, readied-still, blocks-idle, behind-blocks, behind-refused-blocks}
 use Rattle.qcow2_alloc.proofs.Caching.Pins.{pins-none}
-use Rattle.qcow2_alloc.proofs.Caching.Readying.{readied-quietly, never-full}
+use Rattle.qcow2_alloc.proofs.Caching.Readying.{readied, readied-quietly, never-full}
 use Rattle.qcow2_alloc.proofs.Memory.SafeLaws.{safe-reach}
-use Rattle.qcow2_alloc.proofs.Caching.Searching.{done_of, sought, readied-related, readied-counted, full-stays, roomy-kept, found-wider, found-written, whole-done, found-there}
+use Rattle.qcow2_alloc.proofs.Caching.Searching.{done_of, sought, readied-related, readied-counted, full-stays, roomy-kept, counts-wider, found-written, never-refused, whole-done, found-there}
 
 -- what is known of a load's answer
 table-loading : (h : Fields) (key : ℕ) (old : StorageState) (answer : Result TableValue Fault) (new : StorageState) → TableLoaded h key old answer new
@@ -100,19 +100,13 @@ module _ {S : Type 0} (state : S → StorageState) (cluster : ℕ) where
       → Ready may_flush cap before es result after es'
       → CountsSearch (IsTableFine (bytes_of (state after.image).bytes) H.fields cluster × AllByRecursion (λ (e : ℕ × Slot TableValue). e.1.value.modified ≡ true → IsInReach e.1.value.layout.cluster_bits e.0) es × blocks) (IsPinnedFull cap es) faults (state after.image).faults (done_of result)
   table-counts may_flush cap before es result after es' H header faults is blocks r =
-      by-result result (readied-counted (λ (d : ImageFile S). state d.image) (table_loads state) (table_flushes state) (λ key t. t.modified ≡ true → IsInReach t.layout.cluster_bits key)
+      counts-wider _ _ _ _ faults _ (done_of result) (λ f. (subst (λ (h : Header). IsTableFine (bytes_of (state after.image).bytes) h.fields cluster) (sym header) f.0, f.1)) is
+      (readied-counted (λ (d : ImageFile S). state d.image) (table_loads state) (table_flushes state) (λ key t. t.modified ≡ true → IsInReach t.layout.cluster_bits key)
       (λ old key value answer new value' flush. table-counted key value (state old.image) (state new.image) answer value' flush.1)
       (λ d key. IsTableFine (bytes_of (state d.image).bytes) d.header.fields key)
       (λ old key answer new load. subst (λ (h : Header). ((state old.image).faults ≤ (state new.image).faults) × MatchResult answer (λ _. (state new.image).faults ≡ (state old.image).faults) (WhyNotFound (IsTableFine (bytes_of (state new.image).bytes) h.fields key) ⊥ (state old.image).faults (state new.image).faults)) (sym load.0)
       (table-loading old.header.fields key (state old.image) answer (state new.image) load.1))
       cap may_flush cluster before es result after es' r).1
-    where
-      by-result : (result : Result Admission Fault)
-          → CountsSearch (IsTableFine (bytes_of (state after.image).bytes) after.header.fields cluster × AllByRecursion (λ (e : ℕ × Slot TableValue). e.1.value.modified ≡ true → IsInReach e.1.value.layout.cluster_bits e.0) es) (IsPinnedFull cap es) (state before.image).faults (state after.image).faults (done_of result)
-          → CountsSearch (IsTableFine (bytes_of (state after.image).bytes) H.fields cluster × AllByRecursion (λ (e : ℕ × Slot TableValue). e.1.value.modified ≡ true → IsInReach e.1.value.layout.cluster_bits e.0) es × blocks) (IsPinnedFull cap es) faults (state after.image).faults (done_of result)
-      by-result (Ok found) same = same ∙ is
-      by-result (Err fault) why =
-          found-wider _ _ _ _ _ _ _ _ (λ f. (subst (λ (h : Header). IsTableFine (bytes_of (state after.image).bytes) h.fields cluster) (sym header) f.0, f.1)) (λ f. f) (omega (arith, is)) (omega arith) fault why
 
   -- What it asks for where no table is modified,
   table-still : (may_flush : Bool) (cap : ℕ) (before : ImageFile S) (es : List (ℕ × Slot TableValue)) (result : Result Admission Fault) (after : ImageFile S) (es' : List (ℕ × Slot TableValue)) → Ready may_flush cap before es result after es'
@@ -135,11 +129,7 @@ module _ {S : Type 0} (state : S → StorageState) (cluster : ℕ) where
       let header = header-stays false old.l2.slots.cap before old.l2.slots.entries result after es' r in
       record {
         going = going-weaker before.header (order_of old) Always (WasNotCutOff result) (WasNotCutOff (done_of result)) _ _ _ _ (whole-done result)
-            (readied-quietly (λ (d : ImageFile S). state d.image) (table_loads state) (table_flushes state) before.header (order_of old) Always (λ tables. record { tables = tables; blocks = old.rb.slots.entries }) (λ d. d.header ≡ before.header)
-            (λ key value es a b same load none. table-comes-quietly state before.header (order_of old) Always old.rb.slots.entries (λ A B r. r) key value es (state a.image) (state b.image)
-            (subst (λ (h : Header). TableLoaded h.fields key (state a.image) (Ok value) (state b.image)) same load.1) none)
-            (λ key answer es a b same load. table-asked state before.header (order_of old) Always old.rb.slots.entries key answer es (state a.image) (state b.image)
-            (subst (λ (h : Header). TableLoaded h.fields key (state a.image) answer (state b.image)) same load.1))
+            (readied-quietly (loaded_tables state before.header (order_of old) Always old.rb.slots.entries (λ A B r. r)) (table_flushes state)
             old.l2.slots.cap cluster before old.l2.slots.entries result after es' refl r);
         hit = λ there. let f = r.found there in (ap done_of f.0, ap (λ (l : List (ℕ × Slot TableValue)). with_tables old l) f.2, f.1);
         there = found-there result _ not r.there;
@@ -200,7 +190,7 @@ module _ {S : Type 0} (state : S → StorageState) (cluster : ℕ) where
               (going-ready before.header (order_of old) (ReadyTables (order_of old)) (Succeeded (Ok tt)) (WasNotCutOff result) (state before.image) (state between.image) (state after.image) (cached_in old) (record { tables = old.l2.slots.entries; blocks = mid.rb.slots.entries }) _ refl
               (subst (λ (c : Cached). ReadyTables (order_of old) c) now ready)
               (subst (λ (c : Cached). Going before.header (order_of old) Always (Succeeded (Ok tt)) (state before.image) (cached_in old) (state between.image) c) now going)
-              (table-readied state before.header (order_of old) mid.rb.slots.entries old.l2.slots.cap true cluster between old.l2.slots.entries result after es' header r));
+              (readied (tables_behind state before.header (order_of old) mid.rb.slots.entries) old.l2.slots.cap true cluster between old.l2.slots.entries result after es' header r));
           hit = not-there;
           there = found-there result _ not r.there;
           sought = table-sought true old.l2.slots.cap between old.l2.slots.entries result after es' before.header stays not r;
@@ -239,7 +229,7 @@ module _ {S : Type 0} (state : S → StorageState) (cluster : ℕ) where
     table-found-halted fault going why faultless some did =
         let tables : (cached_in mid).tables ≡ (cached_in old).tables = ap (λ (m : MetadataCaches S). (cached_in m).tables) same in
         record {
-          going = going-safely before.header (order_of old) Always (Succeeded (Err fault)) (WasNotCutOff {T = Unit} (Err fault)) _ _ _ _ faultless (λ safe mild. absurd (never fault safe mild why)) going;
+          going = going-safely before.header (order_of old) Always (Succeeded (Err fault)) (WasNotCutOff {T = Unit} (Err fault)) _ _ _ _ faultless (λ safe mild. absurd (never-refused _ _ _ fault (safe-reach _ _ _ _ safe).1 mild why)) going;
           hit = not-there;
           there = tt;
           sought = record { there = not-there; loaded = λ none. tt; refused = inl (ap (λ l. map written_table l) tables); pinned = pins-none (cached_in old).tables (cached_in mid).tables tables };
@@ -252,9 +242,3 @@ module _ {S : Type 0} (state : S → StorageState) (cluster : ℕ) where
           room = record { tables = ap (λ (m : MetadataCaches S). m.l2.slots.cap) same; blocks = cap };
           cause = found-written (AreBlocksInReach (cached_in old)) _ _ _ _ fault (λ f. f.2) why;
         }
-      where
-        never : (fault : Fault) → Safe (bytes_of (state before.image).bytes) before.header (cached_in old) (order_of old) → IsMild fault → WhyNotWritten (AreBlocksInReach (cached_in old)) (state before.image).faults (state between.image).faults fault → ⊥
-        never Memory safe mild why = mild
-        never Storage safe mild why = mild
-        never DamagedTable safe mild why = why (safe-reach _ _ _ _ safe).1
-        never other safe mild why = why
