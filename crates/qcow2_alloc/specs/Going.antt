@@ -83,17 +83,21 @@ pub record InTurn (First Second : StorageState → Cached → Result Unit Fault 
   pub halted : IsErr answer → (result ≡ answer) × (new ≡ mid) × (cached' ≡ between)
   pub second : answer ≡ Ok tt → Second mid between result new cached'
 
--- Blocks are written before something is done, where they come first,
-pub record BehindBlocks (order : CacheDependency) (Done : StorageState → Cached → Result Unit Fault → StorageState → Cached → Type 0)
+-- What comes first is done before something, if it does.
+pub record Behind (comes_first : Type 0) (First Done : StorageState → Cached → Result Unit Fault → StorageState → Cached → Type 0)
     (old : StorageState) (cached : Cached) (result : Result Unit Fault) (new : StorageState) (cached' : Cached) : Type 0 where
-  pub alone : (order ≡ L2DependsOnRb → ⊥) → Done old cached result new cached'
-  pub in_turn : order ≡ L2DependsOnRb → InTurn WritesBlocks Done old cached result new cached'
+  pub alone : (comes_first → ⊥) → Done old cached result new cached'
+  pub in_turn : comes_first → InTurn First Done old cached result new cached'
+
+-- Blocks are written before something is done, where they come first,
+abbrev pub BehindBlocks : CacheDependency → (StorageState → Cached → Result Unit Fault → StorageState → Cached → Type 0) → StorageState
+    → Cached → Result Unit Fault → StorageState → Cached → Type 0
+BehindBlocks order = Behind (order ≡ L2DependsOnRb) WritesBlocks
 
 -- or tables, where these do.
-pub record BehindTables (order : CacheDependency) (Done : StorageState → Cached → Result Unit Fault → StorageState → Cached → Type 0)
-    (old : StorageState) (cached : Cached) (result : Result Unit Fault) (new : StorageState) (cached' : Cached) : Type 0 where
-  pub alone : (order ≡ RbDependsOnL2 → ⊥) → Done old cached result new cached'
-  pub in_turn : order ≡ RbDependsOnL2 → InTurn WritesTables Done old cached result new cached'
+abbrev pub BehindTables : CacheDependency → (StorageState → Cached → Result Unit Fault → StorageState → Cached → Type 0) → StorageState
+    → Cached → Result Unit Fault → StorageState → Cached → Type 0
+BehindTables order = Behind (order ≡ RbDependsOnL2) WritesTables
 
 -- neither want of memory nor a storage that failed
 abbrev pub IsMild : Fault → Type 0

@@ -35,7 +35,7 @@ use Rattle.qcow2_alloc.proofs.Caching.Inserting.{put_of, IsBarred, inserted-put,
 use Rattle.qcow2_alloc.proofs.Caching.Kinds.{NewEntry}
 use Rattle.qcow2_alloc.proofs.Caching.PuttingEntries.{put-going, put-quietly}
 use Rattle.qcow2_alloc.proofs.Flushing.Kept.{block-kept}
-use Rattle.qcow2_alloc.proofs.Caching.LettingIn.{behind-tables, behind-refused-tables}
+use Rattle.qcow2_alloc.proofs.Caching.LettingIn.{behind-done, behind-refused}
 use Rattle.qcow2_alloc.proofs.Caching.Pins.{pins-none}
 use Rattle.qcow2_alloc.proofs.Caching.Places.{away-of-all}
 use Rattle.qcow2_alloc.proofs.Memory.SafeLaws.{safe-reach}
@@ -168,7 +168,7 @@ module _ {S : Type 0} (state : S → StorageState) (cluster : ℕ) (block : Bloc
           roomy = not-roomy;
           tables = ap (λ (c : Cached). c.tables) kept;
           apart = λ no. ap (λ (m : MetadataCaches S). m.l2) (idle no);
-          behind = λ none room. behind-tables (order_of old) LetsBlockIn (state before.image) (state between.image) (state after.image) (cached_in old) (record { tables = mid.l2.slots.entries; blocks = old.rb.slots.entries }) _ (refusal_of (put_of result))
+          behind = λ none room. behind-done (order_of old ≡ RbDependsOnL2) WritesTables LetsBlockIn (state before.image) (state between.image) (state after.image) (cached_in old) (record { tables = mid.l2.slots.entries; blocks = old.rb.slots.entries }) _ (refusal_of (put_of result))
               (λ no. (behind.alone no, sym now ∙ ap (λ (m : MetadataCaches S). cached_in m) (idle no)))
               (λ is. subst (λ (c : Cached). WritesTables (state before.image) (cached_in old) (Ok tt) (state between.image) c) now (behind.first is)) (
                 refl,
@@ -206,7 +206,7 @@ module _ {S : Type 0} (state : S → StorageState) (cluster : ℕ) (block : Bloc
           roomy = not-roomy;
           tables = ap (λ (c : Cached). c.tables) kept;
           apart = λ no. ap (λ (m : MetadataCaches S). m.l2) (idle no);
-          behind = λ none room. behind-refused-tables (order_of old) LetsBlockIn (state before.image) (state between.image) (cached_in old) (cached_in mid) fault some did;
+          behind = λ none room. behind-refused (order_of old ≡ RbDependsOnL2) WritesTables LetsBlockIn (state before.image) (state between.image) (cached_in old) (cached_in mid) fault some did;
           others = (ap (λ (m : MetadataCaches S). m.order) same, header);
           room = record { blocks = ap (λ (m : MetadataCaches S). m.rb.slots.cap) same; tables = cap };
           cause = found-written (AreTablesInReach (cached_in old)) _ _ _ _ fault (λ f. f.0) why;

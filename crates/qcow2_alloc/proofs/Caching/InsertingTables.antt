@@ -34,7 +34,7 @@ use Rattle.qcow2_alloc.proofs.Caching.Inserting.{put_of, IsBarred, inserted-put,
 use Rattle.qcow2_alloc.proofs.Caching.Kinds.{NewEntry}
 use Rattle.qcow2_alloc.proofs.Caching.PuttingEntries.{put-going, put-quietly}
 use Rattle.qcow2_alloc.proofs.Flushing.Kept.{table-kept}
-use Rattle.qcow2_alloc.proofs.Caching.LettingIn.{behind-blocks, behind-refused-blocks}
+use Rattle.qcow2_alloc.proofs.Caching.LettingIn.{behind-done, behind-refused}
 use Rattle.qcow2_alloc.proofs.Caching.Pins.{pins-none}
 use Rattle.qcow2_alloc.proofs.Caching.Places.{away-of-all}
 use Rattle.qcow2_alloc.proofs.Memory.SafeLaws.{safe-reach}
@@ -167,7 +167,7 @@ module _ {S : Type 0} (state : S → StorageState) (cluster : ℕ) (table : Tabl
           roomy = not-roomy;
           blocks = ap (λ (c : Cached). c.blocks) kept;
           apart = λ no. ap (λ (m : MetadataCaches S). m.rb) (idle no);
-          behind = λ none room. behind-blocks (order_of old) LetsTableIn (state before.image) (state between.image) (state after.image) (cached_in old) (record { tables = old.l2.slots.entries; blocks = mid.rb.slots.entries }) _ (refusal_of (put_of result))
+          behind = λ none room. behind-done (order_of old ≡ L2DependsOnRb) WritesBlocks LetsTableIn (state before.image) (state between.image) (state after.image) (cached_in old) (record { tables = old.l2.slots.entries; blocks = mid.rb.slots.entries }) _ (refusal_of (put_of result))
               (λ no. (behind.alone no, sym now ∙ ap (λ (m : MetadataCaches S). cached_in m) (idle no)))
               (λ is. subst (λ (c : Cached). WritesBlocks (state before.image) (cached_in old) (Ok tt) (state between.image) c) now (behind.first is)) (
                 refl,
@@ -205,7 +205,7 @@ module _ {S : Type 0} (state : S → StorageState) (cluster : ℕ) (table : Tabl
           roomy = not-roomy;
           blocks = ap (λ (c : Cached). c.blocks) kept;
           apart = λ no. ap (λ (m : MetadataCaches S). m.rb) (idle no);
-          behind = λ none room. behind-refused-blocks (order_of old) LetsTableIn (state before.image) (state between.image) (cached_in old) (cached_in mid) fault some did;
+          behind = λ none room. behind-refused (order_of old ≡ L2DependsOnRb) WritesBlocks LetsTableIn (state before.image) (state between.image) (cached_in old) (cached_in mid) fault some did;
           others = (ap (λ (m : MetadataCaches S). m.order) same, header);
           room = record { tables = ap (λ (m : MetadataCaches S). m.l2.slots.cap) same; blocks = cap };
           cause = found-written (AreBlocksInReach (cached_in old)) _ _ _ _ fault (λ f. f.1) why;

@@ -19,7 +19,7 @@ use Rattle.qcow2_alloc.specs.Backends.{TableFlushed, BlockFlushed}
 use Rattle.qcow2_alloc.specs.Cache.{FlushedAt, Evicted, MadeRoom, Loaded, LoadedAfter, Readied, FlushedEach, fault_of, latest, with_value, victim}
 use Rattle.qcow2_alloc.specs.Caches.{cached_in}
 use Rattle.qcow2_alloc.specs.Finding.{LetsIn}
-use Rattle.qcow2_alloc.specs.Going.{WritesTables, WritesBlocks, BehindBlocks, BehindTables}
+use Rattle.qcow2_alloc.specs.Going.{WritesTables, WritesBlocks, Behind}
 use Rattle.qcow2_alloc.specs.Memory.{Cached}
 use Rattle.qcow2_alloc.specs.Safety.{AreTablesClean, AreBlocksClean}
 use Rattle.qcow2_alloc.proofs.Caching.FindingTables.{kept-same}
@@ -170,33 +170,18 @@ module _ {S : Type 0} (state : S → StorageState) (old mid : MetadataCaches S) 
   tables-idle L2DependsOnRb idle did clean = idle-so (idle (λ no. cc))
   tables-idle RbDependsOnL2 idle did clean = tables-none (state before.image) (state between.image) (cached_in old) (cached_in mid) answer (did refl) clean
 
--- What is done behind the blocks, where they come first, once these are written;
-pub behind-blocks : (order : CacheDependency) (Done : StorageState → Cached → Result Unit Fault → StorageState → Cached → Type 0) (a b d : StorageState) (c e c' : Cached) (result : Result Unit Fault)
-    → ((order ≡ L2DependsOnRb → ⊥) → (b ≡ a) × (e ≡ c)) → (order ≡ L2DependsOnRb → WritesBlocks a c (Ok tt) b e) → Done b e result d c' → BehindBlocks order Done a c result d c'
-behind-blocks order Done a b d c e c' result idle did done = record {
+-- Something is done behind what comes first, once that is;
+pub behind-done : (comes_first : Type 0) (First Done : StorageState → Cached → Result Unit Fault → StorageState → Cached → Type 0) (a b d : StorageState) (c e c' : Cached) (result : Result Unit Fault)
+    → ((comes_first → ⊥) → (b ≡ a) × (e ≡ c)) → (comes_first → First a c (Ok tt) b e) → Done b e result d c' → Behind comes_first First Done a c result d c'
+behind-done comes_first First Done a b d c e c' result idle did done = record {
   alone = λ no. let i = idle no in subst (λ (s : StorageState). Done s c result d c') i.0 (subst (λ (x : Cached). Done b x result d c') i.1 done);
   in_turn = λ is. record { mid = b; between = e; answer = Ok tt; first = did is; halted = λ no. absurd (cc); second = λ ok. done };
 }
 
--- and where they can't be;
-pub behind-refused-blocks : (order : CacheDependency) (Done : StorageState → Cached → Result Unit Fault → StorageState → Cached → Type 0) (a b : StorageState) (c e : Cached) (fault : Fault)
-    → ((order ≡ L2DependsOnRb → ⊥) → ⊥) → (order ≡ L2DependsOnRb → WritesBlocks a c (Err fault) b e) → BehindBlocks order Done a c (Err fault) b e
-behind-refused-blocks order Done a b c e fault never did = record {
-  alone = λ no. absurd (never no);
-  in_turn = λ is. record { mid = b; between = e; answer = Err fault; first = did is; halted = λ no. (refl, refl, refl); second = λ ok. absurd (cc) };
-}
-
--- and the same behind tables.
-pub behind-tables : (order : CacheDependency) (Done : StorageState → Cached → Result Unit Fault → StorageState → Cached → Type 0) (a b d : StorageState) (c e c' : Cached) (result : Result Unit Fault)
-    → ((order ≡ RbDependsOnL2 → ⊥) → (b ≡ a) × (e ≡ c)) → (order ≡ RbDependsOnL2 → WritesTables a c (Ok tt) b e) → Done b e result d c' → BehindTables order Done a c result d c'
-behind-tables order Done a b d c e c' result idle did done = record {
-  alone = λ no. let i = idle no in subst (λ (s : StorageState). Done s c result d c') i.0 (subst (λ (x : Cached). Done b x result d c') i.1 done);
-  in_turn = λ is. record { mid = b; between = e; answer = Ok tt; first = did is; halted = λ no. absurd (cc); second = λ ok. done };
-}
-
-pub behind-refused-tables : (order : CacheDependency) (Done : StorageState → Cached → Result Unit Fault → StorageState → Cached → Type 0) (a b : StorageState) (c e : Cached) (fault : Fault)
-    → ((order ≡ RbDependsOnL2 → ⊥) → ⊥) → (order ≡ RbDependsOnL2 → WritesTables a c (Err fault) b e) → BehindTables order Done a c (Err fault) b e
-behind-refused-tables order Done a b c e fault never did = record {
+-- and not where that is refused.
+pub behind-refused : (comes_first : Type 0) (First Done : StorageState → Cached → Result Unit Fault → StorageState → Cached → Type 0) (a b : StorageState) (c e : Cached) (fault : Fault)
+    → ((comes_first → ⊥) → ⊥) → (comes_first → First a c (Err fault) b e) → Behind comes_first First Done a c (Err fault) b e
+behind-refused comes_first First Done a b c e fault never did = record {
   alone = λ no. absurd (never no);
   in_turn = λ is. record { mid = b; between = e; answer = Err fault; first = did is; halted = λ no. (refl, refl, refl); second = λ ok. absurd (cc) };
 }

@@ -32,7 +32,7 @@ use Rattle.qcow2_alloc.proofs.Caching.FindingBlocks.{loaded_blocks, blocks_behin
 use Rattle.qcow2_alloc.proofs.Caching.FindingTables.{kept-same}
 use Rattle.qcow2_alloc.proofs.Flushing.Going.{going-weaker, going-ready, going-safely}
 use Rattle.qcow2_alloc.proofs.Flushing.Kept.{block-kept}
-use Rattle.qcow2_alloc.proofs.Caching.LettingIn.{never-now, lets-in, readied-still, tables-idle, behind-tables, behind-refused-tables}
+use Rattle.qcow2_alloc.proofs.Caching.LettingIn.{never-now, lets-in, readied-still, tables-idle, behind-done, behind-refused}
 use Rattle.qcow2_alloc.proofs.Caching.Pins.{pins-none}
 use Rattle.qcow2_alloc.proofs.Caching.Readying.{readied, readied-quietly, never-full}
 use Rattle.qcow2_alloc.proofs.Memory.SafeLaws.{safe-reach}
@@ -188,7 +188,7 @@ module _ {S : Type 0} (state : S → StorageState) (cluster : ℕ) where
           roomy = λ roomy. absurd (omega (arith, roomy, full));
           tables = ap (λ (c : Cached). c.tables) kept;
           apart = λ no. ap (λ (m : MetadataCaches S). m.l2) (idle no).0;
-          behind = λ none room. behind-tables (order_of old) LetsBlockIn (state before.image) (state between.image) (state after.image) (cached_in old) (record { tables = mid.l2.slots.entries; blocks = old.rb.slots.entries }) _ (done_of result)
+          behind = λ none room. behind-done (order_of old ≡ RbDependsOnL2) WritesTables LetsBlockIn (state before.image) (state between.image) (state after.image) (cached_in old) (record { tables = mid.l2.slots.entries; blocks = old.rb.slots.entries }) _ (done_of result)
               (λ no. (ap (λ (f : ImageFile S). state f.image) (idle no).1, sym now ∙ ap (λ (m : MetadataCaches S). cached_in m) (idle no).0))
               (λ is. subst (λ (c : Cached). WritesTables (state before.image) (cached_in old) (Ok tt) (state between.image) c) now (did is))
               (refl, block-over old.rb.slots.cap between old.rb.slots.entries result after es' absent full r);
@@ -227,7 +227,7 @@ module _ {S : Type 0} (state : S → StorageState) (cluster : ℕ) where
           roomy = λ roomy. absurd (omega (arith, roomy, full));
           tables = ap (λ (c : Cached). c.tables) kept;
           apart = λ no. ap (λ (m : MetadataCaches S). m.l2) (idle no).0;
-          behind = λ none room. behind-refused-tables (order_of old) LetsBlockIn (state before.image) (state between.image) (cached_in old) (cached_in mid) fault some did;
+          behind = λ none room. behind-refused (order_of old ≡ RbDependsOnL2) WritesTables LetsBlockIn (state before.image) (state between.image) (cached_in old) (cached_in mid) fault some did;
           still = λ tables clean. absurd (let n = (tables-idle state old mid before between (Err fault) (order_of old) (λ no. absurd (some no)) did tables).0 in cc);
           others = (ap (λ (m : MetadataCaches S). m.order) same, header);
           room = record { tables = cap; blocks = ap (λ (m : MetadataCaches S). m.rb.slots.cap) same };

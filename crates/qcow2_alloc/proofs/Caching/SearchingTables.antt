@@ -33,7 +33,7 @@ use Rattle.qcow2_alloc.proofs.Flushing.Counting.{table-counted}
 use Rattle.qcow2_alloc.proofs.Caching.FindingTables.{loaded_tables, tables_behind, kept-same}
 use Rattle.qcow2_alloc.proofs.Flushing.Going.{going-weaker, going-ready, going-safely}
 use Rattle.qcow2_alloc.proofs.Flushing.Kept.{table-kept}
-use Rattle.qcow2_alloc.proofs.Caching.LettingIn.{never-now, lets-in, readied-still, blocks-idle, behind-blocks, behind-refused-blocks}
+use Rattle.qcow2_alloc.proofs.Caching.LettingIn.{never-now, lets-in, readied-still, blocks-idle, behind-done, behind-refused}
 use Rattle.qcow2_alloc.proofs.Caching.Pins.{pins-none}
 use Rattle.qcow2_alloc.proofs.Caching.Readying.{readied, readied-quietly, never-full}
 use Rattle.qcow2_alloc.proofs.Memory.SafeLaws.{safe-reach}
@@ -197,7 +197,7 @@ module _ {S : Type 0} (state : S → StorageState) (cluster : ℕ) where
           roomy = λ roomy. absurd (omega (arith, roomy, full));
           blocks = ap (λ (c : Cached). c.blocks) kept;
           apart = λ no. ap (λ (m : MetadataCaches S). m.rb) (idle no).0;
-          behind = λ none room. behind-blocks (order_of old) LetsTableIn (state before.image) (state between.image) (state after.image) (cached_in old) (record { tables = old.l2.slots.entries; blocks = mid.rb.slots.entries }) _ (done_of result)
+          behind = λ none room. behind-done (order_of old ≡ L2DependsOnRb) WritesBlocks LetsTableIn (state before.image) (state between.image) (state after.image) (cached_in old) (record { tables = old.l2.slots.entries; blocks = mid.rb.slots.entries }) _ (done_of result)
               (λ no. (ap (λ (f : ImageFile S). state f.image) (idle no).1, sym now ∙ ap (λ (m : MetadataCaches S). cached_in m) (idle no).0))
               (λ is. subst (λ (c : Cached). WritesBlocks (state before.image) (cached_in old) (Ok tt) (state between.image) c) now (did is))
               (refl, table-over old.l2.slots.cap between old.l2.slots.entries result after es' absent full r);
@@ -236,7 +236,7 @@ module _ {S : Type 0} (state : S → StorageState) (cluster : ℕ) where
           roomy = λ roomy. absurd (omega (arith, roomy, full));
           blocks = ap (λ (c : Cached). c.blocks) kept;
           apart = λ no. ap (λ (m : MetadataCaches S). m.rb) (idle no).0;
-          behind = λ none room. behind-refused-blocks (order_of old) LetsTableIn (state before.image) (state between.image) (cached_in old) (cached_in mid) fault some did;
+          behind = λ none room. behind-refused (order_of old ≡ L2DependsOnRb) WritesBlocks LetsTableIn (state before.image) (state between.image) (cached_in old) (cached_in mid) fault some did;
           still = λ clean blocks. absurd (let n = (blocks-idle state old mid before between (Err fault) (order_of old) (λ no. absurd (some no)) did blocks).0 in cc);
           others = (ap (λ (m : MetadataCaches S). m.order) same, header);
           room = record { tables = ap (λ (m : MetadataCaches S). m.l2.slots.cap) same; blocks = cap };
