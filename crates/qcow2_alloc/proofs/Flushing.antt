@@ -4,6 +4,7 @@ pub mod WritingTables
 pub mod WritingBlocks
 pub mod Going
 pub mod Faultless
+pub mod FlushingEntries
 pub mod FlushingTables
 pub mod FlushingBlocks
 pub mod Announcing

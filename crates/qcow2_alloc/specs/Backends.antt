@@ -1,5 +1,5 @@
 -- What loads and flushes of cached tables and blocks do to the image file.
-use Rattle.std.specs.Prelude.{◌≡◌, ℕ, ◌*◌, ◌^◌, ◌<◌, ◌≤◌, slice_index, true, false, Some, List, Result, Ok, Err, OnOk, OnErr, IfOk, IfErr}
+use Rattle.std.specs.Prelude.{◌≡◌, ℕ, ◌*◌, ◌^◌, ◌<◌, ◌≤◌, slice_index, Bool, true, false, Some, List, Result, Ok, Err, OnOk, OnErr, IfOk, IfErr}
 use Rattle.imago_storage.specs.State.{StorageState}
 use Rattle.imago_storage.specs.Calls.{CountsFaults, Kept}
 use Rattle.imago_storage.specs.Through.{PutAtOnce}
@@ -37,24 +37,44 @@ pub record BlockLoaded (h : Fields) (key : ℕ) (old : StorageState) (result : R
   pub later : old.faults ≤ new.faults
   pub faults : OnOk result (new.faults ≡ old.faults)
 
--- An L2 table was written to its cluster, by one request, where it was modified.
-pub record TableFlushed (key : ℕ) (table : TableValue) (old : StorageState) (result : Result Unit Fault) (new : StorageState)
-    (table' : TableValue) : Type 0 where
-  pub clean : table.modified ≡ false → (result ≡ Ok tt) × (new ≡ old) × (table' ≡ table)
-  pub out : table.modified ≡ true → (IsInReach table.layout.cluster_bits key → ⊥) → (result ≡ Err DamagedTable) × (new ≡ old)
-      × (table' ≡ table)
-  pub written : table.modified ≡ true → IsInReach table.layout.cluster_bits key
-      → PutAtOnce old new (key * 2 ^ table.layout.cluster_bits) (table_bytes table.words) result
-  pub ok : table.modified ≡ true → OnOk result (table' ≡ record table { cluster = Some key; modified = false })
-  pub err : table.modified ≡ true → IsInReach table.layout.cluster_bits key
-      → OnErr result (table' ≡ record table { cluster = Some key; modified = true })
+-- What is written of a kind of cached entries: the size of its cluster, whether it was modified, what it is once that is settled or was refused,
+-- and the request.
+pub record WrittenKind (V : Type 0) : Type 1 where
+  pub cluster_bits : V → ℕ
+  pub modified : V → Bool
+  pub marked : V → ℕ → Bool → V
+  pub Puts : V → ℕ → StorageState → StorageState → Result Unit Fault → Type 0
 
--- the same of a block
-pub record BlockFlushed (key : ℕ) (block : Block) (old : StorageState) (result : Result Unit Fault) (new : StorageState)
-    (block' : Block) : Type 0 where
-  pub clean : block.modified ≡ false → (result ≡ Ok tt) × (new ≡ old) × (block' ≡ block)
-  pub out : block.modified ≡ true → (IsInReach block.cluster_bits key → ⊥) → (result ≡ Err DamagedTable) × (new ≡ old) × (block' ≡ block)
-  pub written : block.modified ≡ true → IsInReach block.cluster_bits key → BlockPut block (key * 2 ^ block.cluster_bits) old new result
-  pub ok : block.modified ≡ true → OnOk result (block' ≡ record block { cluster = Some key; modified = false })
-  pub err : block.modified ≡ true → IsInReach block.cluster_bits key
-      → OnErr result (block' ≡ record block { cluster = Some key; modified = true })
+-- One was written to its cluster, by one request, where it was modified.
+pub record Flushed {V : Type 0} (kind : WrittenKind V) (key : ℕ) (v : V) (old : StorageState) (result : Result Unit Fault)
+    (new : StorageState) (v' : V) : Type 0 where
+  pub clean : kind.modified v ≡ false → (result ≡ Ok tt) × (new ≡ old) × (v' ≡ v)
+  pub out : kind.modified v ≡ true → (IsInReach (kind.cluster_bits v) key → ⊥) → (result ≡ Err DamagedTable) × (new ≡ old) × (v' ≡ v)
+  pub written : kind.modified v ≡ true → IsInReach (kind.cluster_bits v) key
+      → kind.Puts v (key * 2 ^ kind.cluster_bits v) old new result
+  pub ok : kind.modified v ≡ true → OnOk result (v' ≡ kind.marked v key false)
+  pub err : kind.modified v ≡ true → IsInReach (kind.cluster_bits v) key → OnErr result (v' ≡ kind.marked v key true)
+
+abbrev pub written_tables : WrittenKind TableValue
+written_tables = record {
+  cluster_bits = λ t. t.layout.cluster_bits;
+  modified = λ t. t.modified;
+  marked = λ t key modified. record t { cluster = Some key; modified = modified };
+  Puts = λ t place old new result. PutAtOnce old new place (table_bytes t.words) result;
+}
+
+abbrev pub written_blocks : WrittenKind Block
+written_blocks = record {
+  cluster_bits = λ b. b.cluster_bits;
+  modified = λ b. b.modified;
+  marked = λ b key modified. record b { cluster = Some key; modified = modified };
+  Puts = λ b place old new result. BlockPut b place old new result;
+}
+
+-- So is an L2 table,
+abbrev pub TableFlushed : ℕ → TableValue → StorageState → Result Unit Fault → StorageState → TableValue → Type 0
+TableFlushed = Flushed written_tables
+
+-- and so is a block.
+abbrev pub BlockFlushed : ℕ → Block → StorageState → Result Unit Fault → StorageState → Block → Type 0
+BlockFlushed = Flushed written_blocks

@@ -23,7 +23,7 @@ use Rattle.qcow2_alloc.specs.Memory.{Cached}
 use Rattle.qcow2_alloc.specs.Going.{Going, ReadyBlocks, WasNotCutOff}
 use Rattle.qcow2_alloc.specs.CachesLending.{block_loads, block_flushes}
 use Rattle.qcow2_alloc.specs.declared.file.ImageFile.{ImageFile}
-use Rattle.qcow2_alloc.proofs.Flushing.FlushingBlocks.{block-flushed-whole, flushed-clean}
+use Rattle.qcow2_alloc.proofs.Flushing.FlushingBlocks.{block-flushed, flushed-clean}
 use Rattle.qcow2_alloc.proofs.Flushing.Faultless.{never-mild}
 use Rattle.qcow2_alloc.proofs.Caching.FindingTables.{going-quiet, kept-same}
 
@@ -92,7 +92,7 @@ blocks_behind state H order tables = record {
   flushes = block_flushes state;
   clean = λ t. t.modified ≡ false;
   cleaned = λ old new key v v' flush. flushed-clean key v (state old.image) (state new.image) v' flush.1;
-  flushed = λ front key slot back old new result value flush. block-flushed-whole H order tables front key slot back (state old.image) (state new.image) result value flush.1;
+  flushed = λ front key slot back old new result value flush. (block-flushed H order tables front key slot back (state old.image) (state new.image) result value flush.1).1;
   leaves = λ front key slot back s clean. block-leaves-quietly state H order (ReadyBlocks order) tables (λ A B r. r) front key slot back s clean;
   fits = λ old new key v v' result flush same. flush.0 ∙ same;
 }

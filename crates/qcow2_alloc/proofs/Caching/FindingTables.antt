@@ -30,7 +30,7 @@ use Rattle.qcow2_alloc.specs.Going.{Going, ReadyTables}
 use Rattle.qcow2_alloc.specs.CachesLending.{table_loads, table_flushes}
 use Rattle.qcow2_alloc.specs.Going.{IsMild, WasNotCutOff}
 use Rattle.qcow2_alloc.specs.declared.file.ImageFile.{ImageFile}
-use Rattle.qcow2_alloc.proofs.Flushing.FlushingTables.{table-flushed-whole, flushed-clean}
+use Rattle.qcow2_alloc.proofs.Flushing.FlushingTables.{table-flushed, flushed-clean}
 use Rattle.qcow2_alloc.proofs.Flushing.Going.{left-same}
 
 pub kept-same : (s : StorageState) → Kept s s
@@ -134,7 +134,7 @@ tables_behind state H order blocks = record {
   flushes = table_flushes state;
   clean = λ t. t.modified ≡ false;
   cleaned = λ old new key v v' flush. flushed-clean key v (state old.image) (state new.image) v' flush.1;
-  flushed = λ front key slot back old new result value flush. table-flushed-whole H order front key slot back blocks (state old.image) (state new.image) result value flush.1;
+  flushed = λ front key slot back old new result value flush. (table-flushed H order front key slot back blocks (state old.image) (state new.image) result value flush.1).1;
   leaves = λ front key slot back s clean. table-leaves-quietly state H order (ReadyTables order) blocks (λ A B r. r) front key slot back s clean;
   fits = λ old new key v v' result flush same. flush.0 ∙ same;
 }

@@ -29,7 +29,7 @@ use Rattle.qcow2_alloc.proofs.Flushing.Counting.{block-counted}
 use Rattle.qcow2_alloc.proofs.Caching.Entering.{away-of, block-leaves, block-leaves-safe, block-comes, block-comes-safe}
 use Rattle.qcow2_alloc.proofs.Caching.FindingBlocks.{blocks_behind}
 use Rattle.qcow2_alloc.proofs.Caching.FindingTables.{going-quiet, kept-same}
-use Rattle.qcow2_alloc.proofs.Flushing.FlushingTables.{done_so}
+use Rattle.qcow2_alloc.proofs.Flushing.FlushingEntries.{done_so}
 use Rattle.qcow2_alloc.proofs.Flushing.Going.{going-none, going-under, going-safely}
 use Rattle.qcow2_alloc.proofs.Caching.Inserting.{put_of, IsBarred, inserted-put, inserted-counted, inserted-related, never-barred, put-then, way-flushed, way-barred, inserted-lets-in, inserted-barred, quiet, put-back}
 use Rattle.qcow2_alloc.proofs.Caching.Kinds.{NewEntry}

@@ -28,7 +28,7 @@ use Rattle.qcow2_alloc.specs.Safety.{Safe, IsLeft, IsCachedTable}
 use Rattle.qcow2_alloc.proofs.Flushing.Counting.{table-counted}
 use Rattle.qcow2_alloc.proofs.Caching.Entering.{away-of, table-leaves, table-leaves-safe, table-comes, table-comes-safe}
 use Rattle.qcow2_alloc.proofs.Caching.FindingTables.{going-quiet, kept-same, tables_behind}
-use Rattle.qcow2_alloc.proofs.Flushing.FlushingTables.{done_so}
+use Rattle.qcow2_alloc.proofs.Flushing.FlushingEntries.{done_so}
 use Rattle.qcow2_alloc.proofs.Flushing.Going.{going-none, going-under, going-safely}
 use Rattle.qcow2_alloc.proofs.Caching.Inserting.{put_of, IsBarred, inserted-put, inserted-counted, inserted-related, never-barred, put-then, way-flushed, way-barred, inserted-lets-in, inserted-barred, quiet, put-back}
 use Rattle.qcow2_alloc.proofs.Caching.Kinds.{NewEntry}

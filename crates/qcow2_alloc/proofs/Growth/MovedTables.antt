@@ -29,7 +29,7 @@ use Rattle.qcow2_alloc.specs.MakingRoom.{run_of, rank, CountsTheSame, IsGrownTab
 use Rattle.qcow2_alloc.specs.MovingTables.{IsGrownCopy, HasRoomFor, IsTaken}
 use Rattle.qcow2_alloc.specs.Quiet.{Metadata, counted, named_at_all, waiting, IsUsed, IsSound, IsIn, Quietly}
 use Rattle.qcow2_alloc.proofs.Growth.FindingRoom.{rank-stays, lacks-inside}
-use Rattle.qcow2_alloc.proofs.Flushing.FlushingTables.{spliced-bytes}
+use Rattle.qcow2_alloc.proofs.Flushing.FlushingEntries.{spliced-bytes}
 use Rattle.qcow2_alloc.proofs.Memory.FreeRuns.{run-quietly, run-counts, put-outside}
 use Rattle.qcow2_alloc.proofs.Growth.GrownTables.{grown-ready, covers-before}
 use Rattle.qcow2_alloc.proofs.Blocks.CountingRuns.{covers-behind}

@@ -26,7 +26,7 @@ returns-clause-going g c =
     let state = g.S.Storage.state in
     going-weaker H order (ReadyTables order) (fault_of c.flush.result ≡ None) (c.flush.result ≡ Ok tt) _ _ _ _ (λ done. ap fault_of done)
     (each-flushed (λ d. state d.image) _ H order (ReadyTables order) (λ l. record { tables = l; blocks = blocks })
-    (λ front key slot back old new result value flush. table-flushed H order front key slot back blocks (state old.image) (state new.image) result value flush.1)
+    (λ front key slot back old new result value flush. (table-flushed H order front key slot back blocks (state old.image) (state new.image) result value flush.1).0)
     c.args.self.now.l2.slots.entries c.args.file.now (fault_of c.flush.result) c.flush.new.device c.flush.new.self.slots.entries c.flush.ensures.flushed)
 
 pub returns-clause-clean : goal.returns-clause-clean
