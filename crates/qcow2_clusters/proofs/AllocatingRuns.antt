@@ -16,6 +16,7 @@ use Rattle.qcow2_alloc.specs.Going.{IsMild, WasNotCutOff}
 use Rattle.qcow2_alloc.specs.HandingOut.{AllocatesClusters}
 use Rattle.qcow2_alloc.specs.MakingRoom.{run_of}
 use Rattle.qcow2_alloc.specs.FreeList.{covers}
+use Rattle.qcow2_alloc.specs.Freeing.{IsMarked}
 use Rattle.qcow2_alloc.specs.Quiet.{IsUsed, Quietly, counted}
 use Rattle.qcow2_alloc.specs.ReadyingRuns.{IsRunTold}
 use Rattle.qcow2_alloc.specs.ReadyingRuns.{handed_by as handed_out}
@@ -27,7 +28,7 @@ use Rattle.qcow2_clusters.specs.Room.{IsFull, LeavesRoom, mark_in}
 use Rattle.qcow2_clusters.specs.Settling.{AreUnpinned}
 use Rattle.qcow2_clusters.specs.Storing.{AreReserved, StoresRunUnsettled, WhyNotAllocated}
 use Rattle.qcow2_clusters.proofs.Ending.{begun, begun-then, ready-kept}
-use Rattle.qcow2_clusters.proofs.LeavingRoom.{allocation-leaves, crowded-there, why-as}
+use Rattle.qcow2_clusters.proofs.LeavingRoom.{allocation-leaves, crowded-there, marked-as, why-as}
 use Rattle.qcow2_clusters.proofs.Resting.{begun-counts, begun-quiet, empty-loose, loose-unpinned}
 
 -- why no cluster was handed out, where the caches have room to spare
@@ -65,6 +66,12 @@ module _ {S : Type 0} (state : S → StorageState) (c : Clusters S) (empty : Are
 
     pub run-bits : mid.file.header.fields.cluster_bits ≡ c.file.header.fields.cluster_bits
     run-bits = ap (λ (H : Header). H.fields.cluster_bits) a.shape.moved.2
+
+    -- No cluster before the mark is free, where none was.
+    pub run-marked : IsReady state c → WasNotCutOff result → IsMarked (resting state c) (mark_in c) → IsMarked (changed state mid) (mark_in mid)
+    run-marked ready whole marked =
+        let kept = ready-kept state c empty ready in
+        a.marked kept.0 kept.1 whole (marked-as (resting state c) (changed state c) (mark_in c) (begun-counts state c empty) marked)
 
     handed-quietly : Quietly (WasNotCutOff result) (handed_out result a.leaked) (λ _. 0) (storage state c) (resting state c) (storage state mid) (changed state mid)
     handed-quietly = begun-then state c empty (WasNotCutOff result) (handed_out result a.leaked) (storage state mid) (changed state mid) a.quiet
@@ -106,6 +113,7 @@ module _ {S : Type 0} (state : S → StorageState) (c : Clusters S) (empty : Are
       reserved = λ ready. tt;
       stored = λ ready. tt;
       leaves = λ ready. tt;
+      marked = run-marked (Err fault) a;
       cause = why-as (IsReady state c) (IsReady state c) asked-full (IsFull n (resting state c) (mark_in c) (changed state mid) (mark_in mid)) (λ ready. ready)
           (storage state c).faults (storage state mid).faults fault full-there
           (why-allocated (IsKept state (begun c)) (IsReady state c) (IsLoose (table_of c.space.allocator) c.caches) asked-full (ready-kept state c empty) loose

@@ -41,6 +41,7 @@ use Rattle.qcow2_clusters.proofs.Adding.{AdvancesBy, IsWider, progresses-in-memo
 use Rattle.qcow2_clusters.proofs.LeavingRoom.{leaves-as}
 use Rattle.qcow2_clusters.proofs.MakingTables.{IsKept, held-aside, if-refused, kept-itself, narrowed, not-begun, why-put, why-wider, with_held}
 use Rattle.qcow2_clusters.proofs.NamingTables.{bytes-mean, from-zero, l1-table, l1-word, zeroes-map}
+use Rattle.qcow2_alloc.specs.Freeing.{IsMarked}
 
 pub none-found : (found : Option ℕ) → ((t : ℕ) → found ≡ Some t → ⊥) → found ≡ None
 none-found None none = refl
@@ -246,6 +247,7 @@ module _ {S : Type 0} (state : S → StorageState) (l1 : TableValue) (i : ℕ) (
         copied = λ ready has. places.named.copied ready (copied-content has);
         leaves = λ ready has. leaves-as (room_for h' 1) m m m1 (resting state c2) (mark_in c) (mark_in c1) refl (λ d. refl) refl (λ d. refl)
             (places.named.leaves ready (copied-content has));
+        marked = λ has. places.named.marked (copied-content has);
         cause = tt;
       };
       held = let more = places.held in omega (arith, one-less, more);
@@ -320,6 +322,8 @@ module _ {S : Type 0} (state : S → StorageState) (c : Clusters S) (file : Imag
           (copies.named.copied (ready-behind ready) (table-behind has));
       leaves = λ ready has. before (λ s H. OnOk result (LeavesRoom (room_for H.fields 1) (at_rest s H) (mark_in c) (resting state c') (mark_in c')))
           (copies.named.leaves (ready-behind ready) (table-behind has));
+      marked = λ has ready whole. before (λ s H. IsMarked (at_rest s H) (mark_in c) → IsMarked (resting state c') (mark_in c'))
+          (copies.named.marked (table-behind has) (ready-behind ready) whole);
       cause = before (λ s H. IfErr result (WhyNotAllocated (IsReady state c × HasTable state l1 i c)
           (IsFull 1 (at_rest s H) (mark_in c) (resting state c') (mark_in c')) s.faults (storage state c').faults))
           (if-refused result _ _ (λ fault. why-wider (IsReady state cr × HasTable state l1 i cr) (IsReady state c × HasTable state l1 i c)

@@ -27,6 +27,10 @@ use Rattle.qcow2_clusters.specs.Filling.{Fills, filling}
 use Rattle.qcow2_clusters.specs.Rest.{AreEmpty, Clusters, lent, resting, storage}
 use Rattle.qcow2_clusters.proofs.Adding.{AdvancesBy}
 use Rattle.qcow2_clusters.proofs.Resting.{l1-stays}
+use Rattle.qcow2_alloc.specs.Freeing.{IsMarked}
+use Rattle.qcow2_clusters.specs.Room.{mark_in}
+use Rattle.qcow2_clusters.proofs.LeavingRoom.{marked-as}
+use Rattle.qcow2_steps.proofs.DataRuns.{beside-words}
 
 -- Where no change was refused the file is still what a stop leaves.
 put-in-step : (s t : StorageState) (place : ℕ) (bytes : List ℕ) (r : Result Unit Fault)
@@ -98,6 +102,10 @@ module _ {S : Type 0} (state : S → StorageState) (guest x : ℕ) (content : Li
       kept-there : IsKeptFor (resting state c') guest x
       kept-there = subst (λ k. IsKeptFor k guest x) same-image (kept-stays m x 0 (x * cluster_size h) (length content) guest x there.file sound written kept)
 
+      marked-there : (mark : ℕ) → IsMarked m mark → IsMarked (resting state c') mark
+      marked-there mark marked = subst (λ k. IsMarked k mark) same-image
+          (marked-as m there mark (beside-words m sound x 0 (x * cluster_size h) (length content) there.file written).counts marked)
+
       l1-word : (i : ℕ) → i < h.l1_entries → word there.file h.l1_offset i ≡ word m.file h.l1_offset i
       l1-word i lt =
           (run-written m.file m.header sound.safe.consistent x 0 written.apart there.file (x * cluster_size h) (length content) written.outside written.low written.high).kept.l1 i lt (λ e. cc)
@@ -145,6 +153,7 @@ module _ {S : Type 0} (state : S → StorageState) (guest x : ℕ) (content : Li
     };
     header = header;
     l1 = λ kept ready whole. l1-there ready.sound kept ready.keeps whole;
+    marked = λ kept ready whole. marked-there ready.sound kept ready.keeps whole (mark_in c);
     kept = λ ready kept. on-whole (IsKeptFor (resting state c') guest x) (kept-there ready.sound kept ready.keeps);
     stored = bytes-there result put.answer;
     cause = why-not result put.answer;

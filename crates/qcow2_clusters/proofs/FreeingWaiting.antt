@@ -1,15 +1,15 @@
 -- What waits is freed, and that is settled.
-use Rattle.std.proofs.Common.{◌≡◌, ℕ, ◌≤◌, [], refl, ◌∙◌, inl, Result, Ok, Err}
+use Rattle.std.proofs.Common.{◌≡◌, ℕ, ◌≤◌, [], refl, subst, ◌∙◌, inl, inr, Result, Ok, Err}
 use Rattle.std.specs.Prelude.{IfErr, OnOk}
 use Rattle.imago_storage.specs.State.{StorageState}
 use Rattle.imago_storage.specs.declared.fault.Fault.{Fault}
 use Rattle.imago_storage.specs.declared.fault.Fault.TheVariants.{CacheFull, Counter, DamagedTable, Memory, Storage}
-use Rattle.imago_storage.proofs.Composing.{rose_behind}
+use Rattle.imago_storage.proofs.Composing.{rose_behind, keeps_on}
 use Rattle.qcow2_alloc.specs.declared.cache.MetadataCaches.{MetadataCaches}
 use Rattle.qcow2_alloc.specs.declared.file.ImageFile.{ImageFile}
 use Rattle.qcow2_alloc.specs.Allocators.{table_of}
 use Rattle.qcow2_alloc.specs.Caches.{cached_in}
-use Rattle.qcow2_alloc.specs.Freeing.{CountsFreeing, Frees, HasSpareRoom, IsWholeOrCalm}
+use Rattle.qcow2_alloc.specs.Freeing.{CountsFreeing, Frees, HasSpareRoom, IsWholeOrCalm, IsMarked}
 use Rattle.qcow2_alloc.specs.Freeing.{WhyNotFreed as WhyNotCountedDown}
 use Rattle.qcow2_alloc.specs.Going.{AreBlocksInReach, AreTablesInReach, WasNotCutOff}
 use Rattle.qcow2_alloc.specs.Quiet.{Quietly}
@@ -20,8 +20,10 @@ use Rattle.qcow2_clusters.specs.Freeing.{FreesWaiting, WhyNotFreed}
 use Rattle.qcow2_clusters.specs.Rest.{AreEmpty, Clusters, HasEntries, IsReady, changed, lent, resting, storage}
 use Rattle.qcow2_clusters.specs.Settling.{Settles, WhyNotSettled}
 use Rattle.qcow2_clusters.proofs.Adding.{quiet-progresses}
-use Rattle.qcow2_clusters.proofs.Ending.{begun, begun-then, ready-kept, settled-cause, settled-faultless, settled-ok, settled-quietly}
-use Rattle.qcow2_clusters.proofs.Resting.{empty-loose, l1-kept}
+use Rattle.qcow2_clusters.proofs.Ending.{begun, begun-then, ready-kept, settled-cause, settled-faultless, settled-ok, settled-quietly, settled-cases}
+use Rattle.qcow2_clusters.proofs.Resting.{empty-loose, l1-kept, begun-counts}
+use Rattle.qcow2_clusters.proofs.LeavingRoom.{marked-as}
+use Rattle.qcow2_clusters.specs.Room.{mark_in}
 
 -- why what waits wasn't counted down
 why-freed : (sound ready loose : Type 0) → (ready → sound) → loose → (before after : ℕ) (fault : Fault) → WhyNotCountedDown sound loose before after fault → WhyNotFreed ready before after fault
@@ -39,8 +41,8 @@ why-flushed reach ready is before mid after later Storage why = rose_behind befo
 why-flushed reach ready is before mid after later DamagedTable why = λ here. why (is here)
 why-flushed reach ready is before mid after later _ why = absurd why
 
-module _ {S : Type 0} (state : S → StorageState) (c : Clusters S) (empty : AreEmpty c.caches) (room : HasEntries c.caches) (mark : ℕ) (mid : Clusters S) (mark' : ℕ)
-    (freed : Result Unit Fault) (frees : Frees state mark (begun c) freed (begun mid) mark')
+module _ {S : Type 0} (state : S → StorageState) (c : Clusters S) (empty : AreEmpty c.caches) (room : HasEntries c.caches) (mid : Clusters S)
+    (freed : Result Unit Fault) (frees : Frees state (mark_in c) (begun c) freed (begun mid) (mark_in mid))
     (result : Result Unit Fault) (after : ImageFile S) (new : MetadataCaches S) (settles : Settles state freed mid.file mid.caches result after new) where
   abbrev c' : Clusters S
   c' = lent after new mid.space
@@ -53,6 +55,19 @@ module _ {S : Type 0} (state : S → StorageState) (c : Clusters S) (empty : Are
 
   all-quietly : Quietly (WasNotCutOff result) (λ _. 0) (λ _. 0) (storage state c) (resting state c) (storage state c') (resting state c')
   all-quietly = settled-quietly state freed mid.file mid.caches result after new settles (table_of mid.space.allocator) mid.space.to_free.entries (storage state c) (resting state c) (λ _. 0) freed-quietly
+
+  -- No cluster before the mark is free then, where none was.
+  marked-there : IsReady state c → WasNotCutOff result → IsMarked (resting state c) (mark_in c) → IsMarked (resting state c') (mark_in mid)
+  marked-there ready done marked =
+      let kept = ready-kept state c empty ready in
+      let whole : WasNotCutOff freed = elim (settled-cases state freed mid.file mid.caches result after new settles) [
+        | inl same ↦ subst (λ (r : Result Unit Fault). WasNotCutOff r) same done
+        | inr refused ↦ refused.0
+      ] in
+      marked-as (changed state mid) (resting state c') (mark_in mid)
+      (settles.counts (table_of mid.space.allocator) mid.space.to_free.entries (keeps_on (storage state c) (storage state mid) freed-quietly.shape ready.keeps)
+      (freed-quietly.holds ready.keeps ready.sound whole).0 done)
+      (frees.marked kept.0 kept.1 (inl whole) (marked-as (resting state c) (changed state c) (mark_in c) (begun-counts state c empty) marked))
 
   first-cause : (r : Result Unit Fault) → CountsFreeing (IsKept state (begun c)) (HasSpareRoom c.caches) (storage state c).faults (storage state mid).faults r
       → IfErr r (WhyNotFreed (IsReady state c) (storage state c).faults (storage state mid).faults)
@@ -84,5 +99,6 @@ module _ {S : Type 0} (state : S → StorageState) (c : Clusters S) (empty : Are
     l1 = l1-kept state c result c' (λ _. 0) (λ _. 0) all-quietly;
     emptied = settled-ok state freed mid.file mid.caches result after new settles (mid.space.to_free.entries ≡ []) emptied;
     header = settles.header ∙ frees.header;
+    marked = marked-there;
     cause = settled-cause state freed mid.file mid.caches result after new settles (WhyNotFreed (IsReady state c) (storage state c).faults) (first-cause freed frees.cause) flush-cause;
   }

@@ -18,6 +18,7 @@ use Rattle.qcow2_alloc.specs.SearchingClusters.{IsFirstRun}
 use Rattle.qcow2_alloc.proofs.Handing.AnnouncedOrders.{no-place-as}
 use Rattle.qcow2_clusters.specs.Room.{HasFreeClusters, IsFull, LeavesRoom}
 use Rattle.qcow2_clusters.specs.Storing.{WhyNotAllocated}
+use Rattle.qcow2_alloc.specs.Freeing.{IsMarked}
 
 -- A cause stays one where less is ready, and what tells that there is no place may be said otherwise.
 pub why-as : (ready less : Type 0) (full full' : ℕ → Type 0) → (less → ready) → (before after : ℕ) (fault : Fault)
@@ -29,6 +30,10 @@ why-as ready less full full' from before after (Limit number) told why = λ is. 
 why-as ready less full full' from before after DamagedTable told why = λ is. why (from is)
 why-as ready less full full' from before after Counter told why = λ is. why (from is)
 why-as ready less full full' from before after _ told why = absurd why
+
+-- The same clusters are marked where as much is counted.
+pub marked-as : (m m' : Metadata) (mark : ℕ) → ((c : ℕ) → counted m' c ≡ counted m c) → IsMarked m mark → IsMarked m' mark
+marked-as m m' mark same marked c below = subst (λ n. 0 < n) (sym (same c)) (marked c below)
 
 -- As much is free where as much is counted.
 pub room-as : (m m' : Metadata) (mark total : ℕ) → space m'.header.fields ≡ space m.header.fields → ((c : ℕ) → counted m' c ≡ counted m c)

@@ -46,11 +46,12 @@ use Rattle.qcow2_clusters.specs.Room.{IsFull, LeavesRoom, mark_in}
 use Rattle.qcow2_clusters.specs.declared.space.Space.{Space}
 use Rattle.qcow2_clusters.specs.Storing.{AreReserved, StoresRun, WhyNotAllocated, run_handed_by}
 use Rattle.qcow2_clusters.proofs.Adding.{AdvancesBy, progresses-halted, progresses-in-memory, progresses-otherwise, progresses-then-given, progresses-weaker, quiet-progresses, wider-both, wider-handing}
-use Rattle.qcow2_clusters.proofs.LeavingRoom.{leaves-as, why-as}
+use Rattle.qcow2_clusters.proofs.LeavingRoom.{leaves-as, marked-as, why-as}
 use Rattle.qcow2_clusters.proofs.LongerTables.{IsStoredL1, later, part-meets, stored-advances, stored-counts, stored-entered, stored-unnamed}
 use Rattle.qcow2_clusters.proofs.MakingTables.{l1-placed, once-progresses, why-put}
 use Rattle.qcow2_clusters.proofs.NamingTables.{l1-long, l1-same}
 use Rattle.qcow2_clusters.proofs.Resting.{begun-quiet, begun-quietly}
+use Rattle.qcow2_alloc.specs.Freeing.{IsMarked}
 
 -- Words take clusters, and fit them.
 taken-by : (h : Fields) (n : ℕ) → 8 * n + (cluster_size h - 1) < clusters_for h n * cluster_size h + cluster_size h
@@ -118,6 +119,7 @@ module _ {S : Type 0} (state : S → StorageState) (top : TableValue) (i : ℕ) 
     waits = λ asked. tt;
     far = λ ready asked long. ap (λ (f : Fault). Err f) (far ready asked long);
     leaves = λ ready asked. tt;
+    marked = λ asked ready whole marked. marked;
     cause = why;
   }
 
@@ -152,6 +154,7 @@ module _ {S : Type 0} (state : S → StorageState) (top : TableValue) (i : ℕ) 
     waits = λ asked. tt;
     far = λ ready asked long. absurd (near long);
     leaves = λ ready asked. tt;
+    marked = λ asked. stores.marked;
     cause = why-as (IsReady state c) (IsReady state c × Asked) (IsFull n (resting state c) (mark_in c) (resting state c1) (mark_in c1))
         (IsTooLong state top i c c1) (λ both. both.0) (storage state c).faults (storage state c1).faults fault
         (λ number at is full. inr (short-enough i near, subst (λ k. IsFull k (resting state c) (mark_in c) (resting state c1) (mark_in c1) number) taken full))
@@ -336,6 +339,7 @@ module _ {S : Type 0} (state : S → StorageState) (top placed grown : TableValu
       waits = λ asked. tt;
       far = λ ready asked long. absurd (near long);
       leaves = λ ready asked. tt;
+      marked = λ asked ready whole. absurd (never whole);
       cause = why-put (IsReady state c × Given) (IsTooLong state top i c (lent file c1.caches space)) (storage state c).faults (storage state c1).faults (state file.image).faults fault (stores.rests.faults tt).0
           (cause-of answer names.put refused);
     }
@@ -438,6 +442,10 @@ module _ {S : Type 0} (state : S → StorageState) (top placed grown : TableValu
         (ap (λ (H : Header). space H.fields) header)
         (λ d. subst (λ (x : Metadata). counted x d ≡ counted m1 d) (sym resting-is) (counts-still ready given d)) (stores.leaves ready))
 
+    marked-there : IsReady state c → Given → IsMarked m (mark_in c) → IsMarked (resting state c2) (mark_in c2)
+    marked-there ready given marked = marked-as m1 (resting state c2) (mark_in c1)
+        (λ d. subst (λ (x : Metadata). counted x d ≡ counted m1 d) (sym resting-is) (counts-still ready given d)) (stores.marked ready tt marked)
+
     abbrev kind : Kind
     kind = lengthening (resting state c) (resting state c2) (Ok tt)
 
@@ -467,5 +475,6 @@ module _ {S : Type 0} (state : S → StorageState) (top placed grown : TableValu
       waits = λ given. (c1.space.to_free.entries, ap (λ (l : List FreeEntry). c1.space.to_free.entries ++ l) (waits-is given));
       far = λ ready asked long. absurd (near long);
       leaves = λ ready given. (short-enough i near, leaves-there ready given);
+      marked = λ given ready whole. marked-there ready given;
       cause = tt;
     }

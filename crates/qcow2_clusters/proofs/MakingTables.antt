@@ -35,8 +35,9 @@ use Rattle.qcow2_clusters.specs.Rest.{AreEmpty, Clusters, IsReady, lent, resting
 use Rattle.qcow2_clusters.specs.Room.{IsFull, LeavesRoom, mark_in}
 use Rattle.qcow2_clusters.specs.Storing.{Stores, WhyNotAllocated, handed_by}
 use Rattle.qcow2_clusters.proofs.Adding.{AdvancesBy, IsWider, LeftBy, progresses-halted, progresses-otherwise, progresses-then-given, progresses-weaker, wider-both, wider-handing}
-use Rattle.qcow2_clusters.proofs.LeavingRoom.{leaves-as, why-as}
+use Rattle.qcow2_clusters.proofs.LeavingRoom.{leaves-as, marked-as, why-as}
 use Rattle.qcow2_clusters.proofs.NamingTables.{IsReplacement, bytes-mean, from-zero, l1-moved, l1-same, l1-table, naming_word, replaced-advances, replaced-copied, replaced-counts, replaced-entered, replaced-named, replaced-unnamed, resting-memory, slots-kept}
+use Rattle.qcow2_alloc.specs.Freeing.{IsMarked}
 
 -- By one request the image comes to be what its file then makes it.
 module _ (m : Metadata) (kind : Kind) (at : ℕ) (bytes : List ℕ) (some : 0 < length bytes) (old new : StorageState) (is_in : IsIn old m) (H' : Header)
@@ -142,6 +143,7 @@ not-begun {S} state asked kind i c fault top' c' empty is never faultless why = 
   there = λ ready asks. tt;
   copied = λ ready asks. tt;
   leaves = λ ready asks. tt;
+  marked = λ asks ready whole. absurd (never ready asks whole);
   cause = why;
 }
 
@@ -160,6 +162,7 @@ narrowed state asked asked' kind kind' i c result top' c' from wider same spared
   there = λ ready asks. named.there ready (from asks);
   copied = λ ready asks. named.copied ready (from asks);
   leaves = λ ready asks. named.leaves ready (from asks);
+  marked = λ asks. named.marked (from asks);
   cause = if-refused result _ _ (λ fault. why-wider (IsReady state c × asked) (IsReady state c × asked')
       (IsFull 1 (resting state c) (mark_in c) (resting state c') (mark_in c')) (λ both. (both.0, from both.1))
       (storage state c).faults (storage state c').faults fault) named.cause;
@@ -187,6 +190,7 @@ held-aside state asked kind i c result top' c' n named = record {
   there = named.there;
   copied = named.copied;
   leaves = named.leaves;
+  marked = named.marked;
   cause = named.cause;
 }
 
@@ -238,6 +242,7 @@ module _ {S : Type 0} (state : S → StorageState) (content : List ℕ) (l1 : Ta
       there = λ ready asked. tt;
       copied = λ ready asked. tt;
       leaves = λ ready asked. tt;
+      marked = λ asked. stores.marked;
       cause = why-wider (IsReady state c) (IsReady state c × Asked) (IsFull 1 (resting state c) (mark_in c) (resting state c1) (mark_in c1))
           (λ both. both.0) (storage state c).faults (storage state c1).faults fault stores.cause;
     };
@@ -423,6 +428,10 @@ module _ {S : Type 0} (state : S → StorageState) (content : List ℕ) (l1 : Ta
         (leaves-as (room_for h 1) m m m1 (resting state c2) (mark_in c) (mark_in c1) refl (λ d. refl)
         (ap (λ (H : Header). space H.fields) left.header) counts-still (stores.leaves ready))
 
+    marked-there : IsMarked m (mark_in c) → IsMarked (resting state c2) (mark_in c2)
+    marked-there marked = subst (IsMarked (resting state c2)) (sym (ap mark_of left.allocator))
+        (marked-as m1 (resting state c2) (mark_in c1) counts-still (stores.marked ready tt marked))
+
   empty-still : AreEmpty c2.caches
   empty-still = subst (λ (caches : MetadataCaches S). AreEmpty caches) (sym left.caches) stores.rests.empty
 
@@ -460,6 +469,7 @@ module _ {S : Type 0} (state : S → StorageState) (content : List ℕ) (l1 : Ta
       there = λ ready given. (stores.named.0, named done ready given);
       copied = λ ready given. marked done ready given;
       leaves = leaves-there done;
+      marked = λ given ready whole. marked-there done ready given;
       cause = tt;
     };
     held = held ∙ stores.held;
@@ -486,6 +496,7 @@ module _ {S : Type 0} (state : S → StorageState) (content : List ℕ) (l1 : Ta
       there = λ ready given. tt;
       copied = λ ready given. tt;
       leaves = λ ready given. tt;
+      marked = λ given ready whole. absurd (never whole);
       cause = why-put (IsReady state c × Given) (IsFull 1 (resting state c) (mark_in c) (resting state c2) (mark_in c2))
           (storage state c).faults (storage state c1).faults (storage state c2).faults fault (stores.rests.faults tt).0
           (cause-of answer put refused);

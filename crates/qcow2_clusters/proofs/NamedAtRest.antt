@@ -17,13 +17,13 @@ use Rattle.qcow2_metadata.specs.Places.{IsInReach}
 use Rattle.qcow2_metadata.specs.Tables.{TableValue, table_in}
 use Rattle.qcow2_alloc.specs.declared.cache.MetadataCaches.{MetadataCaches}
 use Rattle.qcow2_alloc.specs.declared.file.ImageFile.{ImageFile}
-use Rattle.qcow2_alloc.specs.Allocators.{TableUsed, UsesTable, metadata_of, table_of}
+use Rattle.qcow2_alloc.specs.Allocators.{TableUsed, UsesTable, metadata_of, table_of, mark_of}
 use Rattle.qcow2_alloc.specs.Caches.{HasRoomOf, cached_in, order_of, cached_file}
 use Rattle.qcow2_alloc.specs.Finding.{TableFound, WhyNotFound}
 use Rattle.qcow2_alloc.specs.Going.{AreBlocksInReach, AreTablesInReach, IsMild, WasNotCutOff}
 use Rattle.qcow2_alloc.specs.Memory.{Cached}
 use Rattle.qcow2_alloc.specs.Opening.{IsL1Of}
-use Rattle.qcow2_alloc.specs.Quiet.{IsQuiet, IsSound, IsUsed, Metadata, Quietly, in_memory}
+use Rattle.qcow2_alloc.specs.Quiet.{IsQuiet, IsSound, IsUsed, Metadata, Quietly, in_memory, counted}
 use Rattle.qcow2_alloc.proofs.Memory.SafeLaws.{clean-memory}
 use Rattle.qcow2_alloc.proofs.Quiet.QuietFlushes.{going-quietly}
 use Rattle.qcow2_alloc.proofs.Quiet.QuietShows.{in-cluster}
@@ -39,6 +39,10 @@ use Rattle.qcow2_clusters.proofs.LoneTables.{found-alone, lone_table, never-full
 use Rattle.qcow2_clusters.proofs.NamedRuns.{Standing, image, stands, words-layout}
 use Rattle.qcow2_clusters.proofs.NamedWords.{table-fine, table-near}
 use Rattle.qcow2_clusters.proofs.Resting.{begun-quietly, l1-stays}
+use Rattle.qcow2_alloc.specs.Freeing.{IsMarked}
+use Rattle.qcow2_clusters.specs.Room.{mark_in}
+use Rattle.qcow2_alloc.proofs.Searching.FreeClusters.{clean-counts}
+use Rattle.qcow2_clusters.proofs.LeavingRoom.{marked-as}
 
 -- Why the search was refused is why the call is: no cache is full.
 why-found : (fine full ready : Type 0) (a b : ℕ) (fault : Fault) → (ready → fine) → (full → ⊥) → WhyNotFound fine full a b fault → WhyNotNamed ready a b fault
@@ -109,6 +113,7 @@ module _ {S : Type 0} (state : S → StorageState) (table guest x n : ℕ) (c c'
     pub waits : Ready → result ≡ Ok tt → c'.space.to_free.entries ≡ c.space.to_free.entries ++ dropped
     pub progress : Ready → Progresses (result ≡ Ok tt) (naming_run m0 guest x n) s0 m0 s2 m2
     pub l1 : Ready → result ≡ Ok tt → (l1 : TableValue) → IsL1Of m0.file c.file.header.fields l1 → IsL1Of m2.file c'.file.header.fields l1
+    pub marked : Ready → result ≡ Ok tt → IsMarked m0 (mark_in c) → IsMarked m2 (mark_in c')
     pub named : Ready → result ≡ Ok tt → (d : ℕ) → d < n → entry m2.file c.file.header.fields (guest + d) ≡ data_at (x + d) true
     pub bytes : Ready → result ≡ Ok tt → (q : ℕ) → x ≤ q / cluster_size c.file.header.fields → q / cluster_size c.file.header.fields < x + n
         → m2.file q ≡ m0.file q
@@ -147,6 +152,7 @@ module _ {S : Type 0} (state : S → StorageState) (table guest x n : ℕ) (c c'
       header = settles.header ∙ begun.header;
       held = begun.held;
       l1 = λ able ready whole. begun.l1 (ready, able) (succeeded begun (ready, able) whole);
+      marked = λ able ready whole. begun.marked (ready, able) (succeeded begun (ready, able) whole);
       waits = λ ready able. on-ok result _ (begun.waits (ready, able));
       named = λ ready able. on-ok result _ (begun.named (ready, able));
       bytes = λ ready able. on-ok result _ (begun.bytes (ready, able));
@@ -210,6 +216,7 @@ module _ {S : Type 0} (state : S → StorageState) (table guest x n : ℕ) (c c'
         waits = λ ready ok. absurd (refused-never ready ok);
         progress = refused-progress;
         l1 = λ ready ok. absurd (refused-never ready ok);
+        marked = λ ready ok. absurd (refused-never ready ok);
         named = λ ready ok. absurd (refused-never ready ok);
         bytes = λ ready ok. absurd (refused-never ready ok);
       }
@@ -271,6 +278,7 @@ module _ {S : Type 0} (state : S → StorageState) (table guest x n : ℕ) (c c'
           waits = λ ready ok. absurd (unput-never ok);
           progress = λ ready. unput-progress;
           l1 = λ ready ok. absurd (unput-never ok);
+          marked = λ ready ok. absurd (unput-never ok);
           named = λ ready ok. absurd (unput-never ok);
           bytes = λ ready ok. absurd (unput-never ok);
         }
@@ -363,6 +371,17 @@ module _ {S : Type 0} (state : S → StorageState) (table guest x n : ℕ) (c c'
               l1-stays m1.file m2.file m1.header m2.header l1 both.1.shows.moved both.1.shows.l1
               (subst (λ (m : Metadata). IsL1Of m.file m.header.fields l1) last-same of)
 
+          -- As much is counted as before: no block is cached.
+          set-counts : result ≡ Ok tt → (d : ℕ) → counted m2 d ≡ counted m0 d
+          set-counts ok d =
+              settles.counts (table_of c'.space.allocator) c'.space.to_free.entries (keeps_on s0 s1 u.found.going.shape ready.0.keeps) set-sound
+              (subst WasNotCutOff (sym ok) tt) d
+              ∙ subst (λ (m : Metadata). counted m d ≡ counted m0 d) last-same
+              (clean-counts at-last stood.step.sound tt d ∙ sym (clean-counts m0 ready.0.sound tt d))
+
+          set-marked : result ≡ Ok tt → IsMarked m0 (mark_in c) → IsMarked m2 (mark_in c')
+          set-marked ok marked = subst (IsMarked m2) (sym (ap mark_of allocator)) (marked-as m0 m2 (mark_in c) (set-counts ok) marked)
+
           set-named : result ≡ Ok tt → (d : ℕ) → d < n → entry m2.file c.file.header.fields (guest + d) ≡ data_at (x + d) true
           set-named ok d less =
               let both = last ok in
@@ -399,6 +418,7 @@ module _ {S : Type 0} (state : S → StorageState) (table guest x n : ℕ) (c c'
           waits = λ ready ok. (stood ready).waits;
           progress = set-progress;
           l1 = set-l1;
+          marked = set-marked;
           named = set-named;
           bytes = set-bytes;
         }

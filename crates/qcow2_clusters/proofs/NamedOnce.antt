@@ -64,6 +64,7 @@ one-named state table guest x c result c' run =
       header = run.header;
       held = run.held;
       l1 = λ able. run.l1 (all able);
+      marked = λ able. run.marked (all able);
       waits = λ ready able. on-ok result _ _ (λ is. is ∙ ap (λ es. c.space.to_free.entries ++ es) (given-one m guest x)) (run.waits ready (all able));
       named = λ ready able. on-ok result ((d : ℕ) → d < 1 → entry (resting state c').file c.file.header.fields (guest + d) ≡ data_at (x + d) true)
           (entry (resting state c').file c.file.header.fields guest ≡ data_at x true)

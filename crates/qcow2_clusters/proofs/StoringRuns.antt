@@ -31,9 +31,10 @@ use Rattle.qcow2_steps.proofs.DataRuns.{beside-reserved, beside-words}
 use Rattle.qcow2_clusters.specs.Rest.{AreEmpty, Clusters, HasEntries, IsReady, changed, lent, resting, storage}
 use Rattle.qcow2_clusters.specs.Room.{LeavesRoom, mark_in}
 use Rattle.qcow2_clusters.specs.Storing.{AreReserved, StoresRunUnsettled, WhyNotAllocated}
-use Rattle.qcow2_clusters.proofs.AllocatingRuns.{run-leaves, run-named, run-quietly-handed, run-reserved, run-room, run-size, run-unpinned, run-unused}
+use Rattle.qcow2_clusters.proofs.AllocatingRuns.{run-leaves, run-marked, run-named, run-quietly-handed, run-reserved, run-room, run-size, run-unpinned, run-unused}
 use Rattle.qcow2_clusters.proofs.Ending.{begun, quiet-halted}
-use Rattle.qcow2_clusters.proofs.LeavingRoom.{leaves-as}
+use Rattle.qcow2_clusters.proofs.LeavingRoom.{leaves-as, marked-as}
+use Rattle.qcow2_alloc.specs.Freeing.{IsMarked}
 
 -- The content of one cluster fits several.
 pub whole-fits : (content : List ℕ) (n size : ℕ) → 0 < n → length content ≡ size → length content ≤ n * size
@@ -137,6 +138,11 @@ module _ {S : Type 0} (state : S → StorageState) (c : Clusters S) (empty : Are
         (beside-words m1 (sound-there ready) x (n - 1) place (length content) m2.file (beside ready)).counts
         (run-leaves state c empty room n mid entry a ready)
 
+    marked-there : IsReady state c → IsMarked (resting state c) (mark_in c) → IsMarked m2 (mark_in mid)
+    marked-there ready marked = marked-as m1 m2 (mark_in mid)
+        (beside-words m1 (sound-there ready) x (n - 1) place (length content) m2.file (beside ready)).counts
+        (run-marked state c empty room n mid (Ok entry) a ready tt marked)
+
     bytes-there : IsReady state c → (i : ℕ) → i < length content → m2.file (place + i) ≡ slice_index content i
     bytes-there ready i lt =
         (spliced ready).inside (place + i) (omega arith) (omega (arith, lt)) ∙ ap (λ n. slice_index content n) (let same : place + i - place ≡ i = omega arith in same)
@@ -155,6 +161,7 @@ module _ {S : Type 0} (state : S → StorageState) (c : Clusters S) (empty : Are
       stored = λ ready i lt. subst (λ n. m2.file (x * n + i) ≡ slice_index content i) size (bytes-there ready i lt);
       leaves = λ ready. subst (λ (H : Header). LeavesRoom (room_for c.file.header.fields n) (resting state c) (mark_in c) (record m2 { header = H }) (mark_in mid))
           (sym header) (leaves-there ready);
+      marked = λ ready whole marked. subst (λ (H : Header). IsMarked (record m2 { header = H }) (mark_in mid)) (sym header) (marked-there ready marked);
       cause = tt;
     }
 
@@ -174,6 +181,7 @@ module _ {S : Type 0} (state : S → StorageState) (c : Clusters S) (empty : Are
     reserved = λ ready. tt;
     stored = λ ready. tt;
     leaves = λ ready. tt;
+    marked = λ ready whole. absurd (never whole);
     cause = why-written (IsReady state c) _ (storage state c).faults (storage state mid).faults (state after.image).faults first.later.faults fault put.answer.cause;
   }
     where

@@ -30,8 +30,9 @@ use Rattle.qcow2_clusters.specs.Storing.{AreReserved, Stores, StoresRun, StoresR
 use Rattle.qcow2_clusters.proofs.Adding.{progresses-weaker, quiet-progresses, wider-handing}
 use Rattle.qcow2_clusters.specs.Progress.{handing}
 use Rattle.qcow2_clusters.proofs.Ending.{quiet-halted, settled-cases, settled-cause, settled-faultless, settled-if-ok, settled-quietly}
-use Rattle.qcow2_clusters.proofs.LeavingRoom.{full-as, leaves-as, why-as}
+use Rattle.qcow2_clusters.proofs.LeavingRoom.{full-as, leaves-as, marked-as, why-as}
 use Rattle.qcow2_clusters.proofs.Resting.{l1-kept}
+use Rattle.qcow2_alloc.specs.Freeing.{IsMarked}
 
 -- why what was stored couldn't be settled
 why-flushed : (reach ready : Type 0) (full : ℕ → Type 0) → (ready → reach) → (before mid after : ℕ) → before ≤ mid → (fault : Fault) → WhyNotSettled reach mid after fault → WhyNotAllocated ready full before after fault
@@ -162,6 +163,15 @@ module _ {S : Type 0} (state : S → StorageState) (n : ℕ) (content : List ℕ
   leaves-if (Ok x) is ready = leaves-ok x is ready
   leaves-if (Err fault) is ready = tt
 
+  -- No cluster before the mark is free then, where none was.
+  marked-there : IsReady state c → WasNotCutOff result → IsMarked (resting state c) (mark_in c) → IsMarked (resting state c') (mark_in mid)
+  marked-there ready done marked =
+      let whole : WasNotCutOff was = elim (settled-cases state was mid.file mid.caches result after new settles) [
+        | inl same ↦ subst (λ (r : Result ℕ Fault). WasNotCutOff r) same done
+        | inr refused ↦ refused.0
+      ] in
+      marked-as (changed state mid) (resting state c') (mark_in mid) (counts-there ready whole done) (stored.marked ready whole marked)
+
   -- Where there was no place, and that is answered, a number tells the same.
   abbrev full-if : ℕ → Type 0
   full-if number = WasNotCutOff result → IsFull n (resting state c) (mark_in c) (resting state c') (mark_in mid) number
@@ -193,6 +203,7 @@ module _ {S : Type 0} (state : S → StorageState) (n : ℕ) (content : List ℕ
     reserved = reserved-if result refl;
     stored = bytes-if result refl;
     leaves = leaves-if result refl;
+    marked = marked-there;
     cause = if-mild (IsReady state c) (IsFull n (resting state c) (mark_in c) (resting state c') (mark_in mid)) (storage state c).faults (storage state c').faults result
         (settled-cause state was mid.file mid.caches result after new settles (WhyNotAllocated (IsReady state c) full-if (storage state c).faults)
         (full-was was refl stored.cause) (λ whole fault why.
@@ -218,6 +229,7 @@ one-stored state content c (Ok x) c' run = record {
   reserved = λ ready. run.reserved ready x (omega arith) (omega arith);
   stored = run.stored;
   leaves = run.leaves;
+  marked = run.marked;
   cause = run.cause;
 }
 one-stored state content c (Err fault) c' run = record {
@@ -229,5 +241,6 @@ one-stored state content c (Err fault) c' run = record {
   reserved = λ ready. tt;
   stored = run.stored;
   leaves = run.leaves;
+  marked = run.marked;
   cause = run.cause;
 }

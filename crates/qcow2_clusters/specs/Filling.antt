@@ -11,6 +11,7 @@ use Rattle.qcow2_alloc.specs.Going.{WasNotCutOff}
 use Rattle.qcow2_steps.specs.Data.{IsKeptFor}
 use Rattle.qcow2_clusters.specs.Progress.{Kind, Progresses}
 use Rattle.qcow2_clusters.specs.Rest.{AreEmpty, Clusters, IsReady, KeepsL1, lent, resting, storage}
+use Rattle.qcow2_clusters.specs.Room.{KeepsMarked}
 use Rattle.qcow2_clusters.specs.Storing.{Rests}
 use Rattle.qcow2_clusters.specs.declared.space.Space.{Space}
 
@@ -32,6 +33,7 @@ pub record Fills {S : Type 0} (state : S → StorageState) (guest x : ℕ) (cont
   pub rests : Rests state c result c'
   pub header : c'.file.header ≡ c.file.header
   pub l1 : IsKeptFor (resting state c) guest x → KeepsL1 state c result c'
+  pub marked : IsKeptFor (resting state c) guest x → KeepsMarked state c result c'
   pub kept : IsReady state c → IsKeptFor (resting state c) guest x → OnOk result (IsKeptFor (resting state c') guest x)
   pub stored : IsTrue (storage state c).shape.keeps → OnOk result ((i : ℕ) → i < length content
       → (resting state c').file (x * cluster_size c.file.header.fields + i) ≡ slice_index content i)

@@ -6,6 +6,7 @@ use Rattle.imago_storage.specs.declared.fault.Fault.TheVariants.{Counter, Damage
 use Rattle.qcow2_alloc.specs.Going.{WasNotCutOff}
 use Rattle.qcow2_clusters.specs.Progress.{Progresses, handing}
 use Rattle.qcow2_clusters.specs.Rest.{Clusters, IsReady, KeepsL1, resting, storage}
+use Rattle.qcow2_clusters.specs.Room.{KeepsMarked}
 use Rattle.qcow2_clusters.specs.Storing.{Rests}
 
 -- Why a call is refused that frees: for want of memory or by a storage that failed; else only where the image isn't ready.
@@ -26,4 +27,5 @@ pub record FreesWaiting {S : Type 0} (state : S → StorageState) (c : Clusters 
   pub l1 : KeepsL1 state c result c'
   pub emptied : OnOk result (c'.space.to_free.entries ≡ [])
   pub header : c'.file.header ≡ c.file.header
+  pub marked : KeepsMarked state c result c'
   pub cause : IfErr result (WhyNotFreed (IsReady state c) (storage state c).faults (storage state c').faults)

@@ -22,7 +22,7 @@ use Rattle.qcow2_steps.specs.Advancing.{KeepsHeader}
 use Rattle.qcow2_steps.specs.LongerL1.{old_l1}
 use Rattle.qcow2_clusters.specs.Progress.{Kind, Progresses, handing}
 use Rattle.qcow2_clusters.specs.Rest.{AreEmpty, Clusters, IsReady, resting, storage}
-use Rattle.qcow2_clusters.specs.Room.{IsFull, LeavesRoom, mark_in}
+use Rattle.qcow2_clusters.specs.Room.{IsFull, KeepsMarked, LeavesRoom, mark_in}
 use Rattle.qcow2_clusters.specs.Storing.{WhyNotAllocated}
 
 -- how many clusters so many words take, of which the last may be filled in part
@@ -95,5 +95,6 @@ pub record LengthensL1 {S : Type 0} (state : S → StorageState) (top : TableVal
   pub leaves : IsReady state c → IsTop state top c → OnOk result ((i + 1 ≤ 2 ^ 22)
       × LeavesRoom (room_for c.file.header.fields (l1_clusters c.file.header.fields top i)) (resting state c) (mark_in c) (resting state c')
       (mark_in c'))
+  pub marked : IsTop state top c → KeepsMarked state c result c'
   pub cause : IfErr result (WhyNotAllocated (IsReady state c × IsTop state top c) (IsTooLong state top i c c')
       (storage state c).faults (storage state c').faults)

@@ -22,7 +22,7 @@ use Rattle.qcow2_alloc.specs.Quiet.{Metadata, named_at_all}
 use Rattle.qcow2_steps.specs.NewTables.{old_table, slot_or_none}
 use Rattle.qcow2_clusters.specs.Progress.{Kind, Progresses, handing}
 use Rattle.qcow2_clusters.specs.Rest.{Clusters, IsReady, resting, storage}
-use Rattle.qcow2_clusters.specs.Room.{IsFull, LeavesRoom, mark_in}
+use Rattle.qcow2_clusters.specs.Room.{IsFull, KeepsMarked, LeavesRoom, mark_in}
 use Rattle.qcow2_clusters.specs.Storing.{Rests, WhyNotAllocated, handed_by, held_by}
 
 -- the cluster of the table that is replaced, which nothing names any more where it is
@@ -111,6 +111,7 @@ pub record NamesNewTable {S : Type 0} (state : S → StorageState) (asked : Type
       → IfOk result (λ t. is_copied (word (resting state c').file c.file.header.fields.l1_offset i) ≡ true)
   pub leaves : IsReady state c → asked → OnOk result (LeavesRoom (room_for c.file.header.fields 1) (resting state c) (mark_in c)
       (resting state c') (mark_in c'))
+  pub marked : asked → KeepsMarked state c result c'
   pub cause : IfErr result (WhyNotAllocated (IsReady state c × asked)
       (IsFull 1 (resting state c) (mark_in c) (resting state c') (mark_in c')) (storage state c).faults (storage state c').faults)
 

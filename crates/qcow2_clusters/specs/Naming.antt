@@ -17,6 +17,7 @@ use Rattle.qcow2_steps.specs.Data.{IsKeptFor}
 use Rattle.qcow2_steps.specs.Words.{GivesWord, IsOfWord, IsReserved}
 use Rattle.qcow2_clusters.specs.Progress.{Kind, Progresses, both, handing}
 use Rattle.qcow2_clusters.specs.Rest.{Clusters, IsReady, KeepsL1, resting, storage}
+use Rattle.qcow2_clusters.specs.Room.{KeepsMarked}
 use Rattle.qcow2_clusters.specs.Storing.{Rests}
 
 -- nothing is allocated for a guest cluster that is mapped so
@@ -126,6 +127,7 @@ pub record NamesRun {S : Type 0} (state : S → StorageState) (table guest x n :
   pub header : c'.file.header ≡ c.file.header
   pub held : c'.space.to_free.held ≡ c.space.to_free.held
   pub l1 : AreNameable n (resting state c) table guest x → KeepsL1 state c result c'
+  pub marked : AreNameable n (resting state c) table guest x → KeepsMarked state c result c'
   pub waits : IsReady state c → AreNameable n (resting state c) table guest x
       → OnOk result (c'.space.to_free.entries ≡ c.space.to_free.entries ++ given_for_run (resting state c) guest x n)
   pub named : IsReady state c → AreNameable n (resting state c) table guest x
@@ -145,6 +147,7 @@ pub record Names {S : Type 0} (state : S → StorageState) (table guest x : ℕ)
   pub header : c'.file.header ≡ c.file.header
   pub held : c'.space.to_free.held ≡ c.space.to_free.held
   pub l1 : IsNameable (resting state c) table guest x → KeepsL1 state c result c'
+  pub marked : IsNameable (resting state c) table guest x → KeepsMarked state c result c'
   pub waits : IsReady state c → IsNameable (resting state c) table guest x
       → OnOk result (c'.space.to_free.entries ≡ c.space.to_free.entries ++ listed_of (given_for (resting state c) guest x))
   pub named : IsReady state c → IsNameable (resting state c) table guest x

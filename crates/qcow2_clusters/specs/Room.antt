@@ -1,14 +1,23 @@
 -- Which room an image has for allocations, what they leave of it, and when there is none.
-use Rattle.std.specs.Prelude.{◌≡◌, ◌+◌, ◌<◌, ◌≤◌, ℕ}
+use Rattle.std.specs.Prelude.{◌≡◌, ◌+◌, ◌<◌, ◌≤◌, ℕ, Result}
+use Rattle.imago_storage.specs.State.{StorageState}
+use Rattle.imago_storage.specs.declared.fault.Fault.{Fault}
 use Rattle.qcow2_alloc.specs.Allocators.{mark_of}
 use Rattle.qcow2_alloc.specs.Crowding.{IsCrowded, space}
+use Rattle.qcow2_alloc.specs.Freeing.{IsMarked}
+use Rattle.qcow2_alloc.specs.Going.{WasNotCutOff}
 use Rattle.qcow2_alloc.specs.Quiet.{Metadata, counted}
 use Rattle.qcow2_alloc.specs.ReadyingRuns.{IsRunTold}
-use Rattle.qcow2_clusters.specs.Rest.{Clusters}
+use Rattle.qcow2_clusters.specs.Rest.{Clusters, IsReady, resting}
 
 -- where the search for free clusters begins
 abbrev pub mark_in : {S : Type 0} → Clusters S → ℕ
 mark_in c = mark_of c.space.allocator
+
+-- Where no cluster before that is free, none is so later.
+abbrev pub KeepsMarked : {S T : Type 0} → (S → StorageState) → Clusters S → Result T Fault → Clusters S → Type 0
+KeepsMarked state c result c' = IsReady state c → WasNotCutOff result
+    → IsMarked (resting state c) (mark_in c) → IsMarked (resting state c') (mark_in c')
 
 -- So many clusters in a row aren't counted, from the mark on and below this end.
 pub record HasFree (counts : ℕ → ℕ) (mark end total : ℕ) : Type 0 where

@@ -10,13 +10,14 @@ use Rattle.qcow2_alloc.specs.Allocating.{MovedTable}
 use Rattle.qcow2_alloc.specs.Caches.{HasRoomOf}
 use Rattle.qcow2_alloc.specs.Crowding.{room_for}
 use Rattle.qcow2_alloc.specs.FreeList.{covers}
+use Rattle.qcow2_alloc.specs.Freeing.{IsMarked}
 use Rattle.qcow2_alloc.specs.Going.{WasNotCutOff}
 use Rattle.qcow2_alloc.specs.MakingRoom.{run_of}
 use Rattle.qcow2_alloc.specs.Quiet.{Metadata, Quietly, one_at}
 use Rattle.qcow2_steps.specs.Words.{IsReserved}
 use Rattle.qcow2_clusters.specs.Progress.{Progresses, handing}
 use Rattle.qcow2_clusters.specs.Rest.{Clusters, AreEmpty, IsReady, KeepsL1, changed, resting, storage}
-use Rattle.qcow2_clusters.specs.Room.{IsFull, LeavesRoom, mark_in}
+use Rattle.qcow2_clusters.specs.Room.{IsFull, KeepsMarked, LeavesRoom, mark_in}
 use Rattle.qcow2_clusters.specs.Settling.{AreUnpinned}
 
 -- Why a call is refused that allocates: for want of memory, by a storage that failed, or since there is no place left, of which `full` says
@@ -73,6 +74,8 @@ pub record StoresRunUnsettled {S : Type 0} (state : S → StorageState) (n : ℕ
       → (changed state c').file (x * cluster_size c.file.header.fields + i) ≡ slice_index content i)
   pub leaves : IsReady state c → OnOk result (LeavesRoom (room_for c.file.header.fields n) (resting state c) (mark_in c) (changed state c')
       (mark_in c'))
+  pub marked : IsReady state c → WasNotCutOff result
+      → IsMarked (resting state c) (mark_in c) → IsMarked (changed state c') (mark_in c')
   pub cause : IfErr result (WhyNotAllocated (IsReady state c) (IsFull n (resting state c) (mark_in c) (changed state c') (mark_in c'))
       (storage state c).faults (storage state c').faults)
 
@@ -90,6 +93,7 @@ pub record StoresRun {S : Type 0} (state : S → StorageState) (n : ℕ) (conten
       → (resting state c').file (x * cluster_size c.file.header.fields + i) ≡ slice_index content i)
   pub leaves : IsReady state c → OnOk result (LeavesRoom (room_for c.file.header.fields n) (resting state c) (mark_in c) (resting state c')
       (mark_in c'))
+  pub marked : KeepsMarked state c result c'
   pub cause : IfErr result (WhyNotAllocated (IsReady state c) (IsFull n (resting state c) (mark_in c) (resting state c') (mark_in c'))
       (storage state c).faults (storage state c').faults)
 
@@ -107,5 +111,6 @@ pub record Stores {S : Type 0} (state : S → StorageState) (content : List ℕ)
       → (resting state c').file (x * cluster_size c.file.header.fields + i) ≡ slice_index content i)
   pub leaves : IsReady state c → OnOk result (LeavesRoom (room_for c.file.header.fields 1) (resting state c) (mark_in c) (resting state c')
       (mark_in c'))
+  pub marked : KeepsMarked state c result c'
   pub cause : IfErr result (WhyNotAllocated (IsReady state c) (IsFull 1 (resting state c) (mark_in c) (resting state c') (mark_in c'))
       (storage state c).faults (storage state c').faults)

@@ -24,5 +24,5 @@ returns g c =
     let frees : Frees state mark (begun old) freed.result (begun mid) (mark_of freed.new.self) =
     subst (λ (t : TableValue). Frees state mark (begun old) freed.result (allocating t freed.new.caches freed.new.file freed.new.list.entries) (mark_of freed.new.self))
     (sym freed.ensures.table) freed.ensures.frees in
-    frees-waiting state old c.requires.rest c.requires.room mark mid (mark_of freed.new.self) freed.result frees
+    frees-waiting state old c.requires.rest c.requires.room mid freed.result frees
     c.settle.result c.settle.new.file c.settle.new.caches c.settle.ensures freed.ensures.ok freed.ensures.held
