@@ -49,8 +49,9 @@ use Rattle.qcow2_image.specs.Holding.{Holding, IsOwnAs}
 use Rattle.qcow2_image.specs.KeepsDisk.{KeepsDisk, KeepsDiskWhere}
 use Rattle.qcow2_image.specs.Leaking.{KeepsLeaks, KeepsLeaksBut}
 use Rattle.qcow2_metadata.proofs.TableSteps.{padded_at}
-use Rattle.qcow2_clusters.proofs.LengtheningL1.{padded-long}
-use Rattle.qcow2_image.specs.FreeSpace.{HasNoPlace, IsForTable, IsForWord, LacksFreeRun, LacksTable, LeavesFree, enough_for_one, enough_for_table, enough_for_word, searched_from}
+use Rattle.qcow2_clusters.specs.Room.{KeepsMarked}
+use Rattle.qcow2_clusters.proofs.LengtheningL1.{padded-long, some-taken}
+use Rattle.qcow2_image.specs.FreeSpace.{HasNoPlace, IsForTable, IsForWord, LacksFreeRun, LacksTable, LeavesFree, enough_for_one, enough_for_table, enough_for_word}
 use Rattle.qcow2_image.proofs.FreeRuns.{full-behind, full-in-run, full-more, lacks-as-words, lacks-in-file, leaves-in-run, leaves-more, leaves-none, leaves-then, run-fewer, run-same, safe-short, some-enough, why-full}
 use Rattle.qcow2_image.specs.Looking.{place_of_table}
 use Rattle.qcow2_image.specs.Rooms.{IsSafe, rest_of}
@@ -61,10 +62,11 @@ use Rattle.qcow2_image.specs.declared.qcow2.Qcow2.{Qcow2}
 use Rattle.qcow2_image.specs.declared.tables.Tables.{Tables}
 use Rattle.qcow2_image.proofs.FileWords.{place-in-file, place-named, some-offset, top-long, top-word}
 use Rattle.qcow2_image.proofs.KeepingDisks.{Spares, WhyNoSpace, keeps-disk-same, keeps-image-disk, later-refused, progress-keeps, safe-sound, space-keeps, space-refused, whole-below, keeps-disk-both}
-use Rattle.qcow2_image.proofs.Leaks.{advanced-leaks, leaks-all, leaks-both, leaks-but, leaks-kept, leaks-loaded}
+use Rattle.qcow2_image.proofs.Leaks.{advanced-leaks, leaks-all, leaks-both, leaks-but, leaks-loaded}
 use Rattle.qcow2_image.proofs.KeptClusters.{apart-some, kept-at-rest, kept-in, kept-is}
 use Rattle.qcow2_image.proofs.Settling.{seen-same}
 use Rattle.qcow2_image.proofs.Steps.{keeps-marked}
+use Rattle.qcow2_image.proofs.KeptLeaks.{leaks-kept}
 
 pub none-there : {A : Type 0} (o : Option A) → is_some o ≡ false → o ≡ None
 none-there None is = refl
@@ -153,7 +155,7 @@ loaded g old new space none there mode number unspent failed l1 caches header lo
   leaves = record {
     as_large = ap (λ (H : Header). space_of H.fields) header;
     left = λ total some run. run-same g old.tables new.tables total (ap bytes_of loads.kept.bytes) header
-        (ap searched_from there ∙ loads.ok.2 ∙ sym (ap searched_from none)) (run-fewer g old.tables total (0 + total) (omega arith) run);
+        (run-fewer g old.tables total (0 + total) (omega arith) run);
   };
   cause = tt;
   known_cause = λ safe. tt;
@@ -234,10 +236,11 @@ module _ {S T : Type 0} (g : Ghosts S) (old : Qcow2 S g) (mid : Tables S g) (spa
   pub advanced-by : (sure : Type 0) (kind : Kind) → (sure → IsSafe g old) → ((p : ℕ) (v : Option Value) → kind.gives p v → ⊥)
       → ((guest : ℕ) → kind.set guest → ⊥) → IfSome (holding_in g old.unspent) (Spares g (WasNotCutOff result) kind old now space space')
       → (sure → WasNotCutOff result → IsL1Of (file_of g mid) mid.file.header.fields mid.l1)
+      → (sure → KeepsMarked g.state (lent old.tables.file caches space) result (lent mid.file mid.caches space'))
       → (sure → Progresses (going.WasNotCutOff result) kind (g.state old.tables.file.image)
       (rest_of g old.tables space) (g.state mid.file.image) (rest_of g mid space'))
       → KeepsDiskWhere g sure (WasNotCutOff result) old now
-  advanced-by sure kind safe none unset spares l1 progress = progress-keeps g sure (WasNotCutOff result) kind old now (record {
+  advanced-by sure kind safe none unset spares l1 marked progress = progress-keeps g sure (WasNotCutOff result) kind old now (record {
     safe = safe;
     none = none;
     unset = unset;
@@ -257,6 +260,7 @@ module _ {S T : Type 0} (g : Ghosts S) (old : Qcow2 S g) (mid : Tables S g) (spa
     faults = λ whole. rests.faults (whole-below result whole);
     empty = rests.empty;
     l1 = l1;
+    marked = λ known whole. marked known (ready (safe known)) (whole-below result whole);
     progress = λ known. progresses-as (going.WasNotCutOff result) (WasNotCutOff result) kind (g.state old.tables.file.image)
         (g.state mid.file.image) (rest_of g old.tables space) (rest_of g mid space') (whole-below result) (progress known);
   })
@@ -264,6 +268,7 @@ module _ {S T : Type 0} (g : Ghosts S) (old : Qcow2 S g) (mid : Tables S g) (spa
   -- Nor did it write anything of what was used.
   pub advanced : (handed taken : ℕ → ℕ) → IfSome (holding_in g old.unspent) (Spares g (WasNotCutOff result) (handing handed taken) old now space space')
       → (IsSafe g old → WasNotCutOff result → IsL1Of (file_of g mid) mid.file.header.fields mid.l1)
+      → (IsSafe g old → KeepsMarked g.state (lent old.tables.file caches space) result (lent mid.file mid.caches space'))
       → (IsSafe g old → Progresses (going.WasNotCutOff result) (handing handed taken) (g.state old.tables.file.image)
       (rest_of g old.tables space) (g.state mid.file.image) (rest_of g mid space'))
       → KeepsDisk g (WasNotCutOff result) old now
@@ -320,7 +325,7 @@ module _ {S : Type 0} (g : Ghosts S) (old : Qcow2 S g) (mid : Tables S g) (space
     keeps = advanced g old mid space space' caches result there there' stores.rests (handed_by result) (λ c. 0)
         (none-spared g old (Spares g (WasNotCutOff result) (handing (handed_by result) (λ c. 0)) old stored_now space space') free)
         (λ safe whole. subst (IsL1Of (file_of g mid) mid.file.header.fields) (sym l1) (l1-stored safe whole))
-        (λ safe. stores.progress);
+        (λ safe. stores.marked) (λ safe. stores.progress);
     leaks = leaks-by g old mid space space' caches result there there' stores.rests (handing (handed_by result) (λ c. 0)) (handed_by result)
         (λ c. omega arith) stores.progress;
     marks = refl;
@@ -339,7 +344,7 @@ module _ {S : Type 0} (g : Ghosts S) (old : Qcow2 S g) (mid : Tables S g) (space
         (LacksFreeRun g 1 (enough_for_one old.tables) old.tables mid)
         (g.state old.tables.file.image).faults (g.state mid.file.image).faults e
         (ready g old mid space space' caches result there there' stores.rests) refl refl
-        (λ number safe full. full-in-run g old.tables mid space space' there there' 1 number full)) stores.cause;
+        (λ number safe full. full-in-run g old.tables mid space space' there there' safe.searched 1 number (omega arith) full)) stores.cause;
   }
 
 -- Bytes were written to the cluster that a guest cluster keeps for its zeroes.
@@ -377,7 +382,7 @@ module _ {S : Type 0} (g : Ghosts S) (old : Qcow2 S g) (mid : Tables S g) (space
         (λ known. known.safe) (λ p v gave. gave) (λ guest is. is)
         (none-spared g old (Spares g (WasNotCutOff result) (filling old.tables.file.header.fields host) old filled_now space space) free)
         (λ known whole. subst (IsL1Of (file_of g mid) mid.file.header.fields) (sym l1) (l1-filled known whole))
-        (λ known. fills.progress (kept-then known));
+        (λ known. fills.marked (kept-then known)) (λ known. fills.progress (kept-then known));
     leaks = λ known whole. leaks-all g old filled_now (leaks-by g old mid space space caches result there there' fills.rests
         (filling old.tables.file.header.fields host) (λ c. 0) (λ c. refl) (fills.progress (kept-then known)) known.safe whole);
     marks = refl;
@@ -591,7 +596,7 @@ module _ {S : Type 0} (g : Ghosts S) (old : Qcow2 S g) (mid : Tables S g) (space
     inr (lacks safe, refl),
     inr (
       safe-short g old (guest / words_of_cluster was) safe (row-inside safe),
-      full-in-run g old.tables mid space space' there there' 1 number full,
+      full-in-run g old.tables mid space space' there there' safe.searched 1 number (omega arith) full,
     ),
   )
 
@@ -601,7 +606,7 @@ module _ {S : Type 0} (g : Ghosts S) (old : Qcow2 S g) (mid : Tables S g) (space
         (none-spared g old (Spares g (WasNotCutOff result) (handing handed taken) old made_now space space') free)
         (λ safe whole. l1-moved (file_of g mid) old.tables.file.header mid.file.header mid.l1 names.rests.header
         (names.l1 (is-ready safe) (as-asked safe) (whole-below result whole)))
-        (λ safe. names.progress (as-asked safe));
+        (λ safe. names.marked (as-asked safe)) (λ safe. names.progress (as-asked safe));
     leaks = λ safe whole. leaks-all g old made_now (leaks-by g old mid space space' caches result there there' names.rests (handing handed taken) (λ c. 0)
         even (names.progress (as-asked safe)) safe whole);
     marks = refl;
@@ -610,7 +615,7 @@ module _ {S : Type 0} (g : Ghosts S) (old : Qcow2 S g) (mid : Tables S g) (space
     own = λ safe some. copied-now result (names.copied (is-ready safe) (as-asked safe));
     long = long-now result refl;
     leaves = λ safe. on-ok result _ (LeavesFree g (enough_for_one old.tables) old.tables mid)
-        (leaves-in-run g old.tables mid space space' there there' (enough_for_one old.tables)) (names.leaves (is-ready safe) (as-asked safe));
+        (leaves-in-run g old.tables mid space space' there there' safe.searched (enough_for_one old.tables)) (names.leaves (is-ready safe) (as-asked safe));
     cause = if-err result _ (WhyNotAllocated g
         (HasNoPlace g (IsForTable g guest old.tables) (guest / words_of_cluster was) (enough_for_one old.tables) old.tables mid)
         old made_now) (λ e.
@@ -741,7 +746,7 @@ module _ {S : Type 0} (g : Ghosts S) (old : Qcow2 S g) (mid : Tables S g) (space
     keeps = advanced g old mid space space' caches result there there' frees.rests (λ c. 0) (λ c. 0)
         (if-each (holding_in g old.unspent) (Spares g (WasNotCutOff result) (handing (λ c. 0) (λ c. 0)) old freed_now space space') spares-each)
         (λ safe whole. subst (IsL1Of (file_of g mid) mid.file.header.fields) (sym l1) (l1-freed safe whole))
-        (λ safe. frees.progress);
+        (λ safe. frees.marked) (λ safe. frees.progress);
     leaks = λ safe whole. leaks-all g old freed_now (leaks-by g old mid space space' caches result there there' frees.rests
         (handing (λ c. 0) (λ c. 0)) (λ c. 0) (λ c. refl) frees.progress safe whole);
     marks = refl;
@@ -788,6 +793,7 @@ module _ {S : Type 0} (g : Ghosts S) (old : Qcow2 S g) (mid : Tables S g) (space
     faults = λ whole. longer.faults (whole-below result whole);
     empty = longer.empty;
     l1 = λ safe whole. longer.l1 (longer-ready safe) safe.seen.l1 (whole-below result whole);
+    marked = λ safe whole. longer.marked safe.seen.l1 (longer-ready safe) (whole-below result whole);
     progress = λ safe. progresses-as (going.WasNotCutOff result) (WasNotCutOff result) (handing handed taken) (g.state old.tables.file.image)
         (g.state mid.file.image) (rest_of g old.tables space) (rest_of g mid space') (whole-below result) (progress safe);
   })
@@ -821,7 +827,9 @@ module _ {S : Type 0} (g : Ghosts S) (old : Qcow2 S g) (mid : Tables S g) (space
     for-word safe,
     inr (
       near,
-      full-in-run g old.tables mid space space' there there' (l1_clusters old.tables.file.header.fields old.tables.l1 i) number full,
+      full-in-run g old.tables mid space space' there there' safe.searched (l1_clusters old.tables.file.header.fields old.tables.l1 i) number
+          (some-taken old.tables.file.header.fields (max (length old.tables.l1.words) (i + 1))
+          (let more = le-max_right (length old.tables.l1.words) (i + 1) in omega (arith, more))) full,
     ),
   )
 
@@ -833,7 +841,7 @@ module _ {S : Type 0} (g : Ghosts S) (old : Qcow2 S g) (mid : Tables S g) (space
     known = λ was. subst IsSome (sym there') refl;
     inside = word-there old.tables.l1.words longer.words;
     words = longer.words;
-    leaves = λ safe. leaves-in-run g old.tables mid space space' there there' (enough_for_word old.tables i)
+    leaves = λ safe. leaves-in-run g old.tables mid space space' there there' safe.searched (enough_for_word old.tables i)
         (longer.leaves (longer-ready safe) safe.seen.l1).1;
     cause = tt;
   }

@@ -24,7 +24,7 @@ use Rattle.qcow2_types.specs.Entries.{entry}
 use Rattle.qcow2_types.specs.Consistency.{IsConsistent}
 use Rattle.qcow2_types.proofs.Counting.Consistent.{header-reading}
 use Rattle.qcow2_metadata.proofs.TableSteps.{past_end}
-use Rattle.qcow2_alloc.specs.Allocators.{table_of}
+use Rattle.qcow2_alloc.specs.Allocators.{table_of, mark_of}
 use Rattle.qcow2_alloc.specs.Going.{WasNotCutOff}
 use Rattle.qcow2_alloc.specs.Memory.{Cached}
 use Rattle.qcow2_alloc.specs.Opening.{IsL1Of}
@@ -55,6 +55,9 @@ use Rattle.qcow2_image.specs.declared.tables.Tables.{Tables}
 use Rattle.qcow2_image.specs.declared.unspent.Unspent.{Unspent}
 use Rattle.qcow2_image.proofs.KeepingDisks.{cell-shown, cell_of, may-left, rest-memory, safe-sound, seen_as}
 use Rattle.qcow2_image.proofs.Steps.{memory-is}
+use Rattle.qcow2_alloc.specs.Freeing.{IsMarked}
+use Rattle.qcow2_alloc.specs.declared.allocation.Allocator.{Allocator}
+use Rattle.qcow2_image.proofs.Searched.{counted-at-rest, counted-in-file}
 
 -- What is a guest cluster's own is reserved, or kept for it.
 own-either : (is_kept : Bool) (m : Metadata) (guest host : ℕ) → IsOwnAs is_kept m guest host → IsReserved m host ⊎ IsKeptFor m guest host
@@ -402,6 +405,9 @@ module _ {S : Type 0} (g : Ghosts S) (claim : ℕ) (old new : Qcow2 S g)
         consistent = consistent-now;
         seen = seen-now;
         sound = subst (λ o. IfSome o (λ x. IsSound (rest_of g new.tables x))) (sym with-space.there) (subst IsSound (sym rest-now) advances.sound);
+        searched = counted-in-file g new.tables with-space.after with-space.there
+            (subst (λ (a : Allocator). IsMarked after (mark_of a)) (sym with-space.allocator)
+            (with-space.names.marked able ready (subst WasNotCutOff (sym ok) tt) (counted-at-rest g old.tables holds.space holds.there safe.searched)));
         held = subst (λ o. IfSome o (HoldsIn g new.tables)) (sym none-held) tt;
         writable = λ some. absurd (cc (subst IsSome free-now some));
       }

@@ -38,6 +38,7 @@ safe-again g d runs was = record {
   consistent = was.consistent;
   seen = was.seen;
   sound = was.sound;
+  searched = was.searched;
   held = was.held;
   writable = was.writable;
 }

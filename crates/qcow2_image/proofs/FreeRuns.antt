@@ -27,8 +27,8 @@ use Rattle.qcow2_clusters.specs.Room as room
 use Rattle.qcow2_clusters.specs.declared.space.Space.{Space}
 use Rattle.qcow2_clusters.proofs.NamingTables.{resting-memory}
 use Rattle.qcow2_image.specs.Allocating.{WhyNotAllocated}
-use Rattle.qcow2_image.specs.FreeSpace.{HasFreeRun, IsForCluster, LacksFreeRun, LacksTable, LeavesFree, enough_for_one, enough_for_table, searched_from}
-use Rattle.qcow2_image.specs.Rooms.{IsSafe, rest_of}
+use Rattle.qcow2_image.specs.FreeSpace.{HasFreeRun, IsForCluster, LacksFreeRun, LacksTable, LeavesFree, enough_for_one, enough_for_table}
+use Rattle.qcow2_image.specs.Rooms.{AreCountedBefore, IsSafe, rest_of, searched_from}
 use Rattle.qcow2_image.specs.Seen.{file_of}
 use Rattle.qcow2_image.specs.declared.qcow2.Qcow2.{Qcow2}
 use Rattle.qcow2_image.specs.declared.tables.Tables.{Tables}
@@ -102,23 +102,30 @@ module _ {S : Type 0} (g : Ghosts S) where
     free = λ c from to. run.free c from (omega (arith, to, le));
   }
 
-  -- The same clusters, the same counts: as much is free.
-  pub run-same : (t t' : Tables S g) (total : ℕ) → file_of g t' ≡ file_of g t → t'.file.header ≡ t.file.header
-      → searched_from t'.space ≡ searched_from t.space → HasFreeRun g t total → HasFreeRun g t' total
-  run-same t t' total file header free run =
-      subst (λ (f : Bytes). HasFree (count f t'.file.header.fields) (searched_from t'.space) (space t'.file.header.fields) total) (sym file)
-      (subst (λ (H : Header). HasFree (count (file_of g t) H.fields) (searched_from t'.space) (space H.fields) total) (sym header)
-      (subst (λ k. HasFree (count (file_of g t) t.file.header.fields) k (space t.file.header.fields) total) (sym free) run))
+  -- The same counts: as much is free.
+  pub run-same : (t t' : Tables S g) (total : ℕ) → file_of g t' ≡ file_of g t → t'.file.header ≡ t.file.header → HasFreeRun g t total
+      → HasFreeRun g t' total
+  run-same t t' total file header run =
+      subst (λ (f : Bytes). HasFree (count f t'.file.header.fields) 0 (space t'.file.header.fields) total) (sym file)
+      (subst (λ (H : Header). HasFree (count (file_of g t) H.fields) 0 (space H.fields) total) (sym header) run)
 
   -- Of an image at rest, with its free space:
   module _ (t : Tables S g) (free : Space) (there : t.space ≡ Some free) where
     counts-at-rest : (c : ℕ) → counted (rest_of g t free) c ≡ count (file_of g t) t.file.header.fields c
     counts-at-rest c = ap (λ (f : Bytes). count f t.file.header.fields c) (resting-memory (rest_of g t free) refl)
 
-    pub run-in-rest : (total : ℕ) → HasFreeRun g t total → HasFreeClusters (rest_of g t free) (mark_of free.allocator) total
-    run-in-rest total run = record {
+    -- It is searched where none is free before.
+    pub run-in-rest : AreCountedBefore g t → (total : ℕ) → 0 < total → HasFreeRun g t total
+        → HasFreeClusters (rest_of g t free) (mark_of free.allocator) total
+    run-in-rest counted total some run = record {
       first = run.first;
-      behind = subst (λ k. k ≤ run.first) (ap searched_from there) run.behind;
+      behind = elim (cases_lt run.first (mark_of free.allocator)) [
+        | inl before ↦
+            let none = run.free run.first (omega arith) (omega (arith, some)) in
+            let taken = counted run.first (subst (λ o. run.first < searched_from o) (sym there) before) in
+            absurd (omega (arith, none, taken))
+        | inr behind ↦ behind
+      ];
       below = run.below;
       free = λ c from to. counts-at-rest c ∙ run.free c from to;
     }
@@ -126,26 +133,28 @@ module _ {S : Type 0} (g : Ghosts S) where
     pub rest-in-run : (total : ℕ) → HasFreeClusters (rest_of g t free) (mark_of free.allocator) total → HasFreeRun g t total
     rest-in-run total run = record {
       first = run.first;
-      behind = subst (λ k. k ≤ run.first) (sym (ap searched_from there)) run.behind;
+      behind = omega arith;
       below = run.below;
       free = λ c from to. sym (counts-at-rest c) ∙ run.free c from to;
     }
 
   -- What a change of clusters says of its room it says of the image.
-  module _ (old new : Tables S g) (free free' : Space) (there : old.space ≡ Some free) (there' : new.space ≡ Some free') where
+  module _ (old new : Tables S g) (free free' : Space) (there : old.space ≡ Some free) (there' : new.space ≡ Some free')
+      (counted : AreCountedBefore g old) where
     pub leaves-in-run : (taken : ℕ)
         → LeavesRoom taken (rest_of g old free) (mark_of free.allocator) (rest_of g new free') (mark_of free'.allocator) → LeavesFree g taken old new
     leaves-in-run taken leaves = record {
       as_large = leaves.as_large;
-      left = λ total some run. rest-in-run new free' there' total (leaves.left total some (run-in-rest old free there (taken + total) run));
+      left = λ total some run. rest-in-run new free' there' total (leaves.left total some
+          (run-in-rest old free there counted (taken + total) (omega (arith, some)) run));
     }
 
-    pub full-in-run : (n number : ℕ)
+    pub full-in-run : (n number : ℕ) → 0 < n
         → room.IsFull n (rest_of g old free) (mark_of free.allocator) (rest_of g new free') (mark_of free'.allocator) number
         → LacksFreeRun g n (room_for old.file.header.fields n) old new number
-    full-in-run n number full = record {
+    full-in-run n number some full = record {
       crowded = λ run.
-          let there = run-in-rest old free there (room_for old.file.header.fields n) run in
+          let there = run-in-rest old free there counted (room_for old.file.header.fields n) (omega (arith, some)) run in
           full.crowded record {
             first = there.first;
             total = room_for old.file.header.fields n;

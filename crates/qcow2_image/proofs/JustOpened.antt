@@ -29,6 +29,7 @@ use Rattle.qcow2_image.specs.declared.qcow2.Qcow2.{Qcow2}
 use Rattle.qcow2_image.specs.declared.tables.Tables.{Tables}
 use Rattle.qcow2_image.proofs.OpeningRules.{reads-too}
 use Rattle.qcow2_image.proofs.Probing.{header-begins}
+use Rattle.qcow2_image.proofs.Searched.{counted-first, opened-first}
 
 module _ {S : Type 0} (g : Ghosts S) (before : StorageState) (writable : Bool) (l2_tables refcount_blocks : ℕ) (t : Tables S g) (same : g.state t.file.image ≡ before)
     (loads : header_of writable (bytes_of before.bytes) ≡ Ok t.file.header) (inside : has_external_data t.file.header.fields ≡ false) (l1 : IsL1Of (bytes_of before.bytes) t.file.header.fields t.l1)
@@ -108,6 +109,7 @@ module _ {S : Type 0} (g : Ghosts S) (before : StorageState) (writable : Bool) (
     seen = now.seen;
     sound = opened-space g d.tables (consistent sound) writable d.tables.space
         (subst (λ (s : StorageState). IsSpaceOpened s H.fields writable d.tables.space) (sym now.same) now.space);
+    searched = counted-first g d.tables (opened-first before H.fields writable d.tables.space now.space);
     held = rw free tt;
     writable = λ some. absurd (Prim.cc (subst IsSome free some));
   }

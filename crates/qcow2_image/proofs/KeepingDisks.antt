@@ -29,11 +29,12 @@ use Rattle.qcow2_types.specs.Consistency.{IsConsistent}
 use Rattle.qcow2_types.proofs.Counting.Consistent.{header-reading}
 use Rattle.qcow2_metadata.specs.Tables.{WhyNotLoaded, block_words, words_in}
 use Rattle.qcow2_alloc.specs.declared.allocation.Allocator.{Allocator}
-use Rattle.qcow2_alloc.specs.Allocators.{IsTablePlaced, LoadsAllocator}
+use Rattle.qcow2_alloc.specs.Allocators.{IsTablePlaced, LoadsAllocator, mark_of}
 use Rattle.qcow2_alloc.specs.Going as going
 use Rattle.qcow2_alloc.specs.Memory.{Cached}
 use Rattle.qcow2_alloc.specs.Opening.{IsL1Of}
 use Rattle.qcow2_alloc.specs.Quiet.{IsSound, IsUsed, Metadata, in_memory}
+use Rattle.qcow2_alloc.specs.Freeing.{IsMarked}
 use Rattle.qcow2_alloc.proofs.Growth.LoadingTable.{opened-sound}
 use Rattle.qcow2_alloc.proofs.Memory.SafeLaws.{clean-memory}
 use Rattle.qcow2_steps.specs.Advancing.{Advances, KeepsHeader, MayBeLeft}
@@ -47,7 +48,7 @@ use Rattle.qcow2_clusters.specs.declared.space.Space.{Space}
 use Rattle.qcow2_image.specs.Holding.{Holding, IsHeld, IsOwnAs, IsUncopied, claim_held, held_of, held_with, homes_with, in_cluster, place_in}
 use Rattle.qcow2_image.specs.ImageLayer.{blank_of, cell_by, cells, home_by, homes, meaning_of, qcow2_fixed}
 use Rattle.qcow2_image.specs.KeepsDisk.{KeepsDisk, KeepsDiskWhere}
-use Rattle.qcow2_image.specs.Rooms.{HoldsIn, IsSafe, is_sound, rest_of}
+use Rattle.qcow2_image.specs.Rooms.{HoldsIn, IsSafe, is_sound, rest_of, searched_from}
 use Rattle.qcow2_image.specs.Seen.{IsOfFile, IsSeen, file_of, layer_of, memory_of}
 use Rattle.qcow2_image.specs.Steps.{KeepsImage}
 use Rattle.qcow2_image.specs.Unspent.{holding_in}
@@ -56,6 +57,7 @@ use Rattle.qcow2_image.specs.declared.qcow2.Qcow2.{Qcow2}
 use Rattle.qcow2_image.specs.declared.tables.Tables.{Tables}
 use Rattle.qcow2_image.proofs.Settling.{seen-same}
 use Rattle.qcow2_image.proofs.Steps.{layer-by, memory-is, still-marked, unmarked}
+use Rattle.qcow2_image.proofs.Searched.{counted-at-rest, counted-first, counted-in-file, counted-same}
 
 -- A call that was cut off to the crates below was so to the driver, and none else.
 pub whole-below : {T : Type 0} (r : Result T Fault) → WasNotCutOff r → going.WasNotCutOff r
@@ -206,6 +208,8 @@ pub record Advanced {S : Type 0} (g : Ghosts S) (sure ok : Type 0) (kind : Kind)
   pub faults : ok → IsFaultless (g.state old.tables.file.image) (g.state new.tables.file.image)
   pub empty : AreEmpty new.tables.caches
   pub l1 : sure → ok → IsL1Of (file_of g new.tables) new.tables.file.header.fields new.tables.l1
+  pub marked : sure → ok → IsMarked (rest_of g old.tables space) (mark_of space.allocator)
+      → IsMarked (rest_of g new.tables space') (mark_of space'.allocator)
   pub progress : sure → Progresses ok kind (g.state old.tables.file.image) (rest_of g old.tables space)
       (g.state new.tables.file.image) (rest_of g new.tables space')
 
@@ -324,6 +328,8 @@ module _ {S : Type 0} (g : Ghosts S) (sure ok : Type 0) (kind : Kind) (old new :
       consistent = consistent-now;
       seen = seen-now;
       sound = subst (λ o. IfSome o (λ x. IsSound (rest_of g new.tables x))) (sym a.there') advances.sound;
+      searched = counted-in-file g new.tables a.space' a.there'
+          (a.marked known whole (counted-at-rest g old.tables a.space a.there safe.searched));
       held = subst (λ u. IfSome (holding_in g u) (HoldsIn g new.tables)) (sym a.unspent)
           (if-both (holding_in g old.unspent) (HoldsIn g old.tables) (Spares g ok kind old new a.space a.space') (HoldsIn g new.tables)
           held-still safe.held a.spares);
@@ -548,6 +554,7 @@ module _ {S T : Type 0} (g : Ghosts S) (old new : Qcow2 S g) (result : Result T 
     sound = subst (λ o. IfSome o (λ x. IsSound (rest_of g new.tables x))) (sym k.tables.space)
         (if-some old.tables.space (λ x. IsSound (rest_of g old.tables x)) (λ x. IsSound (rest_of g new.tables x))
         (λ x sound. subst IsSound (sym (rest-kept x)) sound) safe.sound);
+    searched = counted-same g old.tables new.tables (ap bytes_of k.tables.kept.bytes) k.tables.header (ap searched_from k.tables.space) safe.searched;
     held = subst (λ u. IfSome (holding_in g u) (HoldsIn g new.tables)) (sym k.unspent)
         (if-some (holding_in g old.unspent) (HoldsIn g old.tables) (HoldsIn g new.tables) holds-kept safe.held);
     writable = λ some. subst IsTrue (sym (ap (λ (m : OpenMode). m.writable) k.mode)) (safe.writable (subst IsSome k.unspent some));
@@ -639,6 +646,7 @@ module _ {S : Type 0} (g : Ghosts S) (old new : Qcow2 S g) (space : Space) (none
       consistent = rw (ap bytes_of loads.kept.bytes, header) safe.consistent;
       seen = seen-same g old.tables new.tables loads.kept later-now header l1 caches safe.seen;
       sound = subst (λ o. IfSome o (λ x. IsSound (rest_of g new.tables x))) (sym there) sound-now;
+      searched = counted-first g new.tables (ap searched_from there ∙ loads.ok.2);
       held = none-held;
       writable = λ some. subst IsTrue (sym (ap (λ (m : OpenMode). m.writable) mode)) (safe.writable (subst IsSome unspent some));
     }

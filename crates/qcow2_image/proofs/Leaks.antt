@@ -25,6 +25,7 @@ use Rattle.qcow2_image.specs.declared.qcow2.PreparedMappingState.{PreparedMappin
 use Rattle.qcow2_image.specs.declared.qcow2.Qcow2.{Qcow2}
 use Rattle.qcow2_image.specs.declared.tables.Tables.{Tables}
 use Rattle.qcow2_image.proofs.KeepingDisks.{rest-memory, safe-sound}
+use Rattle.qcow2_image.proofs.KeptLeaks.{leaks-same}
 
 -- What was noted of a mapping is reserved as it was.
 pub noted-reserved : (at n : ℕ) (old new : Option Holding) → Notes at n old new → (c : ℕ) → reserved_in new c ≡ reserved_in old c
@@ -52,25 +53,11 @@ module _ {S : Type 0} (g : Ghosts S) where
       ap (λ (d : Qcow2 S g). counts_in g d c + names_in g old c + pending g old c) is
       ∙ sym (ap (λ (d : Qcow2 S g). counts_in g old c + names_in g d c + pending g d c) is)
 
-  -- A file that stays as it was leaks no more.
-  pub leaks-same : (old new : Qcow2 S g) → file_of g new.tables ≡ file_of g old.tables → new.tables.file.header ≡ old.tables.file.header
-      → ((c : ℕ) → pending g new c ≡ pending g old c) → KeepsLeaks g old new
-  leaks-same old new file header same c =
-      let counts : counts_in g new c ≡ counts_in g old c = λ i. count (file i) (header i).fields c in
-      let names : names_in g new c ≡ names_in g old c = λ i. refs (file i) (header i).fields c in
-      let more = same c in
-      omega (arith, counts, names, more)
-
-  -- Nor does a call that only looks,
-  pub leaks-kept : {T : Type 0} (old new : Qcow2 S g) (result : Result T Fault) → KeepsImage g old result new → KeepsLeaks g old new
-  leaks-kept old new result k = leaks-same old new (ap bytes_of k.tables.kept.bytes) k.tables.header
-      (λ c. λ i. waiting_in (k.tables.space i) c + reserved_in (holding_in g (k.unspent i)) c)
-
-  -- or a request that changes nothing.
+  -- A request that changes nothing leaks no more.
   pub leaks-asked : (old new : Qcow2 S g) (s' : StorageState) → Kept (g.state old.tables.file.image) s' → g.state new.tables.file.image ≡ s'
       → new.tables.file.header ≡ old.tables.file.header → new.tables.space ≡ old.tables.space → new.unspent ≡ old.unspent → KeepsLeaks g old new
   leaks-asked old new s' kept state header space unspent =
-      leaks-same old new (ap (λ (s : StorageState). bytes_of s.bytes) state ∙ ap bytes_of kept.bytes) header
+      leaks-same g old new (ap (λ (s : StorageState). bytes_of s.bytes) state ∙ ap bytes_of kept.bytes) header
       (λ c. λ i. waiting_in (space i) c + reserved_in (holding_in g (unspent i)) c)
 
   -- Free space that is loaded has nothing that waits.
@@ -78,7 +65,7 @@ module _ {S : Type 0} (g : Ghosts S) where
       → Kept (g.state old.tables.file.image) (g.state new.tables.file.image) → new.tables.file.header ≡ old.tables.file.header
       → new.unspent ≡ old.unspent → space.to_free.entries ≡ [] → KeepsLeaks g old new
   leaks-loaded old new space none there kept header unspent empty =
-      leaks-same old new (ap bytes_of kept.bytes) header (λ c.
+      leaks-same g old new (ap bytes_of kept.bytes) header (λ c.
       let before : waiting_in old.tables.space c ≡ 0 = ap (λ o. waiting_in o c) none in
       let after : waiting_in new.tables.space c ≡ 0 = ap (λ o. waiting_in o c) there ∙ ap (λ es. listed es c) empty in
       let held : reserved_in (holding_in g new.unspent) c ≡ reserved_in (holding_in g old.unspent) c = ap (λ u. reserved_in (holding_in g u) c) unspent in

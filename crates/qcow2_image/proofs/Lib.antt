@@ -22,9 +22,11 @@ pub mod Written
 pub mod Preparing
 pub mod KeepingDisks
 pub mod Leaks
+pub mod KeptLeaks
 pub mod KeptClusters
 pub mod FreshRuns
 pub mod FreeRuns
+pub mod Searched
 pub mod Copying
 pub mod Reserving
 pub mod Prepared

@@ -20,6 +20,7 @@ use Rattle.qcow2_image.specs.Preparing.{first_part}
 use Rattle.qcow2_image.specs.Seen.{homes_of, layer_of}
 use Rattle.qcow2_image.specs.Writing.{ComesToBytes, IsNeeded, NeedsValue, Since}
 use Rattle.qcow2_image.specs.declared.qcow2.Qcow2.{Qcow2}
+use Rattle.qcow2_image.specs.Leaking.{KeepsLeaks}
 
 -- Changes of places to bytes add up.
 bytes-then : (a b c : ℕ → Cell) → ComesToBytes a b → ComesToBytes b c → ComesToBytes a c
@@ -35,12 +36,14 @@ bytes-then a b c first second p = elim (second p) [
 pub since-as : {S : Type 0} (g : Ghosts S) (d old new : Qcow2 S g) → ((p : ℕ) (at : ℕ × ℕ) → homes_of g old p ≡ Some at → homes_of g new p ≡ Some at)
     → ComesToBytes (layer_of g old).cell (layer_of g new).cell
     → new.tables.file.header.fields.size ≡ old.tables.file.header.fields.size
-    → new.tables.file.header.fields.cluster_bits ≡ old.tables.file.header.fields.cluster_bits → Since g d old → Since g d new
-since-as g d old new homes cells size bits since = record {
+    → new.tables.file.header.fields.cluster_bits ≡ old.tables.file.header.fields.cluster_bits → KeepsLeaks g old new → Since g d old
+    → Since g d new
+since-as g d old new homes cells size bits leaks since = record {
   homes = λ p at is. homes p at (since.homes p at is);
   cells = bytes-then (layer_of g d).cell (layer_of g old).cell (layer_of g new).cell since.cells cells;
   size = size ∙ since.size;
   bits = bits ∙ since.bits;
+  leaks = λ c. let first = since.leaks c in let second = leaks c in omega (arith, first, second);
 }
 
 -- A place shows what it did, or a byte, behind a commit,

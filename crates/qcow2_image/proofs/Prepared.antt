@@ -34,7 +34,7 @@ use Rattle.qcow2_image.specs.declared.qcow2.Qcow2.{Qcow2}
 use Rattle.qcow2_image.specs.declared.unspent.Unspent.{Unspent}
 use Rattle.qcow2_image.specs.Allocating.{WhyNotReserved}
 use Rattle.qcow2_image.specs.Filling.{IsLeft, RefusesCopy, WhyNotCopied}
-use Rattle.qcow2_image.specs.HeldHomes.{free-homes}
+use Rattle.qcow2_image.specs.HeldHomes.{free-homes, none-held, none-unspent}
 use Rattle.qcow2_image.specs.Holding.{Holding, IsUncopied, claim_held, place_in}
 use Rattle.qcow2_image.specs.Homes.{memory_is}
 use Rattle.qcow2_image.specs.ImageLayer.{qcow2_fixed}
@@ -43,7 +43,8 @@ use Rattle.qcow2_image.specs.Preparing.{HoldsFresh, IsReservedFor, LacksPlace, L
 use Rattle.qcow2_image.specs.Rooms.{HasCluster, HoldsIn, IsSafe, ReadsNone}
 use Rattle.qcow2_image.specs.Seen.{IsSeen, file_of, homes_of, layer_in, layer_of, memory_of}
 use Rattle.qcow2_image.specs.Unspent.{covers, holding, holding_in}
-use Rattle.qcow2_image.specs.Writing.{Since}
+use Rattle.qcow2_image.specs.Writing.{HadNoPlace, Since}
+use Rattle.qcow2_image.specs.Leaking.{KeepsLeaks}
 use Rattle.qcow2_image.proofs.FreshRuns.{fresh-held, fresh-near, fresh-part, fresh-prepared, fresh-uncut, homeless-uncopied}
 use Rattle.qcow2_image.proofs.Needing.{needs-shown, since-as}
 use Rattle.qcow2_image.proofs.Preparing.{part-nowhere, words-none}
@@ -94,9 +95,10 @@ module _ (R : RattleType) (st : Ghosts R.Denot) (sd : mir.Syntax.Dict) (dd : mir
         sym (free-homes (holding_in st middle.unspent) (homes_of st middle) p now-free) ∙ ap (λ (l : Layer). l.home p) (k.layer safe whole)
         ∙ free-homes (holding_in st old.unspent) (homes_of st old) p free
 
-    pub since-disk : IsSafe st old → ok → claim_held (holding_in st old.unspent) ≡ None → (d : Qcow2 R.Denot st) → Since st d old → Since st d middle
-    since-disk safe whole free d since = since-as st d old middle (λ p at is. homes-disk safe whole free p ∙ is)
-        (λ p. inl (ap (λ (l : Layer). l.cell p) (k.layer safe whole))) k.size k.bits since
+    pub since-disk : IsSafe st old → ok → claim_held (holding_in st old.unspent) ≡ None → KeepsLeaks st old middle → (d : Qcow2 R.Denot st)
+        → Since st d old → Since st d middle
+    since-disk safe whole free leaks d since = since-as st d old middle (λ p at is. homes-disk safe whole free p ∙ is)
+        (λ p. inl (ap (λ (l : Layer). l.cell p) (k.layer safe whole))) k.size k.bits leaks since
 
   module _ {B : Type 0} (u : GhostsBelow B) (x y : B) (asked : Asked) (free : claim_held (holding_in st old.unspent) ≡ None) (some : 0 < asked.length)
       (inside : asked.offset + asked.length ≤ h.size) (nowhere : IsSeen st old.tables → (layer_of st old).home asked.offset ≡ None) where
@@ -104,8 +106,13 @@ module _ (R : RattleType) (st : Ghosts R.Denot) (sd : mir.Syntax.Dict) (dd : mir
     part = first_part h asked
 
     -- Why it is refused,
-    module _ (e : Fault) (k : KeepsDisk st (IsMild e) old middle) (marked : LeavesMarked st old middle e)
-        (full : ℕ → Type 0) (why : WhyNotReserved st full old middle e ⊎ RefusesCopy st u part (old, x) y e) where
+    module _ (e : Fault) (k : KeepsDisk st (IsMild e) old middle) (leaks : IsSafe st old → IsMild e → KeepsLeaks st old middle)
+        (marked : LeavesMarked st old middle e)
+        (why : WhyNotReserved st (LacksPlace st (asked.offset / cluster_size h) old.tables middle.tables) old middle e
+        ⊎ RefusesCopy st u part (old, x) y e) where
+      abbrev full : ℕ → Type 0
+      full = LacksPlace st (asked.offset / cluster_size h) old.tables middle.tables
+
       own-failed : (f : Fault) → WhyNotReserved st full old middle f → ImageCause (files sees old) (files sees middle) f
       own-failed Memory is = tt
       own-failed Storage is = inl is
@@ -134,13 +141,27 @@ module _ (R : RattleType) (st : Ghosts R.Denot) (sd : mir.Syntax.Dict) (dd : mir
         Cause = PartCause (u.under x) (layer_of st old) asked.offset asked.length (sees.own_cause d (u.under x) call)
             (files sees old ++ u.files_under x) (files sees middle ++ u.files_under y)
 
-        own-cause : (f : Fault) → WhyNotReserved st full old middle f → Cause f
-        own-cause Memory is = tt
-        own-cause Storage is = inl is
-        own-cause (Limit number) is = part-nowhere R st sd dd old middle u x asked number (nowhere safe.seen) some d call begun uncut
-        own-cause DamagedTable is = absurd (is safe)
-        own-cause Counter is = absurd (is safe)
-        own-cause f is = absurd is
+        -- There was no place for what the guest cluster lacks.
+        had : (number : ℕ) → IsMild e → full number → IsSafe st d → HadNoPlace st d asked.offset number
+        had number mild lacks was = record {
+          now = old;
+          safe = safe;
+          since = (begun was).1;
+          left = middle;
+          left_safe = k.safely safe mild;
+          left_disk = k.layer safe mild;
+          left_leaks = leaks safe mild;
+          lacks = lacks;
+        }
+
+        own-cause : (f : Fault) → (IsMild f → IsMild e) → WhyNotReserved st full old middle f → Cause f
+        own-cause Memory from is = tt
+        own-cause Storage from is = inl is
+        own-cause (Limit number) from is =
+            part-nowhere R st sd dd old middle u x asked number (nowhere safe.seen) some d call begun uncut (had number (from tt) (is safe))
+        own-cause DamagedTable from is = absurd (is safe)
+        own-cause Counter from is = absurd (is safe)
+        own-cause f from is = absurd is
 
         copy-cause : (f : Fault) → WhyNotCopied st u part (old, x) y f → Cause f
         copy-cause Failed is = inr is
@@ -152,7 +173,7 @@ module _ (R : RattleType) (st : Ghosts R.Denot) (sd : mir.Syntax.Dict) (dd : mir
         copy-cause f is = absurd is
 
         why-part : Cause e
-        why-part = elim why [ inl own ↦ own-cause e own | inr below ↦ copy-cause e (below.cause safe under) ]
+        why-part = elim why [ inl own ↦ own-cause e (λ mild. mild) own | inr below ↦ copy-cause e (below.cause safe under) ]
 
       pub prepares-not : Prepares sees u asked (Err e) (old, x) (middle, y)
       prepares-not = record {
@@ -176,7 +197,7 @@ module _ (R : RattleType) (st : Ghosts R.Denot) (sd : mir.Syntax.Dict) (dd : mir
         };
         began = λ d call begun part whole. λ safe.
             let now = begun safe in
-            (k.safely now.0 whole, since-disk (IsMild e) k now.0 whole free d now.1);
+            (k.safely now.0 whole, since-disk (IsMild e) k now.0 whole free (leaks now.0 whole) d now.1);
         refused = record {
           failed = why-failed;
           marks = over_plain sees old middle e why-marks;
@@ -186,7 +207,8 @@ module _ (R : RattleType) (st : Ghosts R.Denot) (sd : mir.Syntax.Dict) (dd : mir
 
     -- Such a run is held then.
     module _ (writable : IsTrue old.mode.writable) (k : KeepsDisk st ⊤ old middle)
-        (mapping : PreparedDataMapping PreparedMappingState) (new : Qcow2 R.Denot st) (f : HoldsFresh st u asked (old, x) middle mapping new) where
+        (mapping : PreparedDataMapping PreparedMappingState) (new : Qcow2 R.Denot st) (f : HoldsFresh st u asked (old, x) middle mapping new)
+        (leaks : IsSafe st old → KeepsLeaks st old new) where
       abbrev unspent : Unspent R.Denot st
       unspent = f.holds.unspent
 
@@ -245,9 +267,13 @@ module _ (R : RattleType) (st : Ghosts R.Denot) (sd : mir.Syntax.Dict) (dd : mir
         consistent = now.consistent;
         seen = now.seen;
         sound = now.sound;
+        searched = now.searched;
         held = holds-in safe;
         writable = λ is. subst (λ (m : OpenMode). IsTrue m.writable) (sym k.mode) writable;
       }
+
+      leaks-held : IsSafe st old → KeepsLeaks st old held
+      leaks-held safe = subst (KeepsLeaks st old) f.holds.now (leaks safe)
 
       abbrev answer : Asked → Run
       answer a = run_at 0 (place_in h' f.clusters.host asked.offset) a.length (Some unspent.claim)
@@ -285,8 +311,11 @@ module _ (R : RattleType) (st : Ghosts R.Denot) (sd : mir.Syntax.Dict) (dd : mir
           lasting = λ l. l;
         };
         began = λ d call begun part whole. λ safe.
-            let now = begun safe in
-            (safe-held now.0, since-as st d middle held (λ p at is. is) (λ p. inl refl) refl refl (since-disk ⊤ k now.0 tt free d now.1));
+            let now = begun safe in (
+              safe-held now.0,
+              since-as st d old held (λ p at is. homes-disk ⊤ k now.0 tt free p ∙ is)
+                  (λ p. inl (ap (λ (l : Layer). l.cell p) (k.layer now.0 tt))) k.size k.bits (leaks-held now.0) now.1,
+            );
         refused = record { failed = tt; marks = tt; cause = λ safe under d call begun part same. tt };
       }
 
@@ -309,10 +338,12 @@ module _ (R : RattleType) (st : Ghosts R.Denot) (sd : mir.Syntax.Dict) (dd : mir
       → Prepares driver u asked result (old, x) (new, y)
   prepares-fresh (Ok mapping) free some nowhere inside writable p =
       prepares-held R st sd dd old p.middle u x y asked free some inside nowhere writable p.keeps mapping new p.ok
+      (λ safe. p.leaks safe (none-unspent st old.unspent (none-held (holding_in st old.unspent) free)) tt)
   prepares-fresh (Err e) free some nowhere inside writable p =
       subst (λ (d : Qcow2 R.Denot st). Prepares driver u asked (Err e) (old, x) (d, y)) (sym p.err.0)
-      (prepares-not R st sd dd old p.middle u x y asked free some inside nowhere e p.keeps p.err.1
-      (LacksPlace st (asked.offset / cluster_size old.tables.file.header.fields) old.tables p.middle.tables) p.err.2)
+      (prepares-not R st sd dd old p.middle u x y asked free some inside nowhere e p.keeps
+      (λ safe mild. subst (KeepsLeaks st old) p.err.0
+      (p.leaks safe (none-unspent st old.unspent (none-held (holding_in st old.unspent) free)) mild)) p.err.1 p.err.2)
 
   pub fresh-size : (result : Result (PreparedDataMapping PreparedMappingState) Fault) → Does result → (layer_of st new).size ≡ (layer_of st old).size
   fresh-size (Ok mapping) p = ap (λ (d : Qcow2 R.Denot st). d.tables.file.header.fields.size) p.ok.holds.now ∙ p.keeps.size

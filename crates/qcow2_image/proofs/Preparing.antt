@@ -46,7 +46,7 @@ use Rattle.qcow2_image.specs.Rooms.{IsSafe, was_safe}
 use Rattle.qcow2_image.specs.Seen.{IsSeen, file_of, homes_of, layer_of}
 use Rattle.qcow2_image.specs.Steps.{KeepsImage}
 use Rattle.qcow2_image.specs.Unspent.{holding_in}
-use Rattle.qcow2_image.specs.Writing.{IsHomeAt}
+use Rattle.qcow2_image.specs.Writing.{IsHomeAt, HadNoPlace}
 use Rattle.qcow2_image.proofs.Steps.{began-kept, looked-kept, marks-kept, takes-kept}
 
 -- No guest cluster of a consistent image is damaged,
@@ -144,11 +144,13 @@ module _ (R : RattleType) (st : Ghosts R.Denot) (sd : mir.Syntax.Dict) (dd : mir
 
     -- and where the first place can't be written.
     pub part-nowhere : (number : ℕ) → (layer_of st old).home asked.offset ≡ None → 0 < asked.length → (d : Qcow2 R.Denot st) (call : Call) → sees.began d call old → IsUncutPart (layer_of st old) call asked.offset asked.length
+        → (IsSafe st d → HadNoPlace st d asked.offset number)
         → PartCause (u.under x) (layer_of st old) asked.offset asked.length (sees.own_cause d (u.under x) call) (files sees old ++ u.files_under x) (files sees new ++ u.files_under x) (Limit number)
-    part-nowhere number none some d call begun part = λ safe. (
+    part-nowhere number none some d call begun part had = λ safe. (
       asked.offset,
       (part.part.start, omega (arith, some, part.part.end)),
       none-before (homes_of st d asked.offset) (homes_of st old asked.offset) ((begun safe).1.homes asked.offset) (words-none (holding_in st old.unspent) (homes_of st old) asked.offset none),
+      had safe,
     )
 
     pub prepares-refused : (e : Fault) → KeepsImage {T = Option (ℕ × ℕ)} st old (Err e) new → ImageCause (files sees old) (files sees new) e

@@ -25,7 +25,7 @@ use Rattle.qcow2_metadata.specs.Tables.{TableValue}
 use Rattle.qcow2_alloc.specs.Crowding.{space}
 use Rattle.qcow2_image.specs.Allocating.{EnsuresTable, HasKept, HasOwnTable, LoadsSpace, PlacesContent, TellsKept, WhyNotAllocated, WhyNotReserved, failed_cut, kept_by, kept_for}
 use Rattle.qcow2_image.specs.Filling.{IsInFirst, IsLeft, IsNeededFor, MakesContent, NeedsShown, RefusesCopy, WhyNotCopied}
-use Rattle.qcow2_image.specs.FreeSpace.{HasFreeRun, HasNoPlace, IsForTable, LacksFreeRun, LacksTable, enough_for_one, enough_for_table, searched_from}
+use Rattle.qcow2_image.specs.FreeSpace.{HasFreeRun, HasNoPlace, IsForTable, LacksFreeRun, LacksTable, enough_for_one, enough_for_table}
 use Rattle.qcow2_image.specs.Holding.{place_in}
 use Rattle.qcow2_image.specs.KeepsDisk.{KeepsDisk, KeepsDiskWhere}
 use Rattle.qcow2_image.specs.Preparing.{HoldsFresh, IsReservedFor, KeepsMapping, LacksPlace, LacksPlaceBeside, LeavesMarked, PreparesFresh, Reserves, first_part}
@@ -42,9 +42,10 @@ use Rattle.qcow2_image.proofs.FileWords.{top-word}
 use Rattle.qcow2_image.proofs.FreeRuns.{asked-as, full-behind, full-more, full-since, lacks-as-file, lacks-as-words, quarter-enough, quarter-some, run-fewer, run-same, safe-short, some-enough}
 use Rattle.qcow2_image.proofs.KeepingDisks.{keeps-disk-both, keeps-disk-same, keeps-disk-then, keeps-image-disk}
 use Rattle.qcow2_image.proofs.KeptClusters.{kept-behind}
-use Rattle.qcow2_image.proofs.Leaks.{leaks-all, leaks-both, leaks-but, leaks-held, leaks-kept, leaks-then}
+use Rattle.qcow2_image.proofs.Leaks.{leaks-all, leaks-both, leaks-but, leaks-held, leaks-then}
 use Rattle.qcow2_image.proofs.Preparing.{never-damaged}
 use Rattle.qcow2_image.proofs.Steps.{keeps-as, keeps-both}
+use Rattle.qcow2_image.proofs.KeptLeaks.{leaks-kept}
 
 module _ {S : Type 0} (g : Ghosts S) where
   -- A refusal of a call that only looks leaves the image marked, or all as it was,
@@ -140,7 +141,7 @@ module _ {S : Type 0} (g : Ghosts S) where
   lacks-looked : {T : Type 0} (v : T) (guest : ℕ) (kept : Option ℕ) (number : ℕ) (old mid : Qcow2 S g) (new : Tables S g)
       → KeepsImage g old (Ok v) mid → IsSafe g mid → LacksPlaceBeside g guest kept mid.tables new number → LacksPlaceBeside g guest kept old.tables new number
   lacks-looked {T} v guest kept number old mid new k safe = lacks-since guest kept number old.tables mid.tables new k.tables.header
-      (λ total some. run-same g old.tables mid.tables total (ap bytes_of k.tables.kept.bytes) k.tables.header (ap searched_from k.tables.space))
+      (λ total some. run-same g old.tables mid.tables total (ap bytes_of k.tables.kept.bytes) k.tables.header)
       (some-quarter mid safe) (lacks-as-file g guest old.tables mid.tables (ap bytes_of k.tables.kept.bytes) k.tables.header)
 
   -- A quarter of the space is more than is needed.

@@ -37,6 +37,7 @@ use Rattle.qcow2_image.specs.Seen.{IsSeen, file_of, memory_of, layer_of}
 use Rattle.qcow2_image.specs.Steps.{KeepsImage, failed_anew, failed_behind, failed_by, Reloads}
 use Rattle.qcow2_image.proofs.JustOpened.{opened-space}
 use Rattle.qcow2_image.proofs.Steps.{layer-by, marks-kept, memory-is}
+use Rattle.qcow2_image.proofs.Searched.{counted-first, opened-first}
 
 -- What a call keeps that wasn't cut off is kept by one that succeeded.
 pub ok-whole : {T : Type 0} (r : Result T Fault) (P : Type 0) → (WasNotCutOff r → P) → OnOk r P
@@ -154,6 +155,8 @@ module _ (R : RattleType) (st : Ghosts R.Denot) (sd : mir.Syntax.Dict) (dd : mir
         consistent = consistent;
         seen = seen;
         sound = opened-space st new.tables consistent old.mode.writable new.tables.space opened;
+        searched = counted-first st new.tables
+            (opened-first (st.state new.tables.file.image) new.tables.file.header.fields old.mode.writable new.tables.space opened);
         held = rw none-prepared tt;
         writable = λ some. absurd (cc (subst IsSome nothing-prepared some));
       }

@@ -33,7 +33,7 @@ use Rattle.qcow2_clusters.specs.declared.space.Space.{Space}
 use Rattle.qcow2_image.specs.Committing.{CancelsUnspent, CommitsUnspent, DropsUnspent, GivesBack, SpendsUnspent, answer_of, failed_behind_any}
 use Rattle.qcow2_image.specs.Holding.{Holding, IsOwnAs, claim_held}
 use Rattle.qcow2_image.specs.ImageLayer.{blank_of, cells, homes, qcow2_fixed}
-use Rattle.qcow2_image.specs.Rooms.{HasRoom, HoldsIn, IsSafe, IsVacant, IsZeroed, ReadsNone, Sees, rest_of}
+use Rattle.qcow2_image.specs.Rooms.{HasRoom, HoldsIn, IsSafe, IsVacant, IsZeroed, ReadsNone, Sees, rest_of, searched_from}
 use Rattle.qcow2_image.specs.Seen.{IsSeen, file_of, homes_of, layer_of, memory_of}
 use Rattle.qcow2_image.specs.Unspent.{holding, holding_in}
 use Rattle.qcow2_image.specs.contracts.qcow2.Qcow2Seen.TheImpl.{ghosts}
@@ -45,6 +45,8 @@ use Rattle.qcow2_image.proofs.Commits.{committed, failed-is, fixed-same, home-gr
 use Rattle.qcow2_image.proofs.KeepingDisks.{rest-memory, whole-below}
 use Rattle.qcow2_image.proofs.Needing.{settles-byte, since-as}
 use Rattle.qcow2_image.proofs.Steps.{memory-is}
+use Rattle.qcow2_image.proofs.Searched.{counted-same}
+use Rattle.qcow2_image.proofs.SpentLeaks.{dropped-leaks, spent-leaks}
 
 abbrev Answer : Type 0
 Answer = Result Unit (Fault × Option (PreparedDataMapping PreparedMappingState))
@@ -155,7 +157,8 @@ module _ (R : RattleType) (st : Ghosts R.Denot) (sd : mir.Syntax.Dict) (dd : mir
               safe-now st state.claim old new result s then.0 is,
               since-as st d old new (home-grows st state.claim old new result s then.0 is)
                   (λ p. settles-byte ((layer_of st old).held p) ((layer_of st old).cell p) ((layer_of st new).cell p) (done.cell p))
-                  (ap (λ (H : Header). H.fields.size) header) (ap (λ (H : Header). H.fields.cluster_bits) header) then.1,
+                  (ap (λ (H : Header). H.fields.size) header) (ap (λ (H : Header). H.fields.cluster_bits) header)
+                  (spent-leaks st state.claim old new result s then.0 is) then.1,
             );
       }
       spent-commits (Err fault) is = record {
@@ -358,6 +361,16 @@ module _ {S : Type 0} (g : Ghosts S) (claim : ℕ) (old new : Qcow2 S g) (s : Dr
             (put-off-sound (rest_of g old.tables holds.space) hold.host (rest-memory g old.tables holds.space) (sound holds.space holds.there)
             (subst (λ b. IsOwnAs b (rest_of g old.tables holds.space) hold.guest hold.host) is holds.held.own)))
 
+  -- The search for free clusters begins where it did.
+  from-still : (is_kept : Bool) (host : ℕ) (before after : Option Space) → GivesBack is_kept host before after
+      → searched_from after ≡ searched_from before
+  from-still true host before after given = ap searched_from given
+  from-still false host None after given = ap searched_from given
+  from-still false host (Some space) after given = elim given [
+    | inl none ↦ ap searched_from none.1
+    | inr back ↦ ap searched_from back.1
+  ]
+
   safe-still : (was now : Bool) → now ≡ false → IsSafe g (record old { failed = was }) → IsSafe g (record new { failed = now })
   safe-still was now runs safe = record {
     runs = runs;
@@ -366,6 +379,8 @@ module _ {S : Type 0} (g : Ghosts S) (claim : ℕ) (old new : Qcow2 S g) (s : Dr
     seen = seen-still safe.seen;
     sound = sound-still (subst (λ o. IfSome o (HoldsIn g old.tables)) held-is safe.held)
         (λ space there. subst (λ o. IfSome o (λ x. IsSound (rest_of g old.tables x))) there safe.sound);
+    searched = counted-same g old.tables new.tables file-same (ap (λ (f : ImageFile S). f.header) s.file)
+        (ap searched_from s.known ∙ from-still s.spent.is_kept s.spent.host old.tables.space s.space s.given) safe.searched;
     held = subst (λ o. IfSome o (HoldsIn g new.tables)) (sym none-held) tt;
     writable = λ some. absurd (cc (subst IsSome free-now some));
   }
@@ -434,7 +449,8 @@ module _ (R : RattleType) (st : Ghosts R.Denot) (sd : mir.Syntax.Dict) (dd : mir
             safe-after st state.claim old new s then.0,
             since-as st d old new (λ p at is. homes-same st state.claim old new s p ∙ is)
                 (λ p. inl (ap (λ (f : ℕ → Cell). f p) gone.cell))
-                (ap (λ (f : ImageFile R.Denot). f.header.fields.size) s.file) (ap (λ (f : ImageFile R.Denot). f.header.fields.cluster_bits) s.file) then.1,
+                (ap (λ (f : ImageFile R.Denot). f.header.fields.size) s.file) (ap (λ (f : ImageFile R.Denot). f.header.fields.cluster_bits) s.file)
+                (dropped-leaks st state.claim old new s then.0) then.1,
           );
     }
 

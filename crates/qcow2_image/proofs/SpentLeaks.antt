@@ -38,7 +38,8 @@ use Rattle.qcow2_image.specs.Unspent.{holding, holding_in}
 use Rattle.qcow2_image.specs.declared.qcow2.PreparedMappingState.{PreparedMappingState}
 use Rattle.qcow2_image.specs.declared.qcow2.Qcow2.{Qcow2}
 use Rattle.qcow2_image.proofs.Commits.{advances, after, before, free-now, hold, hold-is, holds, memory-now, memory-then, refused-hard, sound, with-space}
-use Rattle.qcow2_image.proofs.Leaks.{leaks-idle, leaks-same}
+use Rattle.qcow2_image.proofs.Leaks.{leaks-idle}
+use Rattle.qcow2_image.proofs.KeptLeaks.{leaks-same}
 
 -- A guest cluster that has an L2 table, of a sound image, whose word doesn't name a cluster that is reserved.
 module _ (m : Metadata) (table guest x : ℕ) (is-sound : IsSound m) (under : IsUnder m table guest) (some : x ≢ 0)
@@ -97,7 +98,7 @@ module _ (m : Metadata) (table guest x : ℕ) (is-sound : IsSound m) (under : Is
 -- A commit.
 module _ {S : Type 0} (g : Ghosts S) (claim : ℕ) (old new : Qcow2 S g)
     (result : Result Unit (Fault × Option (PreparedDataMapping PreparedMappingState))) where
-  spent-leaks : (s : SpendsUnspent g claim old result new) → IsSafe g old → s.named ≡ Ok tt → KeepsLeaks g old new
+  pub spent-leaks : (s : SpendsUnspent g claim old result new) → IsSafe g old → s.named ≡ Ok tt → KeepsLeaks g old new
   spent-leaks s safe ok c =
       let one = hold g claim old new result s in
       let has = holds g claim old new result s safe in
@@ -137,7 +138,7 @@ module _ {S : Type 0} (g : Ghosts S) (claim : ℕ) (old new : Qcow2 S g) where
       ∙ listed_push space.to_free.entries (record { first = host; count = 1; metadata = false }) c
       ∙ ap (λ n. listed space.to_free.entries c + n) (one-run host c)
 
-  dropped-leaks : DropsUnspent g claim old new → IsSafe g old → KeepsLeaks g old new
+  pub dropped-leaks : DropsUnspent g claim old new → IsSafe g old → KeepsLeaks g old new
   dropped-leaks s safe = leaks-same g old new (ap (λ (x : StorageState). bytes_of x.bytes) (ap (λ f. g.state f.image) s.file)) (ap (λ f. f.header) s.file) (λ c.
       let one : Holding = holding g s.spent in
       let is : holding_in g old.unspent ≡ Some one = ap (holding_in g) s.there in

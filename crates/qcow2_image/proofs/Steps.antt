@@ -29,11 +29,13 @@ use Rattle.qcow2_image.specs.ImageLayer.{blank_of, cells, homes, qcow2_fixed, qc
 use Rattle.qcow2_alloc.specs.Quiet.{IsSound}
 use Rattle.qcow2_clusters.specs.declared.space.Space.{Space}
 use Rattle.qcow2_image.specs.Holding.{Holding, claim_held, held_with, homes_with}
-use Rattle.qcow2_image.specs.Rooms.{HasRoom, HoldsIn, IsVacant, IsZeroed, IsSafe, IsUntouched, Sees, is_sound, rest_of}
+use Rattle.qcow2_image.specs.Rooms.{HasRoom, HoldsIn, IsVacant, IsZeroed, IsSafe, IsUntouched, Sees, is_sound, rest_of, searched_from}
 use Rattle.qcow2_image.specs.Seen.{file_of, homes_of, layer_of, memory_of}
 use Rattle.qcow2_image.specs.Unspent.{holding_in}
 use Rattle.qcow2_image.specs.Steps.{KeepsTables, KeepsImage, failed_by, failed_behind}
 use Rattle.qcow2_image.proofs.Needing.{since-as}
+use Rattle.qcow2_image.proofs.Searched.{counted-same}
+use Rattle.qcow2_image.proofs.KeptLeaks.{leaks-kept}
 
 -- The layer is what its parts make it.
 pub layer-by : (s s' : StorageState) (m m' : Bytes) (h h' : Fields) (b b' : OpenMode) (n n' : ℕ) (f f' : Bool) (k k' : Option Holding) → s'.shape ≡ s.shape → s'.bytes ≡ s.bytes → m' ≡ m → h' ≡ h → b' ≡ b → n' ≡ n → f' ≡ f → k' ≡ k
@@ -227,6 +229,7 @@ module _ (R : RattleType) (st : Ghosts R.Denot) (sd : mir.Syntax.Dict) (dd : mir
     consistent = rw (ap bytes_of k.tables.kept.bytes, k.tables.header) safe.consistent;
     seen = k.tables.seen safe.seen;
     sound = sound-same safe.sound;
+    searched = counted-same st old.tables new.tables (ap bytes_of k.tables.kept.bytes) k.tables.header (ap searched_from k.tables.space) safe.searched;
     held = held-same safe.held;
     writable = λ some. subst IsTrue (sym (ap (λ (m : OpenMode). m.writable) k.mode)) (safe.writable (subst IsSome k.unspent some));
   }
@@ -271,7 +274,7 @@ module _ (R : RattleType) (st : Ghosts R.Denot) (sd : mir.Syntax.Dict) (dd : mir
       let same = layer-same failed in (
         safe-same failed now.0,
         since-as st e old new (λ p at is. homes-same p ∙ is) (λ p. inl (ap (λ (l : Layer). l.cell p) same))
-            (ap (λ (H : Header). H.fields.size) k.tables.header) (ap (λ (H : Header). H.fields.cluster_bits) k.tables.header) now.1,
+            (ap (λ (H : Header). H.fields.size) k.tables.header) (ap (λ (H : Header). H.fields.cluster_bits) k.tables.header) (leaks-kept st {T = T} old new result k) now.1,
       )
 
   pub spared : new.failed ≡ old.failed → IsSpared sees old new

@@ -49,7 +49,7 @@ use Rattle.qcow2_image.specs.Leaking.{KeepsLeaks, counts_in, names_in, waiting_i
 use Rattle.qcow2_image.specs.ImageLayer.{blank_of, cells, home_by, homes, meaning_of, qcow2_fixed, qcow2_meaning}
 use Rattle.qcow2_image.specs.Homes.{mapped, memory_is}
 use Rattle.qcow2_clusters.specs.Naming.{TakesNone}
-use Rattle.qcow2_image.specs.Rooms.{HasCluster, HoldsIn, IsSafe, ReadsNone, is_sound, rest_of, was_safe}
+use Rattle.qcow2_image.specs.Rooms.{HasCluster, HoldsIn, IsSafe, ReadsNone, is_sound, rest_of, was_safe, searched_from}
 use Rattle.qcow2_image.specs.Seen.{IsOfFile, IsSeen, file_of, homes_of, layer_of, memory_of}
 use Rattle.qcow2_image.specs.Unspent.{holding_in}
 use Rattle.qcow2_image.specs.Writing.{IsHomeAt, WhyNotTold, WritesAt}
@@ -64,6 +64,7 @@ use Rattle.qcow2_image.specs.declared.qcow2.PreparedMappingState.{PreparedMappin
 use Rattle.qcow2_image.proofs.Leaks.{noted-reserved}
 use Rattle.qcow2_image.proofs.Noted.{IsWrittenIn, held-beside, held-range, held-still, noted-claim, noted-homes, unshown-in, written-at, written-in}
 use Rattle.qcow2_image.proofs.Rewriting.{IsWrittenAt, written-beside, rewritten-kept, rewritten-consistent, rewritten-entries, rewritten-others, rewritten-range, kept-l1-words, kept-l2-words, kept-l1-sound}
+use Rattle.qcow2_image.proofs.Searched.{counted-still}
 
 -- What a call leaves of each stop, of a storage of which nothing but the count of faults was another before.
 pub passes-kept : (P : List ℕ → Type 0) (s t u : StorageState) → KeptStorage s t → Passes P t u → Passes P s u
@@ -514,6 +515,11 @@ module _ (R : RattleType) (st : Ghosts R.Denot) (sd : mir.Syntax.Dict) (dd : mir
             (subst (λ (b : List ℕ). AllByRecursion (IsOfFile (bytes_of b) H.fields) (cached_in mid.tables.caches).tables) looked.tables.kept.bytes (rw looked.tables.header at seen-mid.tables)));
       };
       sound = sound-new;
+      searched = counted-still st old.tables new.tables (λ c.
+          (λ i. count x (header-same i).fields c)
+          ∙ untouched-counts (file_of st old.tables) x H safe.consistent
+          (rewritten-kept (file_of st old.tables) H safe.consistent guest place (length bytes) (each-of safe) x off) c)
+          (ap searched_from space-same) safe.searched;
       held = holds-new;
       writable = λ some. subst IsTrue (sym (ap (λ (m : OpenMode). m.writable) mode-same)) (safe.writable (some-old some));
     }
@@ -598,7 +604,8 @@ module _ (R : RattleType) (st : Ghosts R.Denot) (sd : mir.Syntax.Dict) (dd : mir
         safe-written answer now.0 failed told,
         since-as st d old new (λ p at is. ap (λ (h : ℕ → Option (ℕ × ℕ)). h p) (words-written answer now.0 failed told) ∙ is)
             (wrote-byte (layer_of st old) (layer_of st new) guest bytes (wrote answer now.0 failed told))
-            (ap (λ (h : Header). h.fields.size) header-same) (ap (λ (h : Header). h.fields.cluster_bits) header-same) now.1,
+            (ap (λ (h : Header). h.fields.size) header-same) (ap (λ (h : Header). h.fields.cluster_bits) header-same)
+            (leaks-written answer now.0 failed told) now.1,
       )
   began-written (Err e) answer told failed d call begun = tt
 

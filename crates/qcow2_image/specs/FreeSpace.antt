@@ -16,14 +16,9 @@ use Rattle.qcow2_image.specs.Rooms.{rest_of}
 use Rattle.qcow2_image.specs.Seen.{file_of}
 use Rattle.qcow2_image.specs.declared.tables.Tables.{Tables}
 
--- where the search for free clusters begins: where nothing was allocated yet, at the start of the file
-abbrev pub searched_from : Option Space → ℕ
-searched_from None = 0
-searched_from (Some free) = mark_of free.allocator
-
 -- So many clusters in a row aren't counted by the file, of all that a file of its kind can have.
 abbrev pub HasFreeRun : {S : Type 0} (g : Ghosts S) → Tables S g → ℕ → Type 0
-HasFreeRun g t total = let h = t.file.header.fields in HasFree (count (file_of g t) h) (searched_from t.space) (space h) total
+HasFreeRun g t total = let h = t.file.header.fields in HasFree (count (file_of g t) h) 0 (space h) total
 
 -- Of such a run a call has left all but so many.
 pub record LeavesFree {S : Type 0} (g : Ghosts S) (taken : ℕ) (old new : Tables S g) : Type 0 where

@@ -51,7 +51,7 @@ pub record IsReservedFor {S : Type 0} (g : Ghosts S) (guest : ℕ) (r : Reserved
   pub room : r.is_kept ≡ false → 0 < space.to_free.held
 
 -- There is no place for what a guest cluster lacks that keeps this host cluster, or none: its word of the L1 table would be behind the 2^22
--- that there can be, or no quarter of the space, from where the search begins on, was free in a row.
+-- that there can be, or no quarter of the space was free in a row.
 abbrev pub LacksPlaceBeside : {S : Type 0} (g : Ghosts S) → (guest : ℕ) → (kept : Option ℕ) → (old new : Tables S g) → ℕ → Type 0
 LacksPlaceBeside g guest kept old new number = let h = old.file.header.fields in
     HasNoPlace g (IsForCluster g guest kept old) (guest / words_of_cluster h) (space h / 4) old new number

@@ -1,6 +1,6 @@
 -- What is allocated for the places of an image, and which files are sound; laws of the driver.
 use Rattle.std.proofs.Common.{inl, inr, sym, subst, refl, arith}
-use Rattle.std.specs.Prelude.{◌≡◌, ◌⊎◌, ⊤, ℕ, zero, suc, ◌/◌, ◌<◌, ◌≤◌, ltb, false, List, [], IsTrue, IsSome, IfSome, Some, None}
+use Rattle.std.specs.Prelude.{◌≡◌, ◌⊎◌, ⊤, ℕ, zero, suc, ◌/◌, ◌<◌, ◌≤◌, ltb, false, List, [], IsTrue, IsSome, IfSome, Option, Some, None}
 use Rattle.std.proofs.lemmas.Bool.{cases_Bool}
 use Rattle.imago_access.specs.Refusals.{IsOfStorages}
 use Rattle.imago_access.specs.Stops.{IsCovered}
@@ -19,6 +19,8 @@ use Rattle.qcow2_image.specs.Holding.{Holding, IsHeld}
 use Rattle.qcow2_image.specs.Seen.{IsSeen, file_of, layer_of}
 use Rattle.qcow2_image.specs.Unspent.{holding_in}
 use Rattle.imago_storage.specs.declared.storage.Storage.{Ghosts}
+use Rattle.qcow2_types.specs.Counts.{count}
+use Rattle.qcow2_alloc.specs.Allocators.{mark_of}
 use Rattle.qcow2_image.specs.declared.qcow2.Qcow2.{Qcow2}
 use Rattle.qcow2_image.specs.declared.tables.Tables.{Tables}
 
@@ -85,14 +87,24 @@ pub record HoldsIn {S : Type 0} (g : Ghosts S) (t : Tables S g) (hold : Holding)
   pub held : IsHeld (rest_of g t space) hold
   pub room : hold.is_kept ≡ false → 0 < space.to_free.held
 
+-- where the search for free clusters begins: where nothing was allocated yet, at the start of the file
+abbrev pub searched_from : Option Space → ℕ
+searched_from None = 0
+searched_from (Some free) = mark_of free.allocator
+
+-- By the counts of the file, no cluster before that is free.
+abbrev pub AreCountedBefore : {S : Type 0} (g : Ghosts S) → Tables S g → Type 0
+AreCountedBefore g t = (c : ℕ) → c < searched_from t.space → 0 < count (file_of g t) t.file.header.fields c
+
 -- An image that has not failed, and whose file is a consistent image and keeps what is written. Its free space is sound, if it is known,
--- and so is what a mapping holds.
+-- and searched from where none is free before; so is what a mapping holds.
 pub record IsSafe {S : Type 0} (g : Ghosts S) (d : Qcow2 S g) : Type 0 where
   pub runs : d.failed ≡ false
   pub keeps : IsTrue (g.state d.tables.file.image).shape.keeps
   pub consistent : IsConsistent (file_of g d.tables) d.tables.file.header
   pub seen : IsSeen g d.tables
   pub sound : IfSome d.tables.space (λ space. IsSound (rest_of g d.tables space))
+  pub searched : AreCountedBefore g d.tables
   pub held : IfSome (holding_in g d.unspent) (HoldsIn g d.tables)
   pub writable : IsSome d.unspent → IsTrue d.mode.writable
 
@@ -111,6 +123,7 @@ was_safe g d safe = record {
   consistent = safe.consistent;
   seen = safe.seen;
   sound = safe.sound;
+  searched = safe.searched;
   held = safe.held;
   writable = safe.writable;
 }

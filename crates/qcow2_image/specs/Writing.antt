@@ -1,6 +1,6 @@
 -- What a change of an image that was opened for writing rests on, and why it is refused.
 use Rattle.std.proofs.Common.{inl, refl}
-use Rattle.std.specs.Prelude.{◌≡◌, ◌⊎◌, ⊤, ℕ, ◌+◌, ◌<◌, ◌∷◌, List, Some, None, Result, is_err, true}
+use Rattle.std.specs.Prelude.{◌≡◌, ◌⊎◌, ⊤, ℕ, ◌+◌, ◌/◌, ◌<◌, ◌∷◌, List, Some, None, Result, is_err, true}
 use Rattle.imago_storage.specs.State.{Rose}
 use Rattle.imago_storage.specs.Causes.{offset_of, length_of}
 use Rattle.imago_storage.specs.Steps.{Call, IsIn}
@@ -17,6 +17,8 @@ use Rattle.qcow2_types.specs.Header.{cluster_size}
 use Rattle.qcow2_image.specs.Rooms.{IsSafe}
 use Rattle.qcow2_image.specs.Seen.{homes_of, layer_of}
 use Rattle.qcow2_image.specs.declared.qcow2.Qcow2.{Qcow2}
+use Rattle.qcow2_image.specs.Leaking.{KeepsLeaks}
+use Rattle.qcow2_image.specs.Preparing.{LacksPlace}
 
 -- Each place that can be written by the words of an image can be so later.
 abbrev pub KeepsHomes : {S : Type 0} (g : Ghosts S) → Qcow2 S g → Qcow2 S g → Type 0
@@ -32,15 +34,16 @@ pub record Since {S : Type 0} (g : Ghosts S) (d now : Qcow2 S g) : Type 0 where
   pub cells : ComesToBytes (layer_of g d).cell (layer_of g now).cell
   pub size : now.tables.file.header.fields.size ≡ d.tables.file.header.fields.size
   pub bits : now.tables.file.header.fields.cluster_bits ≡ d.tables.file.header.fields.cluster_bits
+  pub leaks : KeepsLeaks g d now
 
 -- A call has begun on a safe image: that is safe still, each place can be written where it could, and shows what it did or a byte of its
--- own.
+-- own, and nothing leaks anew.
 abbrev pub HasBegun : {S : Type 0} (g : Ghosts S) → Qcow2 S g → Qcow2 S g → Type 0
 HasBegun g d now = IsSafe g d → IsSafe g now × Since g d now
 
 -- A call begins so: a law of the driver.
 pub begun_itself : {S : Type 0} (g : Ghosts S) (d : Qcow2 S g) → HasBegun g d d
-begun_itself g d = λ safe. (safe, record { homes = λ p at is. is; cells = λ p. inl refl; size = refl; bits = refl })
+begun_itself g d = λ safe. (safe, record { homes = λ p at is. is; cells = λ p. inl refl; size = refl; bits = refl; leaks = λ c. refl })
 
 -- What a place shows is needed by a call: it lies in a cluster that the range meets, and that isn't overwritten whole.
 pub record IsNeeded (unit size : ℕ) (call : Call) (p : ℕ) : Type 0 where
@@ -56,11 +59,24 @@ abbrev pub NeedsValue : {S : Type 0} (g : Ghosts S) → Qcow2 S g → List Layer
 NeedsValue g d below call value = let h = d.tables.file.header.fields in
     (p : ℕ) × IsNeeded (cluster_size h) h.size call p × (at (layer_of g d ∷ below) p ≡ value)
 
+-- An image, as a call can have made it of one since it began, had no place for what the guest cluster of a place lacked, as this number
+-- tells. The search for one left its disk as it was, and leaked nothing.
+pub record HadNoPlace {S : Type 0} (g : Ghosts S) (d : Qcow2 S g) (p number : ℕ) : Type 0 where
+  pub now : Qcow2 S g
+  pub safe : IsSafe g now
+  pub since : Since g d now
+  pub left : Qcow2 S g
+  pub left_safe : IsSafe g left
+  pub left_disk : layer_of g left ≡ layer_of g now
+  pub left_leaks : KeepsLeaks g now left
+  pub lacks : LacksPlace g (p / cluster_size now.tables.file.header.fields) now.tables left.tables number
+
 -- Why an image isn't changed, by causes of its own: zeroing, discards and resizes are declined; bytes aren't written where a place of the
--- range has no cluster of its own, for which none could be allocated, nor where a place that is needed can't be read.
+-- range has no cluster of its own, for which there was no place, nor where a place that is needed can't be read.
 abbrev pub WhyUnwritten : {S : Type 0} (g : Ghosts S) → Qcow2 S g → List Layer → Call → Fault → Type 0
 WhyUnwritten g d below call Unsupported = ⊤
 WhyUnwritten g d below call (Limit number) = (p : ℕ) × IsIn (offset_of call) (length_of call) p × (homes_of g d p ≡ None)
+    × HadNoPlace g d p number
 WhyUnwritten g d below call DamagedTable = NeedsValue g d below call damaged_place
 WhyUnwritten g d below call Barred = NeedsValue g d below call barred
 WhyUnwritten g d below call fault = ⊥

@@ -7,9 +7,9 @@ use Rattle.qcow2_image.specs.Looking.{IsWholeRunIn}
 use Rattle.qcow2_image.specs.Seen.{layer_of}
 use Rattle.qcow2_image.proofs.Prepared.{fresh-cut, fresh-free, fresh-mine, fresh-run, fresh-size, fresh-whole, limit-where, prepares-fresh, unspent-none}
 use Rattle.qcow2_image.proofs.Preparing.{part-why, prepares-mapped, prepares-refused}
-use Rattle.qcow2_image.proofs.Leaks.{leaks-kept}
 use Rattle.qcow2_image.proofs.Reserving.{fresh-behind, fresh-lacks}
 use Rattle.qcow2_image.proofs.drivers.Qcow2FormatDriverInstance.prepare_data_mapping.Goals as goal
+use Rattle.qcow2_image.proofs.KeptLeaks.{leaks-kept}
 
 pub returns-then-self-clause-below : goal.returns-then-self-clause-below
 returns-then-self-clause-below g c = looked_under_same g.B.SeenBelow ⊤ c.args.below.now

@@ -2,9 +2,9 @@ use Rattle.std.proofs.Common.{refl, Ok, Err}
 use Rattle.std.specs.Prelude.{Bool}
 use Rattle.imago_storage.specs.declared.fault.Fault.TheVariants.{Outdated}
 use Rattle.qcow2_image.proofs.Written.{noted, told-why, unnoted, unwritten, writes-mapped, writing-refused, written-leaks}
-use Rattle.qcow2_image.proofs.Leaks.{leaks-kept}
 use Rattle.qcow2_image.proofs.Steps.{keeps-as, marks-kept}
 use Rattle.qcow2_image.proofs.drivers.Qcow2FormatDriverInstance.write_mapped.Goals as goal
+use Rattle.qcow2_image.proofs.KeptLeaks.{leaks-kept}
 
 pub returns-in-Ok-write_at-clause-writes : goal.returns-in-Ok-write_at-clause-writes
 returns-in-Ok-write_at-clause-writes g c =
