@@ -16,11 +16,11 @@ use Rattle.qcow2_alloc.specs.Going.{IsMild, WasNotCutOff}
 use Rattle.qcow2_alloc.specs.HandingOut.{AllocatesClusters}
 use Rattle.qcow2_alloc.specs.MakingRoom.{run_of}
 use Rattle.qcow2_alloc.specs.FreeList.{covers}
-use Rattle.qcow2_alloc.specs.Freeing.{IsMarked}
 use Rattle.qcow2_alloc.specs.Quiet.{IsUsed, Quietly, counted}
 use Rattle.qcow2_alloc.specs.ReadyingRuns.{IsRunTold}
 use Rattle.qcow2_alloc.specs.ReadyingRuns.{handed_by as handed_out}
 use Rattle.qcow2_alloc.specs.State.{IsKept, WhereKept}
+use Rattle.qcow2_alloc.specs.Freeing.{IsMarked}
 use Rattle.qcow2_alloc.proofs.Handing.HandedOut.{unnamed-used}
 use Rattle.qcow2_alloc.proofs.Quiet.QuietThen.{quietly-otherwise, used-then}
 use Rattle.qcow2_clusters.specs.Rest.{AreEmpty, Clusters, HasEntries, IsReady, changed, resting, storage}

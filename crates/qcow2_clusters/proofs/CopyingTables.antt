@@ -1,6 +1,6 @@
 -- How an L2 table is copied, or one is made where there was none.
 use Rattle.std.proofs.Common.{◌≡◌, ◌≢◌, ℕ, ◌+◌, ◌*◌, ◌<◌, refl, arith, ap, sym, subst, ◌∙◌, inl, inr, List, [], ◌∷◌, ◌++◌, Ok, Err, Option, Result, Some, None, true}
-use Rattle.std.specs.Prelude.{◌==◌, ◌&&◌, if◌then◌else◌, IfErr, IfOk, IsTrue, OnOk, replicate, slice_index}
+use Rattle.std.specs.Prelude.{◌^◌, ◌==◌, ◌&&◌, if◌then◌else◌, IfErr, IfOk, IsTrue, OnOk, replicate, slice_index, slice_set}
 use Rattle.std.proofs.lemmas.Bool.{and_parts, cases_eq, ne_eqb}
 use Rattle.std.proofs.lemmas.Bool.Decides.{nat_tests}
 use Rattle.std.proofs.lemmas.List.{get_or-replicate}
@@ -27,6 +27,7 @@ use Rattle.qcow2_alloc.specs.Opening.{IsL1Of}
 use Rattle.qcow2_alloc.specs.Quiet.{Metadata, IsSound, named_at_all}
 use Rattle.qcow2_alloc.specs.declared.cache.CacheDependency.TheVariants.{Unset}
 use Rattle.qcow2_alloc.specs.declared.file.ImageFile.{ImageFile}
+use Rattle.qcow2_alloc.specs.Freeing.{IsMarked}
 use Rattle.qcow2_alloc.proofs.Freeing.Listed.{covers-one}
 use Rattle.qcow2_alloc.proofs.Memory.Patches.{place-there}
 use Rattle.qcow2_steps.specs.NewTables.{old_table}
@@ -41,7 +42,6 @@ use Rattle.qcow2_clusters.proofs.Adding.{AdvancesBy, IsWider, progresses-in-memo
 use Rattle.qcow2_clusters.proofs.LeavingRoom.{leaves-as}
 use Rattle.qcow2_clusters.proofs.MakingTables.{IsKept, held-aside, if-refused, kept-itself, narrowed, not-begun, why-put, why-wider, with_held}
 use Rattle.qcow2_clusters.proofs.NamingTables.{bytes-mean, from-zero, l1-table, l1-word, zeroes-map}
-use Rattle.qcow2_alloc.specs.Freeing.{IsMarked}
 
 pub none-found : (found : Option ℕ) → ((t : ℕ) → found ≡ Some t → ⊥) → found ≡ None
 none-found None none = refl
@@ -117,6 +117,7 @@ module _ {S : Type 0} (state : S → StorageState) (l1 : TableValue) (i : ℕ) (
     named = not-begun state (HasTable state l1 i c) (copying (resting state c) i (Err DamagedTable)) i c DamagedTable l1 c empty
         (kept-itself state c) (λ ready is whole. never is) (λ whole. (refl, refl)) (λ both. never both.1);
     held = refl;
+    words = tt;
     waits = λ is. tt;
   } where
     never : HasTable state l1 i c → ⊥
@@ -134,6 +135,7 @@ module _ {S : Type 0} (state : S → StorageState) (l1 : TableValue) (i : ℕ) (
         (why-put (IsReady state c × HasTable state l1 i c) (IsFull 1 (resting state c) (mark_in c) (resting state c') (mark_in c')) (storage state c).faults (storage state c).faults (storage state c').faults fault
         refl why);
     held = held;
+    words = tt;
     waits = λ is. tt;
   }
 
@@ -178,6 +180,7 @@ module _ {S : Type 0} (state : S → StorageState) (l1 : TableValue) (i : ℕ) (
         (wider-handing (λ d. handed_by (Err fault) d + given_up m i (Err fault) d) (handed_by (Err fault)) (copying m i (Err fault)))
         (λ has d. refl) (λ has d none. refl) places.named;
     held = places.held;
+    words = tt;
     waits = λ has. tt;
   }
 
@@ -251,6 +254,7 @@ module _ {S : Type 0} (state : S → StorageState) (l1 : TableValue) (i : ℕ) (
         cause = tt;
       };
       held = let more = places.held in omega (arith, one-less, more);
+      words = places.words;
       waits = λ has. (old, c1.space.to_free.entries, table-at has, refl);
     }
 
@@ -332,6 +336,7 @@ module _ {S : Type 0} (state : S → StorageState) (c : Clusters S) (file : Imag
           copies.named.cause);
     };
     held = copies.held;
+    words = before (λ s H. IfOk result (λ t. l1'.words ≡ slice_set l1.words i (2 ^ 63 + t * cluster_size H.fields))) copies.words;
     waits = λ has. before (λ s H. IfOk result (λ t. (old : ℕ) × (before : List FreeEntry)
         × (l2_table (bytes_of s.bytes) H.fields i ≡ old * cluster_size H.fields)
         × (c'.space.to_free.entries ≡ before ++ table_entry old ∷ [])))

@@ -17,20 +17,20 @@ use Rattle.qcow2_alloc.specs.declared.file.ImageFile.{ImageFile}
 use Rattle.qcow2_alloc.specs.Going.{WasNotCutOff}
 use Rattle.qcow2_alloc.specs.Opening.{IsL1Of}
 use Rattle.qcow2_alloc.specs.Quiet.{IsSound, Metadata}
+use Rattle.qcow2_alloc.specs.Freeing.{IsMarked}
 use Rattle.qcow2_alloc.proofs.Flushing.Faultless.{put-faultless}
 use Rattle.qcow2_alloc.proofs.Memory.FreeRuns.{put-outside}
 use Rattle.qcow2_alloc.proofs.Quiet.AtOnce.{put-done}
 use Rattle.qcow2_steps.specs.Advancing.{Advances, MayBeLeft}
 use Rattle.qcow2_steps.specs.Data.{IsHiddenIn, IsKeptFor, WritesBeside}
 use Rattle.qcow2_steps.proofs.HiddenClusters.{hidden-advances, hidden-stops, kept-hidden, kept-stays}
+use Rattle.qcow2_steps.proofs.DataRuns.{beside-words}
 use Rattle.qcow2_clusters.specs.Filling.{Fills, filling}
 use Rattle.qcow2_clusters.specs.Rest.{AreEmpty, Clusters, lent, resting, storage}
+use Rattle.qcow2_clusters.specs.Room.{mark_in}
 use Rattle.qcow2_clusters.proofs.Adding.{AdvancesBy}
 use Rattle.qcow2_clusters.proofs.Resting.{l1-stays}
-use Rattle.qcow2_alloc.specs.Freeing.{IsMarked}
-use Rattle.qcow2_clusters.specs.Room.{mark_in}
 use Rattle.qcow2_clusters.proofs.LeavingRoom.{marked-as}
-use Rattle.qcow2_steps.proofs.DataRuns.{beside-words}
 
 -- Where no change was refused the file is still what a stop leaves.
 put-in-step : (s t : StorageState) (place : ℕ) (bytes : List ℕ) (r : Result Unit Fault)

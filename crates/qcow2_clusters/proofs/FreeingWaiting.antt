@@ -19,11 +19,11 @@ use Rattle.qcow2_alloc.proofs.Quiet.QuietFlushes.{quietly-weaker}
 use Rattle.qcow2_clusters.specs.Freeing.{FreesWaiting, WhyNotFreed}
 use Rattle.qcow2_clusters.specs.Rest.{AreEmpty, Clusters, HasEntries, IsReady, changed, lent, resting, storage}
 use Rattle.qcow2_clusters.specs.Settling.{Settles, WhyNotSettled}
+use Rattle.qcow2_clusters.specs.Room.{mark_in}
 use Rattle.qcow2_clusters.proofs.Adding.{quiet-progresses}
 use Rattle.qcow2_clusters.proofs.Ending.{begun, begun-then, ready-kept, settled-cause, settled-faultless, settled-ok, settled-quietly, settled-cases}
 use Rattle.qcow2_clusters.proofs.Resting.{empty-loose, l1-kept, begun-counts}
 use Rattle.qcow2_clusters.proofs.LeavingRoom.{marked-as}
-use Rattle.qcow2_clusters.specs.Room.{mark_in}
 
 -- why what waits wasn't counted down
 why-freed : (sound ready loose : Type 0) → (ready → sound) → loose → (before after : ℕ) (fault : Fault) → WhyNotCountedDown sound loose before after fault → WhyNotFreed ready before after fault

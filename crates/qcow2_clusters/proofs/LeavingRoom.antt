@@ -15,10 +15,10 @@ use Rattle.qcow2_alloc.specs.HandingOut.{IsFreed}
 use Rattle.qcow2_alloc.specs.Quiet.{Metadata, counted}
 use Rattle.qcow2_alloc.specs.ReadyingRuns.{IsRunCounted, IsRunTold, mark_behind}
 use Rattle.qcow2_alloc.specs.SearchingClusters.{IsFirstRun}
+use Rattle.qcow2_alloc.specs.Freeing.{IsMarked}
 use Rattle.qcow2_alloc.proofs.Handing.AnnouncedOrders.{no-place-as}
 use Rattle.qcow2_clusters.specs.Room.{HasFreeClusters, IsFull, LeavesRoom}
 use Rattle.qcow2_clusters.specs.Storing.{WhyNotAllocated}
-use Rattle.qcow2_alloc.specs.Freeing.{IsMarked}
 
 -- A cause stays one where less is ready, and what tells that there is no place may be said otherwise.
 pub why-as : (ready less : Type 0) (full full' : ℕ → Type 0) → (less → ready) → (before after : ℕ) (fault : Fault)

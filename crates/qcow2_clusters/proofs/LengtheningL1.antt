@@ -31,6 +31,7 @@ use Rattle.qcow2_alloc.specs.Going.{WasNotCutOff}
 use Rattle.qcow2_alloc.specs.MakingRoom.{run_of}
 use Rattle.qcow2_alloc.specs.Opening.{IsL1Of}
 use Rattle.qcow2_alloc.specs.Quiet.{Metadata, IsQuiet, IsSound, counted, named_at_all, referenced, waiting}
+use Rattle.qcow2_alloc.specs.Freeing.{IsMarked}
 use Rattle.qcow2_alloc.proofs.Flushing.Faultless.{faultless-then, put-faultless}
 use Rattle.qcow2_alloc.proofs.Growth.SwitchingTables.{sound-sizes}
 use Rattle.qcow2_alloc.proofs.Quiet.AtOnce.{at-once-file, put-done}
@@ -51,7 +52,6 @@ use Rattle.qcow2_clusters.proofs.LongerTables.{IsStoredL1, later, part-meets, st
 use Rattle.qcow2_clusters.proofs.MakingTables.{l1-placed, once-progresses, why-put}
 use Rattle.qcow2_clusters.proofs.NamingTables.{l1-long, l1-same}
 use Rattle.qcow2_clusters.proofs.Resting.{begun-quiet, begun-quietly}
-use Rattle.qcow2_alloc.specs.Freeing.{IsMarked}
 
 -- Words take clusters, and fit them.
 taken-by : (h : Fields) (n : ℕ) → 8 * n + (cluster_size h - 1) < clusters_for h n * cluster_size h + cluster_size h

@@ -11,6 +11,7 @@ pub mod FillingKept
 pub mod LoneTables
 pub mod NamedWords
 pub mod NamedRuns
+pub mod FewerWaiting
 pub mod NamedAtRest
 pub mod NamedOnce
 pub mod NamingTables

@@ -25,6 +25,7 @@ use Rattle.qcow2_alloc.specs.Allocating.{MovedTable}
 use Rattle.qcow2_alloc.specs.Going.{WasNotCutOff}
 use Rattle.qcow2_alloc.specs.Opening.{IsL1Of}
 use Rattle.qcow2_alloc.specs.Quiet.{Metadata, IsIn, IsSound, counted, named_at_all, one_at}
+use Rattle.qcow2_alloc.specs.Freeing.{IsMarked}
 use Rattle.qcow2_alloc.proofs.Flushing.Faultless.{faultless-then, put-faultless}
 use Rattle.qcow2_alloc.proofs.Quiet.AtOnce.{at-once-file, put-done}
 use Rattle.qcow2_steps.specs.Advancing.{MayBeLeft}
@@ -37,7 +38,6 @@ use Rattle.qcow2_clusters.specs.Storing.{Stores, WhyNotAllocated, handed_by}
 use Rattle.qcow2_clusters.proofs.Adding.{AdvancesBy, IsWider, LeftBy, progresses-halted, progresses-otherwise, progresses-then-given, progresses-weaker, wider-both, wider-handing}
 use Rattle.qcow2_clusters.proofs.LeavingRoom.{leaves-as, marked-as, why-as}
 use Rattle.qcow2_clusters.proofs.NamingTables.{IsReplacement, bytes-mean, from-zero, l1-moved, l1-same, l1-table, naming_word, replaced-advances, replaced-copied, replaced-counts, replaced-entered, replaced-named, replaced-unnamed, resting-memory, slots-kept}
-use Rattle.qcow2_alloc.specs.Freeing.{IsMarked}
 
 -- By one request the image comes to be what its file then makes it.
 module _ (m : Metadata) (kind : Kind) (at : ℕ) (bytes : List ℕ) (some : 0 < length bytes) (old new : StorageState) (is_in : IsIn old m) (H' : Header)
@@ -221,6 +221,7 @@ module _ {S : Type 0} (state : S → StorageState) (content : List ℕ) (l1 : Ta
         (never-begun fault why) (λ whole. (refl, refl))
         (why-not-begun (IsFull 1 (resting state c) (mark_in c) (resting state c) (mark_in c)) fault (storage state c).faults (storage state c).faults why);
     held = refl;
+    words = tt;
     old = λ ready asked. tt;
   }
 
@@ -247,6 +248,7 @@ module _ {S : Type 0} (state : S → StorageState) (content : List ℕ) (l1 : Ta
           (λ both. both.0) (storage state c).faults (storage state c1).faults fault stores.cause;
     };
     held = stores.held;
+    words = tt;
     old = λ ready asked. tt;
   }
 
@@ -473,6 +475,8 @@ module _ {S : Type 0} (state : S → StorageState) (content : List ℕ) (l1 : Ta
       cause = tt;
     };
     held = held ∙ stores.held;
+    words = enters.words ∙ ap (λ (ws : List ℕ). slice_set ws i (2 ^ 63 + table_place table)) same.words
+        ∙ ap (λ n. slice_set l1.words i (2 ^ 63 + n)) first;
     old = λ ready given. unnamed done ready given;
   }
 
@@ -502,6 +506,7 @@ module _ {S : Type 0} (state : S → StorageState) (content : List ℕ) (l1 : Ta
           (cause-of answer put refused);
     };
     held = held;
+    words = tt;
     old = λ ready given. tt;
   }
     where

@@ -1,6 +1,6 @@
 -- How guest clusters in a row come to name clusters in a row that were reserved, or kept for them: the search of their table, their words,
 -- and what is written then.
-use Rattle.std.proofs.Common.{◌≡◌, ◌≢◌, ℕ, ◌+◌, ◌-◌, ◌/◌, ◌%◌, ◌<◌, ◌≤◌, refl, arith, ap, sym, subst, ◌∙◌, true, List, Result, Ok, Err, inl, inr}
+use Rattle.std.proofs.Common.{◌≡◌, ◌≢◌, ℕ, ◌+◌, ◌-◌, ◌*◌, ◌/◌, ◌%◌, ◌<◌, ◌≤◌, refl, arith, ap, sym, subst, ◌∙◌, true, List, Result, Ok, Err, inl, inr}
 use Rattle.std.specs.Prelude.{⊤, ◌++◌, IfErr, IsTrue, OnOk}
 use Rattle.imago_storage.specs.State.{StorageState}
 use Rattle.imago_storage.specs.Calls.{IsFaultless, Later}
@@ -12,6 +12,8 @@ use Rattle.qcow2_types.specs.Entries.{entry}
 use Rattle.qcow2_types.specs.Header.{Header, cluster_size, words_of_cluster}
 use Rattle.qcow2_types.specs.Pending.{FreeEntry}
 use Rattle.qcow2_types.specs.Words.{data_at}
+use Rattle.qcow2_types.specs.Frames.{Same}
+use Rattle.qcow2_types.specs.References.{meets, structure}
 use Rattle.qcow2_metadata.specs.Allocations.{holds}
 use Rattle.qcow2_metadata.specs.Places.{IsInReach}
 use Rattle.qcow2_metadata.specs.Tables.{TableValue, table_in}
@@ -24,25 +26,26 @@ use Rattle.qcow2_alloc.specs.Going.{AreBlocksInReach, AreTablesInReach, IsMild, 
 use Rattle.qcow2_alloc.specs.Memory.{Cached}
 use Rattle.qcow2_alloc.specs.Opening.{IsL1Of}
 use Rattle.qcow2_alloc.specs.Quiet.{IsQuiet, IsSound, IsUsed, Metadata, Quietly, in_memory, counted}
+use Rattle.qcow2_alloc.specs.Freeing.{IsMarked}
 use Rattle.qcow2_alloc.proofs.Memory.SafeLaws.{clean-memory}
 use Rattle.qcow2_alloc.proofs.Quiet.QuietFlushes.{going-quietly}
 use Rattle.qcow2_alloc.proofs.Quiet.QuietShows.{in-cluster}
 use Rattle.qcow2_alloc.proofs.Quiet.QuietThen.{quietly-then}
+use Rattle.qcow2_alloc.proofs.Searching.FreeClusters.{clean-counts}
 use Rattle.qcow2_steps.proofs.QuietValues.{data-used, quiet-entries}
 use Rattle.qcow2_clusters.specs.Naming.{AreNameable, Listed, NamesIn, NamesRun, NamesWords, WhyNotNamed, given_for_run, listing, naming_run}
 use Rattle.qcow2_clusters.specs.Progress.{Kind, Progresses, both, handing}
 use Rattle.qcow2_clusters.specs.Rest.{AreEmpty, Clusters, HasEntries, IsReady, nothing_cached, resting, storage}
 use Rattle.qcow2_clusters.specs.Settling.{Settles, WhyNotSettled}
+use Rattle.qcow2_clusters.specs.Room.{mark_in}
 use Rattle.qcow2_clusters.proofs.Adding.{progresses-halted, progresses-in-memory, progresses-then, progresses-weaker, quiet-progresses, wider-both, wider-handing, wider-same}
 use Rattle.qcow2_clusters.proofs.Ending.{settled-cause, settled-faultless}
 use Rattle.qcow2_clusters.proofs.LoneTables.{found-alone, lone_table, never-full, only-read, refused-empty, used-alone, used-read}
 use Rattle.qcow2_clusters.proofs.NamedRuns.{Standing, image, stands, words-layout}
 use Rattle.qcow2_clusters.proofs.NamedWords.{table-fine, table-near}
 use Rattle.qcow2_clusters.proofs.Resting.{begun-quietly, l1-stays}
-use Rattle.qcow2_alloc.specs.Freeing.{IsMarked}
-use Rattle.qcow2_clusters.specs.Room.{mark_in}
-use Rattle.qcow2_alloc.proofs.Searching.FreeClusters.{clean-counts}
 use Rattle.qcow2_clusters.proofs.LeavingRoom.{marked-as}
+use Rattle.qcow2_clusters.proofs.FewerWaiting.{fewer-sound}
 
 -- Why the search was refused is why the call is: no cache is full.
 why-found : (fine full ready : Type 0) (a b : ℕ) (fault : Fault) → (ready → fine) → (full → ⊥) → WhyNotFound fine full a b fault → WhyNotNamed ready a b fault
@@ -115,6 +118,7 @@ module _ {S : Type 0} (state : S → StorageState) (table guest x n : ℕ) (c c'
     pub l1 : Ready → result ≡ Ok tt → (l1 : TableValue) → IsL1Of m0.file c.file.header.fields l1 → IsL1Of m2.file c'.file.header.fields l1
     pub marked : Ready → result ≡ Ok tt → IsMarked m0 (mark_in c) → IsMarked m2 (mark_in c')
     pub named : Ready → result ≡ Ok tt → (d : ℕ) → d < n → entry m2.file c.file.header.fields (guest + d) ≡ data_at (x + d) true
+    pub used : Ready → result ≡ Ok tt → (d : ℕ) → IsUsed m0 d → Same m0.file m2.file (d * cluster_size c.file.header.fields) (cluster_size c.file.header.fields)
     pub bytes : Ready → result ≡ Ok tt → (q : ℕ) → x ≤ q / cluster_size c.file.header.fields → q / cluster_size c.file.header.fields < x + n
         → m2.file q ≡ m0.file q
 
@@ -156,6 +160,7 @@ module _ {S : Type 0} (state : S → StorageState) (table guest x n : ℕ) (c c'
       waits = λ ready able. on-ok result _ (begun.waits (ready, able));
       named = λ ready able. on-ok result _ (begun.named (ready, able));
       bytes = λ ready able. on-ok result _ (begun.bytes (ready, able));
+      used = λ ready able. on-ok result _ (begun.used (ready, able));
       cause = why-refused begun;
     }
 
@@ -219,6 +224,7 @@ module _ {S : Type 0} (state : S → StorageState) (table guest x n : ℕ) (c c'
         marked = λ ready ok. absurd (refused-never ready ok);
         named = λ ready ok. absurd (refused-never ready ok);
         bytes = λ ready ok. absurd (refused-never ready ok);
+        used = λ ready ok. absurd (refused-never ready ok);
       }
 
     -- What is done to the table that is found.
@@ -281,6 +287,7 @@ module _ {S : Type 0} (state : S → StorageState) (table guest x n : ℕ) (c c'
           marked = λ ready ok. absurd (unput-never ok);
           named = λ ready ok. absurd (unput-never ok);
           bytes = λ ready ok. absurd (unput-never ok);
+          used = λ ready ok. absurd (unput-never ok);
         }
 
       -- Its words were set.
@@ -372,12 +379,35 @@ module _ {S : Type 0} (state : S → StorageState) (table guest x n : ℕ) (c c'
               (subst (λ (m : Metadata). IsL1Of m.file m.header.fields l1) last-same of)
 
           -- As much is counted as before: no block is cached.
+          counts-before : (d : ℕ) → counted m1 d ≡ counted m0 d
+          counts-before d = subst (λ (m : Metadata). counted m d ≡ counted m0 d) last-same
+              (clean-counts at-last stood.step.sound tt d ∙ sym (clean-counts m0 ready.0.sound tt d))
+
           set-counts : result ≡ Ok tt → (d : ℕ) → counted m2 d ≡ counted m0 d
           set-counts ok d =
               settles.counts (table_of c'.space.allocator) c'.space.to_free.entries (keeps_on s0 s1 u.found.going.shape ready.0.keeps) set-sound
               (subst WasNotCutOff (sym ok) tt) d
-              ∙ subst (λ (m : Metadata). counted m d ≡ counted m0 d) last-same
-              (clean-counts at-last stood.step.sound tt d ∙ sym (clean-counts m0 ready.0.sound tt d))
+              ∙ counts-before d
+
+          -- What is written then leaves what was used: it would where nothing more waited, too.
+          abbrev spared : Metadata
+          spared = metadata_of state between mid (table_of c'.space.allocator) c.space.to_free.entries
+
+          spared-used : (d : ℕ) → IsUsed m0 d → IsUsed spared d
+          spared-used d used = record {
+            apart = subst (λ (H : Header). structure (bytes_of s1.bytes) H.fields (meets H.fields d) ≡ 0) (sym u.found.others.1)
+                (subst (λ (b : Bytes). structure b c.file.header.fields (meets c.file.header.fields d) ≡ 0) (sym bytes-same) used.apart);
+            taken = let same : counted spared d ≡ counted m0 d = counts-before d in let more = used.taken in omega (arith, same, more);
+          }
+
+          set-used : result ≡ Ok tt → (d : ℕ) → IsUsed m0 d → Same m0.file m2.file (d * cluster_size c.file.header.fields) (cluster_size c.file.header.fields)
+          set-used ok d used =
+              let sound : IsSound spared = fewer-sound m1 c.space.to_free.entries dropped stood.waits set-sound in
+              let quiet = ((settles.quiet (table_of c'.space.allocator) c.space.to_free.entries).holds
+              (keeps_on s0 s1 u.found.going.shape ready.0.keeps) sound (subst WasNotCutOff (sym ok) tt)).1 in
+              subst (λ (b : Bytes). Same b m2.file (d * cluster_size c.file.header.fields) (cluster_size c.file.header.fields)) bytes-same
+              (subst (λ (H : Header). Same (bytes_of s1.bytes) m2.file (d * cluster_size H.fields) (cluster_size H.fields)) u.found.others.1
+              (quiet.kept d (spared-used d used) refl))
 
           set-marked : result ≡ Ok tt → IsMarked m0 (mark_in c) → IsMarked m2 (mark_in c')
           set-marked ok marked = subst (IsMarked m2) (sym (ap mark_of allocator)) (marked-as m0 m2 (mark_in c) (set-counts ok) marked)
@@ -421,6 +451,7 @@ module _ {S : Type 0} (state : S → StorageState) (table guest x n : ℕ) (c c'
           marked = set-marked;
           named = set-named;
           bytes = set-bytes;
+          used = set-used;
         }
 
     -- Of the two calls.

@@ -74,6 +74,7 @@ one-named state table guest x c result c' run =
           ((q : ℕ) → x ≤ q / cluster_size c.file.header.fields → q / cluster_size c.file.header.fields < x + 1 → (resting state c').file q ≡ m.file q)
           ((q : ℕ) → q / cluster_size c.file.header.fields ≡ x → (resting state c').file q ≡ m.file q)
           (λ is q at. is q (omega (arith, at)) (omega (arith, at))) (run.bytes ready (all able));
+      used = λ ready able. run.used ready (all able);
       cause = if-err result _ _ (why-one (IsReady state c) (IsNameable m table guest x) (AreNameable 1 m table guest x) all
           (storage state c).faults (storage state c').faults) run.cause;
     }

@@ -19,6 +19,7 @@ use Rattle.qcow2_alloc.specs.FreeList.{covers}
 use Rattle.qcow2_alloc.specs.HandingOut.{AllocatesClusters}
 use Rattle.qcow2_alloc.specs.MakingRoom.{run_of}
 use Rattle.qcow2_alloc.specs.Quiet.{IsSound, IsUsed, Metadata, Quietly}
+use Rattle.qcow2_alloc.specs.Freeing.{IsMarked}
 use Rattle.qcow2_alloc.proofs.Flushing.Faultless.{faultless-then, never-mild, put-faultless}
 use Rattle.qcow2_alloc.proofs.Blocks.CountingRuns.{covers-behind}
 use Rattle.qcow2_alloc.proofs.Growth.GrownTables.{covers-before, covers-inside}
@@ -34,7 +35,6 @@ use Rattle.qcow2_clusters.specs.Storing.{AreReserved, StoresRunUnsettled, WhyNot
 use Rattle.qcow2_clusters.proofs.AllocatingRuns.{run-leaves, run-marked, run-named, run-quietly-handed, run-reserved, run-room, run-size, run-unpinned, run-unused}
 use Rattle.qcow2_clusters.proofs.Ending.{begun, quiet-halted}
 use Rattle.qcow2_clusters.proofs.LeavingRoom.{leaves-as, marked-as}
-use Rattle.qcow2_alloc.specs.Freeing.{IsMarked}
 
 -- The content of one cluster fits several.
 pub whole-fits : (content : List ℕ) (n size : ℕ) → 0 < n → length content ≡ size → length content ≤ n * size

@@ -18,6 +18,7 @@ use Rattle.qcow2_alloc.specs.Crowding.{room_for, space}
 use Rattle.qcow2_alloc.specs.Going.{AreBlocksInReach, AreTablesInReach, IsMild, WasNotCutOff}
 use Rattle.qcow2_alloc.specs.MakingRoom.{run_of}
 use Rattle.qcow2_alloc.specs.Quiet.{IsQuiet, IsSound, Quietly, counted}
+use Rattle.qcow2_alloc.specs.Freeing.{IsMarked}
 use Rattle.qcow2_alloc.proofs.Freeing.Listed.{covers-one}
 use Rattle.qcow2_alloc.proofs.Memory.SafeLaws.{safe-reach}
 use Rattle.qcow2_alloc.proofs.Quiet.QuietGiven.{quietly-given}
@@ -32,7 +33,6 @@ use Rattle.qcow2_clusters.specs.Progress.{handing}
 use Rattle.qcow2_clusters.proofs.Ending.{quiet-halted, settled-cases, settled-cause, settled-faultless, settled-if-ok, settled-quietly}
 use Rattle.qcow2_clusters.proofs.LeavingRoom.{full-as, leaves-as, marked-as, why-as}
 use Rattle.qcow2_clusters.proofs.Resting.{l1-kept}
-use Rattle.qcow2_alloc.specs.Freeing.{IsMarked}
 
 -- why what was stored couldn't be settled
 why-flushed : (reach ready : Type 0) (full : ℕ → Type 0) → (ready → reach) → (before mid after : ℕ) → before ≤ mid → (fault : Fault) → WhyNotSettled reach mid after fault → WhyNotAllocated ready full before after fault

@@ -11,9 +11,9 @@ use Rattle.qcow2_alloc.specs.Going.{WasNotCutOff}
 use Rattle.qcow2_steps.specs.Data.{IsKeptFor}
 use Rattle.qcow2_clusters.specs.Progress.{Kind, Progresses}
 use Rattle.qcow2_clusters.specs.Rest.{AreEmpty, Clusters, IsReady, KeepsL1, lent, resting, storage}
-use Rattle.qcow2_clusters.specs.Room.{KeepsMarked}
 use Rattle.qcow2_clusters.specs.Storing.{Rests}
 use Rattle.qcow2_clusters.specs.declared.space.Space.{Space}
+use Rattle.qcow2_clusters.specs.Room.{KeepsMarked}
 
 -- Bytes of this cluster are written: nothing is given, set, handed out or taken.
 abbrev pub filling : Fields → ℕ → Kind

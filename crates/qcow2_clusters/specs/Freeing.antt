@@ -6,8 +6,8 @@ use Rattle.imago_storage.specs.declared.fault.Fault.TheVariants.{Counter, Damage
 use Rattle.qcow2_alloc.specs.Going.{WasNotCutOff}
 use Rattle.qcow2_clusters.specs.Progress.{Progresses, handing}
 use Rattle.qcow2_clusters.specs.Rest.{Clusters, IsReady, KeepsL1, resting, storage}
-use Rattle.qcow2_clusters.specs.Room.{KeepsMarked}
 use Rattle.qcow2_clusters.specs.Storing.{Rests}
+use Rattle.qcow2_clusters.specs.Room.{KeepsMarked}
 
 -- Why a call is refused that frees: for want of memory or by a storage that failed; else only where the image isn't ready.
 abbrev pub WhyNotFreed : (ready : Type 0) → (before after : ℕ) → Fault → Type 0

@@ -121,6 +121,7 @@ pub record PlacesTable {S : Type 0} (state : S → StorageState) (content : List
     (result : Result ℕ Fault) (top' : TableValue) (c' : Clusters S) : Type 0 where
   pub named : NamesNewTable state (IsContent state content top i c) (replacing (resting state c) i result) i c result top' c'
   pub held : c'.space.to_free.held ≡ held_by result c.space.to_free.held
+  pub words : IfOk result (λ t. top'.words ≡ slice_set top.words i (2 ^ 63 + t * cluster_size c.file.header.fields))
   pub old : IsReady state c → IsContent state content top i c → IfOk result (λ t. let h = c.file.header.fields in
       (d : ℕ) → d ≢ 0 → l2_table (resting state c).file h i ≡ d * cluster_size h → named_at_all (resting state c') d ≡ 0)
 
@@ -134,11 +135,12 @@ pub record MakesTable {S : Type 0} (state : S → StorageState) (top : TableValu
 abbrev pub table_entry : ℕ → FreeEntry
 table_entry cluster = record { first = cluster; count = 1; metadata = true }
 
--- A copy takes the place of the table that word i named: no word changes its meaning or its mark. The old table is put behind what waits
--- to be freed.
+-- A copy takes the place of the table that word i named: no word of a table changes its meaning or its mark, and no other word of the L1
+-- table changes. The old table is put behind what waits to be freed.
 pub record CopiesTable {S : Type 0} (state : S → StorageState) (top : TableValue) (i : ℕ) (c : Clusters S) (result : Result ℕ Fault)
     (top' : TableValue) (c' : Clusters S) : Type 0 where
   pub named : NamesNewTable state (HasTable state top i c) (copying (resting state c) i result) i c result top' c'
   pub held : c'.space.to_free.held ≡ c.space.to_free.held
+  pub words : IfOk result (λ t. top'.words ≡ slice_set top.words i (2 ^ 63 + t * cluster_size c.file.header.fields))
   pub waits : HasTable state top i c → IfOk result (λ t. let h = c.file.header.fields in (old : ℕ) × (before : List FreeEntry)
       × (l2_table (resting state c).file h i ≡ old * cluster_size h) × (c'.space.to_free.entries ≡ before ++ table_entry old ∷ []))

@@ -9,16 +9,17 @@ use Rattle.qcow2_types.specs.Header.{cluster_size, words_of_cluster}
 use Rattle.qcow2_types.specs.Pending.{FreeEntry}
 use Rattle.qcow2_types.specs.Words.{Mapping, data_at, mapping_of, zeroes}
 use Rattle.qcow2_types.specs.Words as words
+use Rattle.qcow2_types.specs.Frames.{Same}
 use Rattle.qcow2_metadata.specs.Allocations.{Conserves, allocation_of, freed, holds, newly, replaced}
 use Rattle.qcow2_metadata.specs.Tables.{TableValue, mapping_in, with_word}
 use Rattle.qcow2_alloc.specs.FreeList.{FreeList}
-use Rattle.qcow2_alloc.specs.Quiet.{Metadata}
+use Rattle.qcow2_alloc.specs.Quiet.{IsUsed, Metadata}
 use Rattle.qcow2_steps.specs.Data.{IsKeptFor}
 use Rattle.qcow2_steps.specs.Words.{GivesWord, IsOfWord, IsReserved}
 use Rattle.qcow2_clusters.specs.Progress.{Kind, Progresses, both, handing}
 use Rattle.qcow2_clusters.specs.Rest.{Clusters, IsReady, KeepsL1, resting, storage}
-use Rattle.qcow2_clusters.specs.Room.{KeepsMarked}
 use Rattle.qcow2_clusters.specs.Storing.{Rests}
+use Rattle.qcow2_clusters.specs.Room.{KeepsMarked}
 
 -- nothing is allocated for a guest cluster that is mapped so
 abbrev pub TakesNone : Mapping → Type 0
@@ -118,7 +119,8 @@ WhyNotNamed ready before after Storage = Rose before after
 WhyNotNamed ready before after DamagedTable = ready → ⊥
 WhyNotNamed ready before after fault = ⊥
 
--- Each of n guest clusters in a row comes to name its own of n clusters in a row as its data, as copied. Their bytes stay what they were.
+-- Each of n guest clusters in a row comes to name its own of n clusters in a row as its data, as copied. Their bytes stay what they were,
+-- and so do those of each cluster that was used, what comes to wait too.
 pub record NamesRun {S : Type 0} (state : S → StorageState) (table guest x n : ℕ) (c : Clusters S) (result : Result Unit Fault)
     (c' : Clusters S) : Type 0 where
   pub progress : AreNameable n (resting state c) table guest x → Progresses (result ≡ Ok tt)
@@ -135,6 +137,9 @@ pub record NamesRun {S : Type 0} (state : S → StorageState) (table guest x n :
   pub bytes : IsReady state c → AreNameable n (resting state c) table guest x
       → OnOk result ((q : ℕ) → x ≤ q / cluster_size c.file.header.fields → q / cluster_size c.file.header.fields < x + n
       → (resting state c').file q ≡ (resting state c).file q)
+  pub used : IsReady state c → AreNameable n (resting state c) table guest x
+      → OnOk result ((d : ℕ) → IsUsed (resting state c) d → Same (resting state c).file (resting state c').file
+      (d * cluster_size c.file.header.fields) (cluster_size c.file.header.fields))
   pub cause : IfErr result (WhyNotNamed (IsReady state c × AreNameable n (resting state c) table guest x)
       (storage state c).faults (storage state c').faults)
 
@@ -154,5 +159,8 @@ pub record Names {S : Type 0} (state : S → StorageState) (table guest x : ℕ)
       → OnOk result (entry (resting state c').file c.file.header.fields guest ≡ data_at x true)
   pub bytes : IsReady state c → IsNameable (resting state c) table guest x
       → OnOk result ((q : ℕ) → q / cluster_size c.file.header.fields ≡ x → (resting state c').file q ≡ (resting state c).file q)
+  pub used : IsReady state c → IsNameable (resting state c) table guest x
+      → OnOk result ((d : ℕ) → IsUsed (resting state c) d → Same (resting state c).file (resting state c').file
+      (d * cluster_size c.file.header.fields) (cluster_size c.file.header.fields))
   pub cause : IfErr result (WhyNotNamed (IsReady state c × IsNameable (resting state c) table guest x)
       (storage state c).faults (storage state c').faults)

@@ -4,10 +4,10 @@ use Rattle.imago_storage.specs.State.{StorageState}
 use Rattle.imago_storage.specs.declared.fault.Fault.{Fault}
 use Rattle.qcow2_alloc.specs.Allocators.{mark_of}
 use Rattle.qcow2_alloc.specs.Crowding.{IsCrowded, space}
-use Rattle.qcow2_alloc.specs.Freeing.{IsMarked}
-use Rattle.qcow2_alloc.specs.Going.{WasNotCutOff}
 use Rattle.qcow2_alloc.specs.Quiet.{Metadata, counted}
 use Rattle.qcow2_alloc.specs.ReadyingRuns.{IsRunTold}
+use Rattle.qcow2_alloc.specs.Freeing.{IsMarked}
+use Rattle.qcow2_alloc.specs.Going.{WasNotCutOff}
 use Rattle.qcow2_clusters.specs.Rest.{Clusters, IsReady, resting}
 
 -- where the search for free clusters begins
