@@ -37,8 +37,8 @@ pub record BlockLoaded (h : Fields) (key : ℕ) (old : StorageState) (result : R
   pub later : old.faults ≤ new.faults
   pub faults : OnOk result (new.faults ≡ old.faults)
 
--- What is written of a kind of cached entries: the size of its cluster, whether it was modified, what it is once that is settled or was refused,
--- and the request.
+-- What is written of a kind of cached entries: of which cluster, whether it was modified, what it is once it was written or refused, and by
+-- which request.
 pub record WrittenKind (V : Type 0) : Type 1 where
   pub cluster_bits : V → ℕ
   pub modified : V → Bool
@@ -55,6 +55,7 @@ pub record Flushed {V : Type 0} (kind : WrittenKind V) (key : ℕ) (v : V) (old 
   pub ok : kind.modified v ≡ true → OnOk result (v' ≡ kind.marked v key false)
   pub err : kind.modified v ≡ true → IsInReach (kind.cluster_bits v) key → OnErr result (v' ≡ kind.marked v key true)
 
+-- an L2 table's words,
 abbrev pub written_tables : WrittenKind TableValue
 written_tables = record {
   cluster_bits = λ t. t.layout.cluster_bits;
@@ -63,6 +64,7 @@ written_tables = record {
   Puts = λ t place old new result. PutAtOnce old new place (table_bytes t.words) result;
 }
 
+-- and a block's counters
 abbrev pub written_blocks : WrittenKind Block
 written_blocks = record {
   cluster_bits = λ b. b.cluster_bits;

@@ -74,16 +74,16 @@ module _ {K V D : Type 0} (loads : D → K → Result V Fault → D → Type 0) 
 -- how an entry is found or loaded
 module _ {K V D : Type 0} (eq : K → K → Bool) (loads : D → K → Result V Fault → D → Type 0)
     (flushes : D → K → V → Result Unit Fault → D → V → Type 0) where
-  pub record Missed (cap : ℕ) (may_flush : Bool) (key : K) (before : D) (es : List (K × Slot V)) (result : Result Admission Fault) (after : D)
-      (es' : List (K × Slot V)) : Type 0 where
+  pub record Missed (cap : ℕ) (may_flush : Bool) (key : K) (before : D) (es : List (K × Slot V)) (result : Result Admission Fault)
+      (after : D) (es' : List (K × Slot V)) : Type 0 where
     pub room : Result Admission Fault
     pub mid : D
     pub entries : List (K × Slot V)
     pub made : MadeRoom eq flushes cap may_flush before es room mid entries
     pub loaded : LoadedAfter loads key mid entries room result after es'
 
-  pub record Readied (cap : ℕ) (may_flush : Bool) (key : K) (before : D) (es : List (K × Slot V)) (result : Result Admission Fault) (after : D)
-      (es' : List (K × Slot V)) : Type 0 where
+  pub record Readied (cap : ℕ) (may_flush : Bool) (key : K) (before : D) (es : List (K × Slot V)) (result : Result Admission Fault)
+      (after : D) (es' : List (K × Slot V)) : Type 0 where
     pub found : IsSome (lookup (eq key) es) → (result ≡ Ok Granted) × (after ≡ before) × (es' ≡ es)
     pub missed : lookup (eq key) es ≡ None → Missed cap may_flush key before es result after es'
     -- the entry is there where it says so

@@ -10,12 +10,13 @@ use Rattle.imago_storage.specs.declared.fault.Fault.{Fault}
 use Rattle.imago_storage.specs.declared.fault.Fault.TheVariants.{Memory, Storage, DamagedTable}
 use Rattle.imago_storage.proofs.Composing.{rose_before, rose_behind}
 use Rattle.qcow2_types.specs.Words.{max_offset}
+use Rattle.qcow2_types.specs.TableBytes.{table_bytes}
 use Rattle.qcow2_metadata.specs.Places.{IsInReach}
 use Rattle.qcow2_metadata.specs.Tables.{TableValue}
 use Rattle.qcow2_metadata.specs.Blocks.{Block}
 use Rattle.qcow2_alloc.specs.declared.async_lru_cache.Slot.{Slot}
 use Rattle.qcow2_alloc.specs.Cache.{FlushedEach, is_mild, latest, fault_of}
-use Rattle.qcow2_alloc.specs.Backends.{TableFlushed, BlockFlushed}
+use Rattle.qcow2_alloc.specs.Backends.{Flushed, WrittenKind, TableFlushed, BlockFlushed, written_tables, written_blocks}
 use Rattle.qcow2_alloc.specs.Going.{IsMild, WasNotCutOff, WhyNotWritten, CountsWrites}
 use Rattle.qcow2_alloc.proofs.Flushing.Faultless.{faultless-same, faultless-then, mild-later, put-faultless}
 
@@ -57,25 +58,26 @@ far-counted reach old new result far same refused = record {
   faults = λ whole. faultless-same old new same;
 }
 
-pub table-counted : (key : ℕ) (t : TableValue) (old new : StorageState) (result : Result Unit Fault) (t' : TableValue) → TableFlushed key t old result new t'
-    → Counted (t.modified ≡ true → IsInReach t.layout.cluster_bits key) old new result
-table-counted key t old new result t' flushed = elim (cases_Bool t.modified) [
+-- One is flushed, of a kind that is written by one request:
+entry-counted : {V : Type 0} (kind : WrittenKind V) → ((v : V) (place : ℕ) (old new : StorageState) (result : Result Unit Fault) → kind.Puts v place old new result → (bytes : List ℕ) × PutAtOnce old new place bytes result)
+    → (key : ℕ) (v : V) (old new : StorageState) (result : Result Unit Fault) (v' : V) → Flushed kind key v old result new v' → Counted (kind.modified v ≡ true → IsInReach (kind.cluster_bits v) key) old new result
+entry-counted kind puts key v old new result v' flushed = elim (cases_Bool (kind.modified v)) [
   | inr clean ↦ let none = flushed.clean clean in none-counted _ old new result none.1 none.0
-  | inl modified ↦ elim (cases_lt max_offset (key * 2 ^ t.layout.cluster_bits)) [
+  | inl modified ↦ elim (cases_lt max_offset (key * 2 ^ kind.cluster_bits v)) [
     | inl far ↦ let none = flushed.out modified (λ reach. omega (arith, far, reach)) in far-counted _ old new result (λ reach. let r = reach modified in omega (arith, far, r)) none.1 none.0
-    | inr reach ↦ let put = flushed.written modified reach in record { counts = put-counted _ old new _ _ result put; rising = put.put.later.faults; faults = put-faultless old new _ _ result put.put }
+    | inr reach ↦ let put = (puts v _ old new result (flushed.written modified reach)).1 in record { counts = put-counted _ old new _ _ result put; rising = put.put.later.faults; faults = put-faultless old new _ _ result put.put }
   ]
 ]
 
+-- a table,
+pub table-counted : (key : ℕ) (t : TableValue) (old new : StorageState) (result : Result Unit Fault) (t' : TableValue) → TableFlushed key t old result new t'
+    → Counted (t.modified ≡ true → IsInReach t.layout.cluster_bits key) old new result
+table-counted = entry-counted written_tables (λ t place old new result put. (table_bytes t.words, put))
+
+-- or a block.
 pub block-counted : (key : ℕ) (b : Block) (old new : StorageState) (result : Result Unit Fault) (b' : Block) → BlockFlushed key b old result new b'
     → Counted (b.modified ≡ true → IsInReach b.cluster_bits key) old new result
-block-counted key b old new result b' flushed = elim (cases_Bool b.modified) [
-  | inr clean ↦ let none = flushed.clean clean in none-counted _ old new result none.1 none.0
-  | inl modified ↦ elim (cases_lt max_offset (key * 2 ^ b.cluster_bits)) [
-    | inl far ↦ let none = flushed.out modified (λ reach. omega (arith, far, reach)) in far-counted _ old new result (λ reach. let r = reach modified in omega (arith, far, r)) none.1 none.0
-    | inr reach ↦ let put = (flushed.written modified reach).put in record { counts = put-counted _ old new _ _ result put; rising = put.put.later.faults; faults = put-faultless old new _ _ result put.put }
-  ]
-]
+block-counted = entry-counted written_blocks (λ b place old new result put. (put.bytes, put.put))
 
 -- All entries of a cache are flushed.
 module _ {V D : Type 0} (state : D → StorageState) (flushes : D → ℕ → V → Result Unit Fault → D → V → Type 0) (Reach : ℕ → V → Type 0)

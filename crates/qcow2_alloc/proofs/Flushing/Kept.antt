@@ -1,5 +1,5 @@
 -- What writes leave of cached tables and blocks.
-use Rattle.std.proofs.Common.{◌≡◌, ℕ, refl, ap, ◌∙◌, true, false, Some, ◌*◌, ◌^◌, arith, Result, Ok, Err, inl, inr}
+use Rattle.std.proofs.Common.{◌≡◌, ℕ, refl, ap, ◌∙◌, Bool, true, false, ◌*◌, ◌^◌, arith, Result, Ok, Err, inl, inr}
 use Rattle.std.proofs.lemmas.Bool.{cases_Bool, cases_lt}
 use Rattle.imago_storage.specs.State.{StorageState}
 use Rattle.imago_storage.specs.declared.fault.Fault.{Fault}
@@ -8,43 +8,34 @@ use Rattle.qcow2_metadata.specs.Places.{IsInReach}
 use Rattle.qcow2_metadata.specs.Tables.{TableValue}
 use Rattle.qcow2_metadata.specs.Blocks.{Block}
 use Rattle.qcow2_alloc.specs.declared.async_lru_cache.Slot.{Slot}
-use Rattle.qcow2_alloc.specs.Backends.{TableFlushed, BlockFlushed}
+use Rattle.qcow2_alloc.specs.Backends.{Flushed, WrittenKind, TableFlushed, BlockFlushed, written_tables, written_blocks}
 use Rattle.qcow2_alloc.specs.Memory.{written_table, written_block}
+
+-- whatever kind it is of, where its marks are nothing of it:
+entry-kept : {V : Type 0} (kind : WrittenKind V) (written : ℕ × Slot V → ℕ × Slot V) → ((key : ℕ) (slot : Slot V) (modified : Bool) → written (key, record slot { value = kind.marked slot.value key modified }) ≡ written (key, slot))
+    → (key : ℕ) (slot : Slot V) (old : StorageState) (result : Result Unit Fault) (new : StorageState) (v' : V) → Flushed kind key slot.value old result new v' → written (key, record slot { value = v' }) ≡ written (key, slot)
+entry-kept kind written marks key slot old result new v' flushed = elim (cases_Bool (kind.modified slot.value)) [
+  | inr clean ↦ as-one slot.value (flushed.clean clean).2 refl
+  | inl modified ↦ elim (cases_lt max_offset (key * 2 ^ kind.cluster_bits slot.value)) [
+    | inl far ↦ as-one slot.value (flushed.out modified (λ reach. omega (arith, far, reach))).2 refl
+    | inr reach ↦ by-answer result flushed modified reach
+  ]
+]
+  where
+    as-one : (v : _) → v' ≡ v → written (key, record slot { value = v }) ≡ written (key, slot) → written (key, record slot { value = v' }) ≡ written (key, slot)
+    as-one v same is = ap (λ (w : _). written (key, record slot { value = w })) same ∙ is
+
+    by-answer : (result : Result Unit Fault) → Flushed kind key slot.value old result new v' → kind.modified slot.value ≡ true → IsInReach (kind.cluster_bits slot.value) key
+        → written (key, record slot { value = v' }) ≡ written (key, slot)
+    by-answer (Ok done) flushed modified reach = as-one (kind.marked slot.value key false) (flushed.ok modified) (marks key slot false)
+    by-answer (Err fault) flushed modified reach = as-one (kind.marked slot.value key true) (flushed.err modified reach) (marks key slot true)
 
 -- a table
 pub table-kept : (key : ℕ) (slot : Slot TableValue) (old : StorageState) (result : Result Unit Fault) (new : StorageState) (t' : TableValue) → TableFlushed key slot.value old result new t'
     → written_table (key, record slot { value = t' }) ≡ written_table (key, slot)
-table-kept key slot old result new t' flushed = elim (cases_Bool slot.value.modified) [
-  | inr clean ↦ as-one slot.value (flushed.clean clean).2 refl
-  | inl modified ↦ elim (cases_lt max_offset (key * 2 ^ slot.value.layout.cluster_bits)) [
-    | inl far ↦ as-one slot.value (flushed.out modified (λ reach. omega (arith, far, reach))).2 refl
-    | inr reach ↦ by-answer result flushed modified reach
-  ]
-]
-  where
-    as-one : (t : TableValue) → t' ≡ t → written_table (key, record slot { value = t }) ≡ written_table (key, slot) → written_table (key, record slot { value = t' }) ≡ written_table (key, slot)
-    as-one t same is = ap (λ (v : TableValue). written_table (key, record slot { value = v })) same ∙ is
-
-    by-answer : (result : Result Unit Fault) → TableFlushed key slot.value old result new t' → slot.value.modified ≡ true → IsInReach slot.value.layout.cluster_bits key
-        → written_table (key, record slot { value = t' }) ≡ written_table (key, slot)
-    by-answer (Ok done) flushed modified reach = as-one (record slot.value { cluster = Some key; modified = false }) (flushed.ok modified) refl
-    by-answer (Err fault) flushed modified reach = as-one (record slot.value { cluster = Some key; modified = true }) (flushed.err modified reach) refl
+table-kept = entry-kept written_tables written_table (λ key slot modified. refl)
 
 -- and a block
 pub block-kept : (key : ℕ) (slot : Slot Block) (old : StorageState) (result : Result Unit Fault) (new : StorageState) (b' : Block) → BlockFlushed key slot.value old result new b'
     → written_block (key, record slot { value = b' }) ≡ written_block (key, slot)
-block-kept key slot old result new b' flushed = elim (cases_Bool slot.value.modified) [
-  | inr clean ↦ as-one slot.value (flushed.clean clean).2 refl
-  | inl modified ↦ elim (cases_lt max_offset (key * 2 ^ slot.value.cluster_bits)) [
-    | inl far ↦ as-one slot.value (flushed.out modified (λ reach. omega (arith, far, reach))).2 refl
-    | inr reach ↦ by-answer result flushed modified reach
-  ]
-]
-  where
-    as-one : (b : Block) → b' ≡ b → written_block (key, record slot { value = b }) ≡ written_block (key, slot) → written_block (key, record slot { value = b' }) ≡ written_block (key, slot)
-    as-one b same is = ap (λ (v : Block). written_block (key, record slot { value = v })) same ∙ is
-
-    by-answer : (result : Result Unit Fault) → BlockFlushed key slot.value old result new b' → slot.value.modified ≡ true → IsInReach slot.value.cluster_bits key
-        → written_block (key, record slot { value = b' }) ≡ written_block (key, slot)
-    by-answer (Ok done) flushed modified reach = as-one (record slot.value { cluster = Some key; modified = false }) (flushed.ok modified) refl
-    by-answer (Err fault) flushed modified reach = as-one (record slot.value { cluster = Some key; modified = true }) (flushed.err modified reach) refl
+block-kept = entry-kept written_blocks written_block (λ key slot modified. refl)
