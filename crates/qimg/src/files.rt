@@ -1,4 +1,4 @@
-// The files of a chain, which are read whole or made in memory, and the one that takes the top's place.
+// The files of a chain, which are read whole or made in memory.
 ghost use Rattle.std.specs.Prelude.{◌≡◌, ℕ, ◌∷◌, [], IfOk};
 ghost use Rattle.imago_access.specs.declared.format.Format.TheVariants.{Qcow2};
 ghost use Rattle.imago_storage.specs.Disk.{byte};
@@ -16,8 +16,7 @@ use qimg_chain::arguments::LayerArgument;
 use qimg_core::creation::create;
 use qimg_core::plain::ChainFile;
 use std::alloc::Global;
-use std::fs::{self, File, Files, OpenFile};
-use std::io::Write;
+use std::fs::{self, Files};
 
 /// A file's bytes, as a storage.
 fn read_storage<R: Files + AllocGlobal>(rt: &R, path: &str) -> Result<MemStorage, Failure> {
@@ -76,32 +75,4 @@ pub fn new_files(alloc: Global) -> Result<Vec<ChainFile<MemStorage>>, Failure>
         extras: Vec::new(alloc),
     })?;
     Ok(files)
-}
-
-/// Fills a new file with bytes, gives it the permissions of the one at the path, and has it take that one's name.
-fn take_place<R: Files + AllocGlobal>(
-    rt: &R,
-    mut file: R::File,
-    beside: &str,
-    path: &str,
-    bytes: &[u8],
-) -> Result<(), Failure> {
-    let old = File::open(rt, path)?;
-    file.set_permissions(old.metadata()?.permissions())?;
-    file.write_all(bytes)?;
-    file.sync_all()?;
-    fs::rename(rt, beside, path)?;
-    Ok(())
-}
-
-/// Puts bytes in the place of a file: they are written to a new file beside it, of the same permissions, which takes its name then. So the
-/// path names the old bytes or the new ones all the time. Where that fails the new file is removed.
-pub fn replace<R: Files + AllocGlobal>(rt: &R, path: &str, bytes: &[u8]) -> Result<(), Failure> {
-    let beside = format!(in rt.alloc(); "{path}.qimg-new")?;
-    let file = File::create_new(rt, beside.as_str())?;
-    let taken = take_place(rt, file, beside.as_str(), path, bytes);
-    if taken.is_err() {
-        let _ = fs::remove_file(rt, beside.as_str());
-    }
-    taken
 }

@@ -3,8 +3,8 @@
 //! `qimg [-r] LAYER ..`, the top first. A LAYER is `raw PATH`, `qcow2 PATH` or `vmdk PATH`, and any number of `file NAME PATH` behind it:
 //! files that it names for its data. With `-r` the top is opened for reading alone. The script comes from standard input, and its answers
 //! go to standard output; the module `script` of `qimg_chain` lists its lines. The files are read whole at the start. At the end the bytes
-//! of the last `save` take the top file's place, where there was one. `qimg` alone makes a qcow2 image of 65,536 bytes, for writing, and
-//! no file.
+//! of the last `save` take the top file's place, where there was one: of a regular file alone, and not with `-r`, as nothing has changed
+//! then. `qimg` alone makes a qcow2 image of 65,536 bytes, for writing, and no file.
 //!
 //! | Status | Standard error | When |
 //! |---|---|---|
@@ -16,9 +16,10 @@
 
 mod failure;
 mod files;
+mod top_file;
 
 use failure::{Failure, status};
-use files::{new_files, read_files, replace};
+use files::{new_files, read_files};
 use imago_storage::{Fault, MemStorage};
 use qimg_chain::arguments::{Arguments, parse};
 use qimg_chain::run::run_files;
@@ -28,6 +29,7 @@ use std::fs::Files;
 use std::io::{BufReader, BufWriter, ErrorKind, Write};
 use std::process::ExitCode;
 use std::{env, io};
+use top_file::TopFile;
 
 /// The number of the chain that the program opens.
 const CHAIN: u64 = 1;
@@ -71,15 +73,27 @@ fn run_script<R: Input + Print + AllocGlobal>(
     Ok(saved)
 }
 
+/// The top's file, where its chain is opened for writing: it may be replaced then.
+fn replaceable_top<R: Files + AllocGlobal>(
+    rt: &R,
+    arguments: &Arguments,
+) -> Result<Option<TopFile>, Failure> {
+    match arguments.layers.first() {
+        Some(top) if !arguments.read_only => Ok(Some(TopFile::at(rt, &top.path)?)),
+        _ => Ok(None),
+    }
+}
+
 /// Runs the script over the files that the arguments name, and puts what it saved in the top's place.
 fn serve_files<R: Files + Input + Print + AllocGlobal>(
     rt: &R,
     arguments: &Arguments,
 ) -> Result<(), Failure> {
+    let top = replaceable_top(rt, arguments)?;
     let files = read_files(rt, &arguments.layers)?;
     let saved = run_script(rt, files, !arguments.read_only)?;
-    match (saved, arguments.layers.first()) {
-        (Some(bytes), Some(top)) => replace(rt, &top.path, &bytes),
+    match (saved, top) {
+        (Some(bytes), Some(top)) => top.replace(rt, &bytes),
         _ => Ok(()),
     }
 }
