@@ -86,7 +86,7 @@ module _ {D St : Type 0} (g : Ghosts D St) where
   -- a flush with nothing prepared that is done leaves a file that means the disk
   made-flush : (call : Call) (answer : Answer) (old new : Holding D St) → Makes g call answer old new → IsIntactChain g old.drivers → call ≡ calls.Flush → answer ≡ told.Done → IsFree (g.layer old.drivers.0)
       → IsWritten g new.drivers.0
-  made-flush call answer old new makes intact is_flush is_done none = ((rw (is_flush, is_done) at makes).moves intact).0.3 none
+  made-flush call answer old new makes intact is_flush is_done none = ((rw (is_flush, is_done) at makes).moves intact).0.3.1 none
 
   -- what all calls keep, whatever they are answered
   pub record Going (old new : Holding D St) : Type 0 where

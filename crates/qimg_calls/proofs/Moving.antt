@@ -68,10 +68,15 @@ pub refused-stays : {D St : Type 0} (g : Ghosts D St) (old new : D × List D) (o
 refused-stays g old new olds news (Ok unit) why = tt
 refused-stays g old new olds news (Err fault) why = λ mild usable. absurd (cc (whole-ok {T = Unit} (g.layer old.0) olds news (Err fault) mild usable why))
 
-pub flush-names : {D St : Type 0} (g : Ghosts D St) (old new : D × List D) (result : Result Unit Fault) → (IsFree (g.layer old.0) → OnOk result (IsWritten g new.0))
-    → OnOk result (IsFree (g.layer old.0) → IsWritten g new.0)
-flush-names g old new (Ok unit) written = written
-flush-names g old new (Err fault) written = tt
+pub flush-names : {D St : Type 0} (g : Ghosts D St) (old new : D × List D) (result : Result Unit Fault) → OnOk result (TopStays g old new)
+    → (IsFree (g.layer old.0) → OnOk result (IsWritten g new.0)) → OnOk result (TopStays g old new × (IsFree (g.layer old.0) → IsWritten g new.0))
+flush-names g old new (Ok unit) same written = (same, written)
+flush-names g old new (Err fault) same written = tt
+
+-- what is true whatever was answered is true of a success
+pub on-ok : {P : Type 0} (result : Result Unit Fault) → P → OnOk result P
+on-ok (Ok unit) p = p
+on-ok (Err fault) p = tt
 
 -- what two clauses say of a success
 pub both-named : (P Q : Type 0) (result : Result Unit Fault) → OnOk result P → OnOk result Q → OnOk result (P × Q)

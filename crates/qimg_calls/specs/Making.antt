@@ -18,9 +18,9 @@ use Rattle.qimg_calls.specs.Marking.{MarksRefused}
 use Rattle.qimg_calls.specs.Moves.{IsIdle, Moves, RestsOn, refusal_at_once}
 use Rattle.qimg_calls.specs.RoomTaken.{LeavesRoomFor, SettlesUnits}
 
--- The answer fits the call, which is refused at once where it has to be and done where it has nothing to do, moves the disk, takes and gives
--- up room as it may, marks an image that failed, and leaves what the next one rests on; and what is kept is still the mapping that is
--- prepared.
+-- The answer fits the call, which is refused at once where it has to be and done where it has nothing to do, moves the disk, takes and
+-- gives up room as it may, marks an image that failed, and leaves what the next one rests on; and what is kept is still the mapping that
+-- is prepared.
 pub record Makes {D St : Type 0} (g : Ghosts D St) (call : Call) (answer : Answer) (old new : Holding D St) : Type 0 where
   pub fits : Fits call answer
   pub at_once : (f : Fault) → refusal_at_once g call old ≡ Some f → answer ≡ told.Refused f

@@ -12,7 +12,7 @@ use Rattle.imago_access.specs.Layers.{chain}
 use Rattle.imago_access.specs.Chain.{at, unit_of_chain, Each}
 use Rattle.imago_access.specs.ChainCalls.{ChainSteps, ChainPartly, ChainStays, chain_refusal, chain_look_refusal, ChainCause, OwnCause, ChainMappedCause, CanWriteRun, KeepsHomes, IsMappedFor}
 use Rattle.imago_access.specs.Failing.{RefusesLookup, RefusesFlush}
-use Rattle.imago_access.specs.Files.{files, files_of, IsMild}
+use Rattle.imago_access.specs.Files.{Pairs, IsKept, files, files_of, IsMild}
 use Rattle.imago_access.specs.Mappings.{DeepNames, DeepNamesHome, DeepNamesWritable, DeepStates, IsDeepBelow, IsHomeRun, IsOneOf, IsThere, LooksIn, NamesRoomIn, States, stored_at}
 use Rattle.imago_access.specs.Parts.{GrowthCause, ShrinkCause}
 use Rattle.imago_access.specs.PreparingCalls.{nowhere}
@@ -38,8 +38,8 @@ pub record NamesOneThere {D St : Type 0} (g : Ghosts D St) (offset asked : ℕ) 
   pub writable : DeepNamesWritable (map g.layer (chain c)) offset asked mapping
 
 -- Which places an answer names: of storages that there are, what their bytes are and where the run can be written, and by the top layer
--- none of those that it has no room for. A lookup's zero is explicit exactly where the top layer states it. A look leaves the top as it
--- was. A flush with nothing prepared is done where the top's file by itself means the disk.
+-- none of those that it has no room for. A lookup's zero is explicit exactly where the top layer states it. A look, a flush and a sync leave
+-- the top as it was. A flush with nothing prepared is done where the top's file by itself means the disk, and a sync writes nothing.
 abbrev pub Names : {D St : Type 0} → Ghosts D St → Call → Answer → D × List D → D × List D → Type 0
 Names g (calls.Read offset n) answer old new = TopStays g old new
 Names g (calls.GetMapping offset asked) (told.Mapped mapping n) old new =
@@ -59,7 +59,8 @@ Names g (calls.EnsureDataMapping offset asked overwrite) (told.Mapped mapping n)
 Names g (calls.WriteMapped guest place bytes) told.Done old new =
     IsMappedFor (g.layer old.0) guest place (length bytes.items) × ((g.layer new.0).home ≡ (g.layer old.0).home)
 Names g calls.CommitDataMapping told.Done old new = KeepsHomes (g.layer old.0) (g.layer new.0)
-Names g calls.Flush told.Done old new = IsFree (g.layer old.0) → IsWritten g new.0
+Names g calls.Flush told.Done old new = TopStays g old new × (IsFree (g.layer old.0) → IsWritten g new.0)
+Names g calls.Sync told.Done old new = TopStays g old new × Pairs IsKept (files g old.0) (files g new.0)
 Names g call answer old new = ⊤
 
 -- the mapping that an answer tells of

@@ -69,7 +69,8 @@ fn copy_all<S: FormatDriverInstance, T: FormatDriverInstance>(
 /// Copies the disk of one chain into another of the same size, in pieces of 65,536 bytes. Nothing may be prepared in the target.
 ///
 /// Where it succeeds, each place of the source's disk has a byte, and the target shows it. The source is only read: its disk stays, and no
-/// file of a layer changes in which nothing waits to be written. Nor does one below the target.
+/// file of a layer changes in which nothing waits to be written. Nor does one below the target. Zeroes are written as other bytes are, so a
+/// disk with holes becomes full, and the target isn't flushed.
 ///
 /// It refuses with `Fault::BadArgument` where the sizes differ, and there alone; then all is as it was. Where room for a piece is refused
 /// it refuses with `Fault::Memory`. Else it is refused as a read of a piece from the source is, or as its write to the target: where a

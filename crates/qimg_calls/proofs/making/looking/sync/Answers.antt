@@ -1,7 +1,7 @@
 use Rattle.std.proofs.Common.{arith, refl}
 use Rattle.std.specs.Prelude.{IsOk}
 use Rattle.imago_storage.specs.Steps.{sync}
-use Rattle.imago_access.specs.Files.{files}
+use Rattle.imago_access.specs.Files.{Pairs, IsKept, files}
 use Rattle.imago_access.specs.Going.{Marks}
 use Rattle.imago_access.specs.Stops.{GivesNone}
 use Rattle.qimg_calls.specs.Calls.{GoesOn}
@@ -9,7 +9,8 @@ use Rattle.qimg_calls.specs.Held.{holding}
 use Rattle.qimg_calls.specs.Making.{done_or_refused}
 use Rattle.qimg_calls.specs.declared.call.Call.TheVariants as calls
 use Rattle.qimg_calls.proofs.Leading.{ran-leads, whole-ok, like-kept}
-use Rattle.qimg_calls.proofs.Moving.{not-cut, nothing-named, told-fits, told-marks, told-moves, told-refused, refused-stays}
+use Rattle.qimg_calls.specs.Moves.{TopStays}
+use Rattle.qimg_calls.proofs.Moving.{both-named, not-cut, on-ok, told-fits, told-marks, told-moves, told-refused, refused-stays}
 use Rattle.qimg_calls.proofs.making.looking.sync.Goals as goal
 
 pub returns : goal.returns
@@ -27,7 +28,7 @@ returns g c kept is =
       room = λ intact on. tt;
       units = λ intact may was. tt;
       marks = told-marks (Marks d old.0 new.0) r e.marks;
-      moves = λ intact. told-moves d calls.Sync r (holding old kept) (holding new kept) refl e.ok (nothing-named r) e.cause
+      moves = λ intact. told-moves d calls.Sync r (holding old kept) (holding new kept) refl e.ok (both-named (TopStays d old new) (Pairs IsKept (files d old.0) (files d new.0)) r e.same (on-ok r e.kept)) e.cause
           (refused-stays d old new (files d old.0) (files d new.0) r e.cause);
       leads = ran-leads d old new (GoesOn (done_or_refused r)) (IsOk r) sync m.safe_runs GivesNone e.ran
           (λ on ready. whole-ok (d.layer old.0) (files d old.0) (files d new.0) r (not-cut r on) ready.usable.0 e.cause) (λ p v none. absurd none) (omega arith);
