@@ -8,10 +8,11 @@ use crate::texts::{deep, shallow};
 use cases::{Trouble, joined, ok, runs};
 use imago_access::{FormatAccess, FormatDriverInstance, PreallocateMode, PreparedDataMapping};
 use imago_storage::Fault;
+use qimg_calls::{Answer, Call};
 use std::alloc::Global;
 
 /// The most bytes that a script reads at once.
-const MOST: u64 = 16_777_216;
+pub const MOST: u64 = 16_777_216;
 
 /// A buffer of bytes that are no answer.
 ///
@@ -320,6 +321,18 @@ pub fn flatten<S: FormatDriverInstance, T: FormatDriverInstance>(
         return Err(Trouble::NoCall);
     }
     Ok(qimg_calls::flatten(alloc, source, target)?)
+}
+
+/// Makes calls one behind the other, where nothing is prepared, and answers each.
+pub fn drive_all<D: FormatDriverInstance>(
+    alloc: Global,
+    access: &mut FormatAccess<D>,
+    calls: &[Call],
+) -> Result<Vec<Answer>, Trouble> {
+    if !is_free(access) {
+        return Err(Trouble::NoCall);
+    }
+    Ok(qimg_calls::drive(alloc, access, calls)?)
 }
 
 /// The most layers of which it is told.

@@ -6,6 +6,7 @@
 mod calls;
 mod driving;
 mod file_reads;
+mod lists;
 mod texts;
 mod words;
 

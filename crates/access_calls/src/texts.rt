@@ -58,18 +58,23 @@ pub fn shallow(alloc: Global, mapping: ShallowMapping, length: u64) -> Result<St
 }
 
 /// A prepared mapping: its storage, offset and length, and whether there is something to commit.
+pub fn prepared_at(
+    alloc: Global,
+    (storage, offset, length): (usize, u64, u64),
+    is_to_commit: bool,
+) -> Result<String, AllocError> {
+    let state = if is_to_commit { "to commit" } else { "done" };
+    format!(in alloc; "{storage} {offset} {length} {state}")
+}
+
+/// A prepared mapping: its storage, offset and length, and whether there is something to commit.
 ///
 /// # Errors
 ///
 /// `AllocError` for want of memory.
 pub fn prepared<T>(alloc: Global, mapping: &PreparedDataMapping<T>) -> Result<String, AllocError> {
-    let (storage, offset, length) = (mapping.storage(), mapping.offset(), mapping.length());
-    let state = if mapping.is_nonblocking() {
-        "done"
-    } else {
-        "to commit"
-    };
-    format!(in alloc; "{storage} {offset} {length} {state}")
+    let place = (mapping.storage(), mapping.offset(), mapping.length());
+    prepared_at(alloc, place, !mapping.is_nonblocking())
 }
 
 pub fn format(format: Format) -> &'static str {

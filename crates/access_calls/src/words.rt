@@ -5,6 +5,7 @@ use crate::calls::{
 };
 use crate::driving::drive;
 use crate::file_reads::{file_size, read_by};
+use crate::lists::list;
 use cases::{Trouble, bytes, number, size};
 use imago_access::{FormatAccess, FormatDriverInstance, PreallocateMode, ReadFiles};
 use std::alloc::Global;
@@ -75,7 +76,7 @@ fn kept<D: FormatDriverInstance>(
 }
 
 // The one word that there is.
-fn only<'x>(words: &[&'x str]) -> Result<&'x str, Trouble> {
+pub fn only<'x>(words: &[&'x str]) -> Result<&'x str, Trouble> {
     match words {
         [word] => Ok(*word),
         _ => Err(Trouble::NoCall),
@@ -189,6 +190,8 @@ fn named<D: FormatDriverInstance + Display>(
 /// - `read`, `map`, `shallow`, `zeroes`, `to_zero`, `to_any`, `to_backing OFFSET N`; `write OFFSET BYTES`; `ensure OFFSET N [overwrite]`;
 ///   `write_mapped GUEST PLACE BYTES`.
 /// - `grow` and `resize SIZE MODE`, `shrink SIZE`, with `none`, `zero`, `format`, `full` or `data` as a mode; `flush`, `sync`, `invalidate`.
+/// - `list CALL ; CALL ; ..`: these calls by one call, which keeps what is prepared between them: those above but for `resize` and
+///   `invalidate`, and `prepare OFFSET N [overwrite]`, `commit` and `cancel`. It tells their answers, with `/` between them, or `none`.
 /// - `sizes` of the layers, the highest first, and `ready`, whether each can be used; `aligns` of requests and of memory; `named`,
 ///   `prepared`.
 /// - `file_size LAYER FILE` and `read_file LAYER FILE OFFSET N` of a layer's file as it stands: the top has the number 0, and so has its
@@ -208,6 +211,7 @@ pub fn called<D: ReadFiles + Display>(
 ) -> Result<String, Trouble> {
     match words {
         ["named"] => named(alloc, disk),
+        ["list", rest @ ..] => list(alloc, disk, rest),
         [word] => said(alloc, disk, word),
         ["file_size", layer, file] => file_size(alloc, disk, size(layer)?, size(file)?),
         ["read_file", rest @ ..] => read_by(alloc, disk, rest),

@@ -1,0 +1,150 @@
+// Lists of calls of a disk, which one call makes.
+use crate::calls::{MOST, drive_all};
+use crate::texts::{deep, prepared_at, shallow};
+use crate::words::{mode_of, only, run_of};
+use cases::{Trouble, bytes, joined, number, ok, runs};
+use imago_access::{FormatAccess, FormatDriverInstance};
+use imago_storage::Fault;
+use qimg_calls::{Answer, Call};
+use std::alloc::Global;
+
+// A read, whose bytes a script has room for.
+fn read_of(offset: u64, n: u64) -> Result<Call, Trouble> {
+    if n > MOST {
+        return Err(Trouble::NoCall);
+    }
+    Ok(Call::Read {
+        offset,
+        length: n as usize,
+    })
+}
+
+// A call with two numbers.
+fn ranged(word: &str, offset: u64, length: u64) -> Result<Call, Trouble> {
+    match word {
+        "read" => read_of(offset, length),
+        "map" => Ok(Call::GetMapping { offset, length }),
+        "shallow" => Ok(Call::GetShallowMapping { offset, length }),
+        "zeroes" => Ok(Call::WriteZeroes { offset, length }),
+        "to_zero" => Ok(Call::DiscardToZero { offset, length }),
+        "to_any" => Ok(Call::DiscardToAny { offset, length }),
+        "to_backing" => Ok(Call::DiscardToBacking { offset, length }),
+        _ => Err(Trouble::NoCall),
+    }
+}
+
+// A run that is prepared, or mapped at once.
+fn mapped(word: &str, offset: u64, words: &[&str]) -> Result<Call, Trouble> {
+    let (length, overwrite) = run_of(words)?;
+    match word {
+        "prepare" => Ok(Call::PrepareDataMapping {
+            offset,
+            length,
+            overwrite,
+        }),
+        _ => Ok(Call::EnsureDataMapping {
+            offset,
+            length,
+            overwrite,
+        }),
+    }
+}
+
+// A write to a mapped place: behind that of the disk come that of the storage, and the bytes.
+fn written_mapped(alloc: Global, guest: u64, words: &[&str]) -> Result<Call, Trouble> {
+    let [place, rest @ ..] = words else {
+        return Err(Trouble::NoCall);
+    };
+    Ok(Call::WriteMapped {
+        guest,
+        place: number(place)?,
+        bytes: bytes(alloc, rest)?,
+    })
+}
+
+// A call that begins with a number.
+fn call_at(alloc: Global, word: &str, first: u64, words: &[&str]) -> Result<Call, Trouble> {
+    match word {
+        "write" => Ok(Call::Write {
+            offset: first,
+            bytes: bytes(alloc, words)?,
+        }),
+        "write_mapped" => written_mapped(alloc, first, words),
+        "prepare" | "ensure" => mapped(word, first, words),
+        "grow" => Ok(Call::ResizeGrow {
+            size: first,
+            mode: mode_of(only(words)?)?,
+        }),
+        "shrink" if words.is_empty() => Ok(Call::ResizeShrink { size: first }),
+        _ => ranged(word, first, number(only(words)?)?),
+    }
+}
+
+// The call of these words.
+fn call_of(alloc: Global, words: &[&str]) -> Result<Call, Trouble> {
+    match words {
+        ["commit"] => Ok(Call::CommitDataMapping),
+        ["cancel"] => Ok(Call::Cancel),
+        ["flush"] => Ok(Call::Flush),
+        ["sync"] => Ok(Call::Sync),
+        [word, first, rest @ ..] => call_at(alloc, word, number(first)?, rest),
+        _ => Err(Trouble::NoCall),
+    }
+}
+
+// The calls of these words, with the word `;` between them.
+fn calls_of(alloc: Global, words: &[&str]) -> Result<Vec<Call>, Trouble> {
+    let mut calls = Vec::new(alloc);
+    if words.is_empty() {
+        return Ok(calls);
+    }
+    for call in words.split(|word| *word == ";") {
+        calls.push(call_of(alloc, call)?)?;
+    }
+    Ok(calls)
+}
+
+// An answer. Where a call is refused for want of memory the list as a whole is answered so.
+fn told(alloc: Global, answer: &Answer) -> Result<String, Trouble> {
+    match answer {
+        Answer::Done => Ok(ok(alloc)?),
+        Answer::Bytes(bytes) => Ok(runs(alloc, bytes)?),
+        Answer::Mapped(mapping, length) => Ok(deep(alloc, *mapping, *length)?),
+        Answer::Shallow(mapping, length) => Ok(shallow(alloc, *mapping, *length)?),
+        Answer::Prepared {
+            storage,
+            offset,
+            length,
+            state,
+        } => Ok(prepared_at(alloc, (*storage, *offset, *length), *state)?),
+        Answer::Refused(Fault::Memory) => Err(Trouble::Refused(Fault::Memory)),
+        Answer::Refused(fault) => Ok(fault.to_string(alloc)?),
+    }
+}
+
+// Answers, with `/` between them; `none` where there are none.
+fn told_all(alloc: Global, answers: &[Answer]) -> Result<String, Trouble> {
+    if answers.is_empty() {
+        return Ok("none".to_string(alloc)?);
+    }
+    let mut text = String::new(alloc);
+    for answer in answers.iter() {
+        if !text.is_empty() {
+            joined(&mut text, "/")?;
+        }
+        let answer = told(alloc, answer)?;
+        joined(&mut text, answer.as_str())?;
+    }
+    Ok(text)
+}
+
+/// Makes the calls of these words, with the word `;` between them, by one call: it tells their answers, with `/` between them.
+pub fn list<D: FormatDriverInstance>(
+    alloc: Global,
+    disk: &mut FormatAccess<D>,
+    words: &[&str],
+) -> Result<String, Trouble> {
+    let calls = calls_of(alloc, words)?;
+    let answers = drive_all(alloc, disk, &calls)?;
+    told_all(alloc, &answers)
+}
