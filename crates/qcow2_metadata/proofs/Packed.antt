@@ -60,6 +60,15 @@ wide-cell o n i bytes one size width power fits inside =
     ∙ (ap (λ y. y / 1 % 2 ^ (2 ^ o)) read ∙ (ap (λ y. y % 2 ^ (2 ^ o)) over
     ∙ (mod-eq_of_lt small ∙ (ap (λ a. be (bytes_of bytes) a n) (sym start) ∙ ap (λ m. be (bytes_of bytes) (0 + i * m) m) (sym width))))))))
 
+-- a counter of two bytes
+pub pair-counter : (i : ℕ) (bytes : List ℕ) → ((k : ℕ) → get_or bytes k 0 < 256) → HasCounter 4 bytes i → counter 4 bytes i ≡ get_or bytes (2 * i) 0 * 256 + get_or bytes (2 * i + 1) 0
+unfolding be
+pair-counter i bytes fits has =
+    let high : get_or bytes (0 + i * 2 + 0) 0 ≡ get_or bytes (2 * i) 0 = let e : 0 + i * 2 + 0 ≡ 2 * i = omega arith in ap (λ k. get_or bytes k 0) e in
+    let low : get_or bytes (0 + i * 2 + 1) 0 ≡ get_or bytes (2 * i + 1) 0 = let e : 0 + i * 2 + 1 ≡ 2 * i + 1 = omega arith in ap (λ k. get_or bytes k 0) e in
+    let two : be (bytes_of bytes) (0 + i * 2) 2 ≡ get_or bytes (2 * i) 0 * 256 + get_or bytes (2 * i + 1) 0 = omega (arith, high, low) in
+    wide-cell 4 2 i bytes refl refl refl refl fits (omega arith) ∙ two
+
 -- the byte at a place
 one-byte : (f : Bytes) (at : ℕ) → be f at 1 ≡ f at
 unfolding be

@@ -49,13 +49,28 @@ fn digit(number: u64, bit: u32, order: u32) -> u64
     (number >> bit) & max_counter(order)
 }
 
+/// The counter of 16 bits at `index`, where its two bytes lie.
+fn get_16(bytes: &[u8], index: usize) -> u64
+    requires { HasCounter 4 bytes.now index }
+    ensures { result ≡ counter 4 bytes.now index }
+{
+    let high = u64::from(bytes[2 * index]);
+    let low = u64::from(bytes[2 * index + 1]);
+    high * 256 + low
+}
+
 /// The counter at `index`.
+#[inline]
 #[tactic(auto, using(crate::proofs::Widths::width_facts))]
 pub fn get(bytes: &[u8], order: u32, index: usize) -> u64
     requires order { order ≤ 6 }
     requires inside { HasCounter order bytes.now index }
     ensures { result ≡ counter order bytes.now index }
 {
+    if order == 4 {
+        // Nearly all images have this width.
+        return get_16(bytes, index);
+    }
     let start = first_byte(order, index);
     let end = start + cell_len(order);
     digit(read_be(&bytes[start..end]), first_bit(order, index), order)
