@@ -1,5 +1,5 @@
 // The header of an image.
-ghost use Rattle.std.specs.Prelude.{◌≡◌, ◌+◌, ◌-◌, ◌^◌, ◌≤◌, ◌↔◌, ◌⊎◌, IsOk, IsOkUnless};
+ghost use Rattle.std.specs.Prelude.{◌≡◌, ◌+◌, ◌-◌, ◌^◌, ◌≤◌, ◌↔◌, ◌⊎◌, [], IsOk, IsOkUnless};
 ghost use Rattle.std.specs.Option.{option_copied};
 ghost use Rattle.qcow2_types.specs.Header.{Shaped, cluster_size as cluster_size_of, words_of_cluster, refcount_table_entries, has_external_data};
 ghost use Rattle.qcow2_types.specs.Counts.{counters_of_block};
@@ -202,6 +202,14 @@ impl Header {
         ensures { option_copied result ≡ name_of (kind_of kind) bit self.now.features }
     {
         name_in(&self.feature_names, kind, bit)
+    }
+
+    /// Lets the names of feature bits go, and the memory that they take. The file is not written.
+    pub fn forget_feature_names(&mut self)
+        ensures { self.new ≡ record self.old { features = [] } }
+    {
+        self.feature_names.clear();
+        self.feature_names.shrink_to_fit();
     }
 
     /// The number of snapshots.
