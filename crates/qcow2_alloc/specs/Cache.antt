@@ -33,6 +33,17 @@ module _ {K V : Type 0} where
 abbrev pub with_entries : {K V B D : Type 0} → AsyncLruCache K V B D → List (K × Slot V) → AsyncLruCache K V B D
 with_entries c es = record c { slots = lru_cache es c.slots.cap }
 
+-- What a cache is like: how its keys are told apart, how values are loaded and flushed, and how many it holds.
+pub record CacheKind (K V D : Type 0) : Type 1 where
+  pub eq : K → K → Bool
+  pub loads : D → K → Result V Fault → D → Type 0
+  pub flushes : D → K → V → Result Unit Fault → D → V → Type 0
+  pub cap : ℕ
+
+abbrev pub cache_kind : {K V D : Type 0} → (K → K → Bool) → (D → K → Result V Fault → D → Type 0)
+    → (D → K → V → Result Unit Fault → D → V → Type 0) → ℕ → CacheKind K V D
+cache_kind eq loads flushes cap = record { eq = eq; loads = loads; flushes = flushes; cap = cap }
+
 module _ {K V D : Type 0} (eq : K → K → Bool) (flushes : D → K → V → Result Unit Fault → D → V → Type 0) where
   -- the value at a key was flushed in place
   pub record FlushedAt (key : K) (before : D) (es : List (K × Slot V)) (result : Result Unit Fault) (after : D)
@@ -49,13 +60,15 @@ module _ {K V D : Type 0} (eq : K → K → Bool) (flushes : D → K → V → R
       × (es' ≡ remove_entry (eq key) es)
   Evicted key before es (Err fault) after es' = FlushedAt key before es (Err fault) after es'
 
-  -- how room is made for one entry more
-  pub record MadeRoom (cap : ℕ) (may_flush : Bool) (before : D) (es : List (K × Slot V)) (result : Result Admission Fault) (after : D)
-      (es' : List (K × Slot V)) : Type 0 where
-    pub roomy : length es < cap → (result ≡ Ok Granted) × (after ≡ before) × (es' ≡ es)
-    pub full : cap ≤ length es → may_flush ≡ false → (result ≡ Ok Denied) × (after ≡ before) × (es' ≡ es)
-    pub pinned : cap ≤ length es → may_flush ≡ true → victim es ≡ None → (result ≡ Err CacheFull) × (after ≡ before) × (es' ≡ es)
-    pub evicted : cap ≤ length es → may_flush ≡ true → (key : K) → victim es ≡ Some key → Evicted key before es result after es'
+-- how room is made for one entry more
+pub record MadeRoom {K V D : Type 0} (kind : CacheKind K V D) (may_flush : Bool) (before : D) (es : List (K × Slot V))
+    (result : Result Admission Fault) (after : D) (es' : List (K × Slot V)) : Type 0 where
+  pub roomy : length es < kind.cap → (result ≡ Ok Granted) × (after ≡ before) × (es' ≡ es)
+  pub full : kind.cap ≤ length es → may_flush ≡ false → (result ≡ Ok Denied) × (after ≡ before) × (es' ≡ es)
+  pub pinned : kind.cap ≤ length es → may_flush ≡ true → victim es ≡ None
+      → (result ≡ Err CacheFull) × (after ≡ before) × (es' ≡ es)
+  pub evicted : kind.cap ≤ length es → may_flush ≡ true → (key : K) → victim es ≡ Some key
+      → Evicted kind.eq kind.flushes key before es result after es'
 
 module _ {K V D : Type 0} (loads : D → K → Result V Fault → D → Type 0) where
   -- a value was loaded, and goes first; where the load failed, or there was no memory, the entries stay
@@ -72,51 +85,53 @@ module _ {K V D : Type 0} (loads : D → K → Result V Fault → D → Type 0) 
   LoadedAfter key mid es (Err fault) result after es' = (result ≡ Err fault) × (after ≡ mid) × (es' ≡ es)
 
 -- how an entry is found or loaded
-module _ {K V D : Type 0} (eq : K → K → Bool) (loads : D → K → Result V Fault → D → Type 0)
-    (flushes : D → K → V → Result Unit Fault → D → V → Type 0) where
-  pub record Missed (cap : ℕ) (may_flush : Bool) (key : K) (before : D) (es : List (K × Slot V)) (result : Result Admission Fault)
-      (after : D) (es' : List (K × Slot V)) : Type 0 where
+module _ {K V D : Type 0} (kind : CacheKind K V D) where
+  pub record Missed (may_flush : Bool) (key : K) (before : D) (es : List (K × Slot V)) (result : Result Admission Fault) (after : D)
+      (es' : List (K × Slot V)) : Type 0 where
     pub room : Result Admission Fault
     pub mid : D
     pub entries : List (K × Slot V)
-    pub made : MadeRoom eq flushes cap may_flush before es room mid entries
-    pub loaded : LoadedAfter loads key mid entries room result after es'
+    pub made : MadeRoom kind may_flush before es room mid entries
+    pub loaded : LoadedAfter kind.loads key mid entries room result after es'
 
-  pub record Readied (cap : ℕ) (may_flush : Bool) (key : K) (before : D) (es : List (K × Slot V)) (result : Result Admission Fault)
-      (after : D) (es' : List (K × Slot V)) : Type 0 where
-    pub found : IsSome (lookup (eq key) es) → (result ≡ Ok Granted) × (after ≡ before) × (es' ≡ es)
-    pub missed : lookup (eq key) es ≡ None → Missed cap may_flush key before es result after es'
+  pub record Readied (may_flush : Bool) (key : K) (before : D) (es : List (K × Slot V)) (result : Result Admission Fault) (after : D)
+      (es' : List (K × Slot V)) : Type 0 where
+    pub found : IsSome (lookup (kind.eq key) es) → (result ≡ Ok Granted) × (after ≡ before) × (es' ≡ es)
+    pub missed : lookup (kind.eq key) es ≡ None → Missed may_flush key before es result after es'
     -- the entry is there where it says so
-    pub there : result ≡ Ok Granted → IsSome (lookup (eq key) es')
+    pub there : result ≡ Ok Granted → IsSome (lookup (kind.eq key) es')
 
 -- How a value is put at a key: over another,
 module _ {K V D : Type 0} (eq : K → K → Bool) (flushes : D → K → V → Result Unit Fault → D → V → Type 0) where
-  abbrev pub Overwritten : K → V → D → List (K × Slot V) → Result (Option V) (Fault × V) → D → List (K × Slot V) → Type 0
-  Overwritten key value before es (Ok back) after es' = (back ≡ None) × (mid : List (K × Slot V))
-      × FlushedAt eq flushes key before es (Ok tt) after mid × (es' ≡ hit (eq key) mid value)
-  Overwritten key value before es (Err refused) after es' = (refused.1 ≡ value)
-      × FlushedAt eq flushes key before es (Err refused.0) after es'
+  abbrev pub Overwritten : K × V → D → List (K × Slot V) → Result (Option V) (Fault × V) → D → List (K × Slot V) → Type 0
+  Overwritten entry before es (Ok back) after es' = (back ≡ None) × (mid : List (K × Slot V))
+      × FlushedAt eq flushes entry.0 before es (Ok tt) after mid × (es' ≡ hit (eq entry.0) mid entry.1)
+  Overwritten entry before es (Err refused) after es' = (refused.1 ≡ entry.1)
+      × FlushedAt eq flushes entry.0 before es (Err refused.0) after es'
 
-  -- what comes once room was asked for it
-  abbrev pub PutAfter : K → V → List (K × Slot V) → Result Admission Fault → Result (Option V) (Fault × V) → List (K × Slot V) → Type 0
-  PutAfter key value es (Ok Granted) result es' = ((result ≡ Ok None) × (es' ≡ (key, record { value = value; pins = 0 }) ∷ es))
-      ⊎ ((result ≡ Err (Memory, value)) × (es' ≡ es))
-  PutAfter key value es (Ok Denied) result es' = (result ≡ Ok (Some value)) × (es' ≡ es)
-  PutAfter key value es (Err fault) result es' = (result ≡ Err (fault, value)) × (es' ≡ es)
+-- what comes once room was asked for it
+abbrev pub PutAfter : {K V : Type 0} → K × V → List (K × Slot V) → Result Admission Fault → Result (Option V) (Fault × V)
+    → List (K × Slot V) → Type 0
+PutAfter entry es (Ok Granted) result es' = ((result ≡ Ok None) × (es' ≡ (entry.0, record { value = entry.1; pins = 0 }) ∷ es))
+    ⊎ ((result ≡ Err (Memory, entry.1)) × (es' ≡ es))
+PutAfter entry es (Ok Denied) result es' = (result ≡ Ok (Some entry.1)) × (es' ≡ es)
+PutAfter entry es (Err fault) result es' = (result ≡ Err (fault, entry.1)) × (es' ≡ es)
 
-  -- or as a new one
-  pub record Added (cap : ℕ) (may_flush : Bool) (key : K) (value : V) (before : D) (es : List (K × Slot V))
-      (result : Result (Option V) (Fault × V)) (after : D) (es' : List (K × Slot V)) : Type 0 where
+-- or as a new one
+module _ {K V D : Type 0} (kind : CacheKind K V D) where
+  pub record Added (may_flush : Bool) (entry : K × V) (before : D) (es : List (K × Slot V)) (result : Result (Option V) (Fault × V))
+      (after : D) (es' : List (K × Slot V)) : Type 0 where
     pub room : Result Admission Fault
     pub entries : List (K × Slot V)
-    pub made : MadeRoom eq flushes cap may_flush before es room after entries
-    pub put : PutAfter key value entries room result es'
+    pub made : MadeRoom kind may_flush before es room after entries
+    pub put : PutAfter entry entries room result es'
 
-  pub record Inserted (cap : ℕ) (may_flush : Bool) (key : K) (value : V) (before : D) (es : List (K × Slot V))
-      (result : Result (Option V) (Fault × V)) (after : D) (es' : List (K × Slot V)) : Type 0 where
-    pub fresh : lookup (eq key) es ≡ None → Added cap may_flush key value before es result after es'
-    pub barred : IsSome (lookup (eq key) es) → may_flush ≡ false → (result ≡ Ok (Some value)) × (after ≡ before) × (es' ≡ es)
-    pub over : IsSome (lookup (eq key) es) → may_flush ≡ true → Overwritten key value before es result after es'
+  pub record Inserted (may_flush : Bool) (entry : K × V) (before : D) (es : List (K × Slot V)) (result : Result (Option V) (Fault × V))
+      (after : D) (es' : List (K × Slot V)) : Type 0 where
+    pub fresh : lookup (kind.eq entry.0) es ≡ None → Added may_flush entry before es result after es'
+    pub barred : IsSome (lookup (kind.eq entry.0) es) → may_flush ≡ false → (result ≡ Ok (Some entry.1)) × (after ≡ before) × (es' ≡ es)
+    pub over : IsSome (lookup (kind.eq entry.0) es) → may_flush ≡ true
+        → Overwritten kind.eq kind.flushes entry before es result after es'
 
 -- the fault of an answer
 abbrev pub fault_of : {T : Type 0} → Result T Fault → Option Fault

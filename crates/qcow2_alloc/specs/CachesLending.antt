@@ -14,7 +14,7 @@ use Rattle.qcow2_alloc.specs.contracts.cache.MetadataCaches.{the_row}
 use Rattle.qcow2_metadata.specs.contracts.l2_table.L2Table.{the_row as table_row}
 use Rattle.qcow2_metadata.specs.contracts.refblock.RefBlock.{the_row as block_row}
 use Rattle.qcow2_alloc.specs.Backends.{TableLoaded, TableFlushed, BlockLoaded, BlockFlushed}
-use Rattle.qcow2_alloc.specs.Cache.{hit, with_entries}
+use Rattle.qcow2_alloc.specs.Cache.{CacheKind, cache_kind, hit, with_entries}
 use Rattle.qcow2_alloc.specs.Caches.{cached_in}
 use Rattle.qcow2_alloc.specs.Finding.{TableFound, BlockFound}
 
@@ -43,6 +43,13 @@ module _ {S : Type 0} where
     abbrev pub block_flushes : ImageFile S → ℕ → Block → Result Unit Fault → ImageFile S → Block → Type 0
     block_flushes old key block result new block' = (new.header ≡ old.header)
         × BlockFlushed key block (state old.image) result (state new.image) block'
+
+    -- what caches of so many of them are like
+    abbrev pub table_kind : ℕ → CacheKind ℕ TableValue (ImageFile S)
+    table_kind cap = cache_kind nat_eq table_loads table_flushes cap
+
+    abbrev pub block_kind : ℕ → CacheKind ℕ Block (ImageFile S)
+    block_kind cap = cache_kind nat_eq block_loads block_flushes cap
 
 module _ (S : RattleType) (state : S.Denot → StorageState) where
   -- The table is found or loaded with the value that r shows, and goes first, with the last value written through r.

@@ -7,7 +7,7 @@ use Rattle.imago_storage.specs.declared.fault.Fault.{Fault}
 use Rattle.std.specs.HashMap.Lent.{HashMembers}
 use Rattle.qcow2_alloc.specs.declared.async_lru_cache.Admission.{Admission}
 use Rattle.qcow2_alloc.specs.declared.async_lru_cache.Admission.TheVariants.{Granted, Denied}
-use Rattle.qcow2_alloc.specs.Cache.{hit, with_entries, Readied}
+use Rattle.qcow2_alloc.specs.Cache.{CacheKind, hit, with_entries, Readied}
 use Rattle.qcow2_alloc.specs.declared.async_lru_cache.NotLent.{NotLent}
 use Rattle.qcow2_alloc.specs.declared.async_lru_cache.NotLent.TheVariants.{Full, Refused}
 use Rattle.qcow2_alloc.specs.declared.async_lru_cache.Slot.{Slot}
@@ -20,23 +20,39 @@ answer_of (Ok v) = Ok Granted
 answer_of (Err Full) = Ok Denied
 answer_of (Err (Refused fault)) = Err fault
 
-module _ (K V B D : RattleType) (key : HashMembers K.Denot) where
-  -- the cache's type, as the logic holds it
+-- The types of a cache, as the logic holds them, and what is known of its keys.
+pub record CacheTypes : Type 1 where
+  pub K : RattleType
+  pub V : RattleType
+  pub B : RattleType
+  pub D : RattleType
+  pub members : HashMembers K.Denot
+
+abbrev pub cache_types : (K V B D : RattleType) → HashMembers K.Denot → CacheTypes
+cache_types K V B D members = record { K = K; V = V; B = B; D = D; members = members }
+
+module _ (types : CacheTypes) where
+  -- the cache's type
   abbrev pub cache_row : RattleType
-  cache_row = the_row K V B D (record {}) (record { eq = key.eq }) (record { hash_input = key.hash_input })
+  cache_row = the_row types.K types.V types.B types.D (record {}) (record { eq = types.members.eq })
+      (record { hash_input = types.members.hash_input })
+
+  -- a cache of these types
+  abbrev pub CacheOf : Type 0
+  CacheOf = AsyncLruCache types.K.Denot types.V.Denot types.B.Denot types.D.Denot
 
   -- the entry at the key goes first, with the last value written through r; with none the cache stays
-  abbrev pub lends_value : MutBor (AsyncLruCache K.Denot V.Denot B.Denot D.Denot) → K.Denot → Option (MutBor V.Denot) → Fml
-  lends_value c k r = LendsSo cache_row V c r (λ n w. n ≡ with_entries c.now (hit (key.eq k) c.now.slots.entries w)) (λ n. n ≡ c.now)
+  abbrev pub lends_value : MutBor CacheOf → types.K.Denot → Option (MutBor types.V.Denot) → Fml
+  lends_value c k r = LendsSo cache_row types.V c r
+      (λ n w. n ≡ with_entries c.now (hit (types.members.eq k) c.now.slots.entries w)) (λ n. n ≡ c.now)
 
-  module _ (loads : D.Denot → K.Denot → Result V.Denot Fault → D.Denot → Type 0)
-      (flushes : D.Denot → K.Denot → V.Denot → Result Unit Fault → D.Denot → V.Denot → Type 0) where
-    -- the entry at the key is found or loaded with the value that r shows, and goes first, with the last value written through r
-    abbrev pub lends_found : MutBor (AsyncLruCache K.Denot V.Denot B.Denot D.Denot) → D.Denot → D.Denot → K.Denot → Bool
-        → Result (MutBor V.Denot) NotLent → Fml
-    lends_found c before after k may_flush r = LendsSoOk cache_row V c r
-        (λ n w. (mid : List (K.Denot × Slot V.Denot)) × Readied key.eq loads flushes c.now.slots.cap may_flush k before c.now.slots.entries
-        (Ok Granted) after mid × IfOk r (λ v. option_map (λ s. s.value) (lookup (key.eq k) mid) ≡ Some v.now)
-        × (n ≡ with_entries c.now (hit (key.eq k) mid w)))
-        (λ n. Readied key.eq loads flushes c.now.slots.cap may_flush k before c.now.slots.entries (answer_of r) after n.slots.entries
-        × (n ≡ with_entries c.now n.slots.entries))
+  -- the entry at the key is found or loaded with the value that r shows, and goes first, with the last value written through r
+  abbrev pub lends_found : CacheKind types.K.Denot types.V.Denot types.D.Denot → MutBor CacheOf → types.D.Denot → types.D.Denot
+      → types.K.Denot → Bool → Result (MutBor types.V.Denot) NotLent → Fml
+  lends_found kind c before after k may_flush r = LendsSoOk cache_row types.V c r
+      (λ n w. (mid : List (types.K.Denot × Slot types.V.Denot))
+      × Readied kind may_flush k before c.now.slots.entries (Ok Granted) after mid
+      × IfOk r (λ v. option_map (λ s. s.value) (lookup (kind.eq k) mid) ≡ Some v.now)
+      × (n ≡ with_entries c.now (hit (kind.eq k) mid w)))
+      (λ n. Readied kind may_flush k before c.now.slots.entries (answer_of r) after n.slots.entries
+      × (n ≡ with_entries c.now n.slots.entries))

@@ -1,5 +1,5 @@
 -- How L2 tables and refcount blocks are put into their caches.
-use Rattle.std.specs.Prelude.{◌≡◌, ◌⊎◌, ℕ, ◌<◌, ◌≤◌, ◌∷◌, false, IsSome, OnOk, IfErr, Ok, Err, Result, List, None, Some, length, map, nat_eq}
+use Rattle.std.specs.Prelude.{◌≡◌, ◌⊎◌, ℕ, ◌<◌, ◌≤◌, ◌∷◌, Bool, false, IsSome, OnOk, IfErr, Ok, Err, Result, List, None, Some, length, map, nat_eq}
 use Rattle.std.specs.List.{AllByRecursion}
 use Rattle.std.specs.Map.{lookup}
 use Rattle.imago_storage.specs.State.{StorageState}
@@ -12,11 +12,9 @@ use Rattle.qcow2_metadata.specs.Blocks.{Block}
 use Rattle.qcow2_alloc.specs.declared.async_lru_cache.Slot.{Slot}
 use Rattle.qcow2_alloc.specs.declared.cache.CacheDependency.{CacheDependency}
 use Rattle.qcow2_alloc.specs.declared.cache.CacheDependency.TheVariants.{L2DependsOnRb, RbDependsOnL2}
-use Rattle.qcow2_alloc.specs.declared.cache.MetadataCaches.{MetadataCaches}
-use Rattle.qcow2_alloc.specs.declared.file.ImageFile.{ImageFile}
 use Rattle.qcow2_alloc.specs.Backends.{TableFlushed, BlockFlushed}
 use Rattle.qcow2_alloc.specs.Cache.{hit, victim}
-use Rattle.qcow2_alloc.specs.Caches.{cached_in, order_of, HasRoomOf}
+use Rattle.qcow2_alloc.specs.Caches.{CachedFile, cached_in, order_of, HasRoomOf}
 use Rattle.qcow2_alloc.specs.Finding.{with_room, LetsTableIn, LetsBlockIn, IsPinnedFull, PinsNothing, CountsSearch}
 use Rattle.qcow2_alloc.specs.Going.{Going, WasNotCutOff, AreTablesInReach, AreBlocksInReach, WritesTables, WritesBlocks, BehindBlocks, BehindTables}
 use Rattle.qcow2_alloc.specs.Memory.{Cached, written_table, written_block}
@@ -41,79 +39,86 @@ module _ {V : Type 0} where
   abbrev pub MakesWay : ℕ → ℕ → List (ℕ × Slot V) → ℕ → Type 0
   MakesWay cap key es k = (k ≡ key) ⊎ ((lookup (nat_eq key) es ≡ None) × (cap ≤ length es) × (victim es ≡ Some k))
 
--- A table that is put is what the file has, and none that is cached there is still to be written.
-pub record IsNewTable (f : Bytes) (h : Fields) (cluster : ℕ) (table : TableValue) (tables : List (ℕ × Slot TableValue)) : Type 0 where
-  pub fits : IsCachedTable f h cluster table
-  pub clean : table.modified ≡ false
-  pub free : AllByRecursion (λ e. e.0 ≡ cluster → e.1.value.modified ≡ false) tables
+-- A value that is put is what the file has, and none that is cached there is still to be written.
+pub record IsNew {V : Type 0} (Fits : V → Type 0) (modified : V → Bool) (cluster : ℕ) (value : V) (es : List (ℕ × Slot V)) : Type 0 where
+  pub fits : Fits value
+  pub clean : modified value ≡ false
+  pub free : AllByRecursion (λ e. e.0 ≡ cluster → modified e.1.value ≡ false) es
 
--- The same of a block.
-pub record IsNewBlock (f : Bytes) (h : Fields) (cluster : ℕ) (block : Block) (blocks : List (ℕ × Slot Block)) : Type 0 where
-  pub fits : IsCachedBlock f h cluster block
-  pub clean : block.modified ≡ false
-  pub free : AllByRecursion (λ e. e.0 ≡ cluster → e.1.value.modified ≡ false) blocks
+abbrev pub IsNewTable : Bytes → Fields → ℕ → TableValue → List (ℕ × Slot TableValue) → Type 0
+IsNewTable f h cluster table tables = IsNew (IsCachedTable f h cluster) (λ t. t.modified) cluster table tables
 
--- A table that makes way is flushed in place, behind the blocks where these come first.
-pub record TableMadeWay (order : CacheDependency) (cluster : ℕ) (table : TableValue) (cached : Cached)
-    (before after : StorageState) : Type 0 where
+abbrev pub IsNewBlock : Bytes → Fields → ℕ → Block → List (ℕ × Slot Block) → Type 0
+IsNewBlock f h cluster block blocks = IsNew (IsCachedBlock f h cluster) (λ b. b.modified) cluster block blocks
+
+-- What makes way is flushed in place, behind what comes first, if that does.
+pub record MadeWay (comes_first : Type 0) (First : StorageState → Cached → Result Unit Fault → StorageState → Cached → Type 0)
+    (Flushes : StorageState → StorageState → Type 0) (before : StorageState) (cached : Cached) (after : StorageState) : Type 0 where
   pub mid : StorageState
   pub between : Cached
-  pub left : TableValue
-  pub alone : (order ≡ L2DependsOnRb → ⊥) → mid ≡ before
-  pub first : order ≡ L2DependsOnRb → WritesBlocks before cached (Ok tt) mid between
-  pub flush : TableFlushed cluster table mid (Ok tt) after left
+  pub alone : (comes_first → ⊥) → mid ≡ before
+  pub first : comes_first → First before cached (Ok tt) mid between
+  pub flush : Flushes mid after
 
--- The same of a block.
-pub record BlockMadeWay (order : CacheDependency) (cluster : ℕ) (block : Block) (cached : Cached)
-    (before after : StorageState) : Type 0 where
-  pub mid : StorageState
-  pub between : Cached
-  pub left : Block
-  pub alone : (order ≡ RbDependsOnL2 → ⊥) → mid ≡ before
-  pub first : order ≡ RbDependsOnL2 → WritesTables before cached (Ok tt) mid between
-  pub flush : BlockFlushed cluster block mid (Ok tt) after left
+-- a table, behind the blocks,
+abbrev pub TableMadeWay : CacheDependency → ℕ → TableValue → StorageState → Cached → StorageState → Type 0
+TableMadeWay order cluster table = MadeWay (order ≡ L2DependsOnRb) WritesBlocks
+    (λ mid after. (left : TableValue) × TableFlushed cluster table mid (Ok tt) after left)
+
+-- and a block, behind the tables
+abbrev pub BlockMadeWay : CacheDependency → ℕ → Block → StorageState → Cached → StorageState → Type 0
+BlockMadeWay order cluster block = MadeWay (order ≡ RbDependsOnL2) WritesTables
+    (λ mid after. (left : Block) × BlockFlushed cluster block mid (Ok tt) after left)
 
 -- What the put of an L2 table does. It keeps a safe image safe where the table is what the file has.
-pub record TableInserted {S : Type 0} (state : S → StorageState) (table : TableValue) (cluster : ℕ) (old : MetadataCaches S)
-    (before : ImageFile S) (result : Result Unit (Fault × TableValue)) (new : MetadataCaches S) (after : ImageFile S) : Type 0 where
-  pub going : Going before.header (order_of old) (λ _.
-      IsNewTable (bytes_of (state before.image).bytes) before.header.fields cluster table (cached_in old).tables)
-      (WasNotCutOff (refusal_of result)) (state before.image) (cached_in old) (state after.image) (cached_in new)
-  pub put : PutInto written_table old.l2.slots.cap cluster table (cached_in old).tables result (cached_in new).tables
-  pub flushed : (key : ℕ) (slot : Slot TableValue) → MakesWay old.l2.slots.cap cluster (cached_in old).tables key
-      → lookup (nat_eq key) (cached_in old).tables ≡ Some slot
-      → OnOk result (TableMadeWay (order_of old) key slot.value (cached_in old) (state before.image) (state after.image))
+pub record TableInserted {S : Type 0} (state : S → StorageState) (cluster : ℕ) (table : TableValue) (old : CachedFile S)
+    (result : Result Unit (Fault × TableValue)) (new : CachedFile S) : Type 0 where
+  pub going : Going old.file.header (order_of old.caches) (λ _.
+      IsNewTable (bytes_of (state old.file.image).bytes) old.file.header.fields cluster table (cached_in old.caches).tables)
+      (WasNotCutOff (refusal_of result)) (state old.file.image) (cached_in old.caches) (state new.file.image) (cached_in new.caches)
+  pub put : PutInto written_table old.caches.l2.slots.cap cluster table (cached_in old.caches).tables result (cached_in new.caches).tables
+  pub flushed : (key : ℕ) (slot : Slot TableValue) → MakesWay old.caches.l2.slots.cap cluster (cached_in old.caches).tables key
+      → lookup (nat_eq key) (cached_in old.caches).tables ≡ Some slot
+      → OnOk result (TableMadeWay (order_of old.caches) key slot.value (state old.file.image) (cached_in old.caches) (state new.file.image))
   -- Where there is room for it nothing is written,
-  pub roomy : lookup (nat_eq cluster) (cached_in old).tables ≡ None → length (cached_in old).tables < old.l2.slots.cap
-      → Kept (state before.image) (state after.image) × (new.rb ≡ old.rb)
+  pub roomy : lookup (nat_eq cluster) (cached_in old.caches).tables ≡ None
+      → length (cached_in old.caches).tables < old.caches.l2.slots.cap
+      → Kept (state old.file.image) (state new.file.image) × (new.caches.rb ≡ old.caches.rb)
   -- and blocks are only where they come first.
-  pub blocks : map written_block (cached_in new).blocks ≡ map written_block (cached_in old).blocks
-  pub apart : (order_of old ≡ L2DependsOnRb → ⊥) → new.rb ≡ old.rb
+  pub blocks : map written_block (cached_in new.caches).blocks ≡ map written_block (cached_in old.caches).blocks
+  pub apart : (order_of old.caches ≡ L2DependsOnRb → ⊥) → new.caches.rb ≡ old.caches.rb
   -- Where there is none, they are before a table is that has to go.
-  pub behind : lookup (nat_eq cluster) (cached_in old).tables ≡ None → old.l2.slots.cap ≤ length (cached_in old).tables
-      → BehindBlocks (order_of old) LetsTableIn (state before.image) (cached_in old) (refusal_of result) (state after.image) (cached_in new)
-  pub others : (new.order ≡ old.order) × (after.header ≡ before.header)
-  pub room : HasRoomOf old new
-  pub cause : CountsSearch (AreTablesInReach (cached_in old) × AreBlocksInReach (cached_in old))
-      (IsPinnedFull old.l2.slots.cap (cached_in old).tables) (state before.image).faults (state after.image).faults (refusal_of result)
+  pub behind : lookup (nat_eq cluster) (cached_in old.caches).tables ≡ None
+      → old.caches.l2.slots.cap ≤ length (cached_in old.caches).tables
+      → BehindBlocks (order_of old.caches) LetsTableIn (state old.file.image) (cached_in old.caches) (refusal_of result)
+      (state new.file.image) (cached_in new.caches)
+  pub others : (new.caches.order ≡ old.caches.order) × (new.file.header ≡ old.file.header)
+  pub room : HasRoomOf old.caches new.caches
+  pub cause : CountsSearch (AreTablesInReach (cached_in old.caches) × AreBlocksInReach (cached_in old.caches))
+      (IsPinnedFull old.caches.l2.slots.cap (cached_in old.caches).tables) (state old.file.image).faults (state new.file.image).faults
+      (refusal_of result)
 
 -- The same of a refcount block.
-pub record BlockInserted {S : Type 0} (state : S → StorageState) (block : Block) (cluster : ℕ) (old : MetadataCaches S)
-    (before : ImageFile S) (result : Result Unit (Fault × Block)) (new : MetadataCaches S) (after : ImageFile S) : Type 0 where
-  pub going : Going before.header (order_of old) (λ _.
-      IsNewBlock (bytes_of (state before.image).bytes) before.header.fields cluster block (cached_in old).blocks)
-      (WasNotCutOff (refusal_of result)) (state before.image) (cached_in old) (state after.image) (cached_in new)
-  pub put : PutInto written_block old.rb.slots.cap cluster block (cached_in old).blocks result (cached_in new).blocks
-  pub flushed : (key : ℕ) (slot : Slot Block) → MakesWay old.rb.slots.cap cluster (cached_in old).blocks key
-      → lookup (nat_eq key) (cached_in old).blocks ≡ Some slot
-      → OnOk result (BlockMadeWay (order_of old) key slot.value (cached_in old) (state before.image) (state after.image))
-  pub roomy : lookup (nat_eq cluster) (cached_in old).blocks ≡ None → length (cached_in old).blocks < old.rb.slots.cap
-      → Kept (state before.image) (state after.image) × (new.l2 ≡ old.l2)
-  pub tables : map written_table (cached_in new).tables ≡ map written_table (cached_in old).tables
-  pub apart : (order_of old ≡ RbDependsOnL2 → ⊥) → new.l2 ≡ old.l2
-  pub behind : lookup (nat_eq cluster) (cached_in old).blocks ≡ None → old.rb.slots.cap ≤ length (cached_in old).blocks
-      → BehindTables (order_of old) LetsBlockIn (state before.image) (cached_in old) (refusal_of result) (state after.image) (cached_in new)
-  pub others : (new.order ≡ old.order) × (after.header ≡ before.header)
-  pub room : HasRoomOf old new
-  pub cause : CountsSearch (AreTablesInReach (cached_in old) × AreBlocksInReach (cached_in old))
-      (IsPinnedFull old.rb.slots.cap (cached_in old).blocks) (state before.image).faults (state after.image).faults (refusal_of result)
+pub record BlockInserted {S : Type 0} (state : S → StorageState) (cluster : ℕ) (block : Block) (old : CachedFile S)
+    (result : Result Unit (Fault × Block)) (new : CachedFile S) : Type 0 where
+  pub going : Going old.file.header (order_of old.caches) (λ _.
+      IsNewBlock (bytes_of (state old.file.image).bytes) old.file.header.fields cluster block (cached_in old.caches).blocks)
+      (WasNotCutOff (refusal_of result)) (state old.file.image) (cached_in old.caches) (state new.file.image) (cached_in new.caches)
+  pub put : PutInto written_block old.caches.rb.slots.cap cluster block (cached_in old.caches).blocks result (cached_in new.caches).blocks
+  pub flushed : (key : ℕ) (slot : Slot Block) → MakesWay old.caches.rb.slots.cap cluster (cached_in old.caches).blocks key
+      → lookup (nat_eq key) (cached_in old.caches).blocks ≡ Some slot
+      → OnOk result (BlockMadeWay (order_of old.caches) key slot.value (state old.file.image) (cached_in old.caches) (state new.file.image))
+  pub roomy : lookup (nat_eq cluster) (cached_in old.caches).blocks ≡ None
+      → length (cached_in old.caches).blocks < old.caches.rb.slots.cap
+      → Kept (state old.file.image) (state new.file.image) × (new.caches.l2 ≡ old.caches.l2)
+  pub tables : map written_table (cached_in new.caches).tables ≡ map written_table (cached_in old.caches).tables
+  pub apart : (order_of old.caches ≡ RbDependsOnL2 → ⊥) → new.caches.l2 ≡ old.caches.l2
+  pub behind : lookup (nat_eq cluster) (cached_in old.caches).blocks ≡ None
+      → old.caches.rb.slots.cap ≤ length (cached_in old.caches).blocks
+      → BehindTables (order_of old.caches) LetsBlockIn (state old.file.image) (cached_in old.caches) (refusal_of result)
+      (state new.file.image) (cached_in new.caches)
+  pub others : (new.caches.order ≡ old.caches.order) × (new.file.header ≡ old.file.header)
+  pub room : HasRoomOf old.caches new.caches
+  pub cause : CountsSearch (AreTablesInReach (cached_in old.caches) × AreBlocksInReach (cached_in old.caches))
+      (IsPinnedFull old.caches.rb.slots.cap (cached_in old.caches).blocks) (state old.file.image).faults (state new.file.image).faults
+      (refusal_of result)

@@ -89,16 +89,16 @@ impl<K: Copy + Eq + Hash, V: Drop, B: AsyncLruCacheBackend<Key = K, Value = V>> 
 > {
     ghost use Rattle.qcow2_alloc.specs.declared.async_lru_cache.Slot.{Slot};
     ghost use Rattle.qcow2_alloc.specs.declared.async_lru_cache.Admission.TheVariants.{Granted};
-    ghost use Rattle.qcow2_alloc.specs.Cache.{with_entries, hit, fault_of, FlushedLast, FlushedEach, DroppedLast, FlushedAt, Evicted, MadeRoom, Loaded, Readied, Overwritten, Added, Inserted, kept_pinned};
+    ghost use Rattle.qcow2_alloc.specs.Cache.{cache_kind, with_entries, hit, fault_of, FlushedLast, FlushedEach, DroppedLast, FlushedAt, Evicted, MadeRoom, Loaded, Readied, Overwritten, Added, Inserted, kept_pinned};
     ghost use Rattle.std.specs.Borrow.{sem};
     ghost use Rattle.std.specs.Prelude.{IsSomeAnd, Bool};
     ghost use Rattle.lru.specs.LruCache.{lru_cache};
     ghost use Rattle.std.specs.Option.{option_copied_mut};
-    ghost use Rattle.qcow2_alloc.specs.Lending.{lends_value, lends_found};
+    ghost use Rattle.qcow2_alloc.specs.Lending.{cache_types, lends_value, lends_found};
 
     // The value of a key, for writing; its entry goes first.
     pub(crate) fn get_mut(&mut self, key: K) -> Option<&mut V>
-        ensures* writes_back { sem 𝓛 (lends_value K.row V.row B.row B.Device.row K.Hash self.entry key result) }
+        ensures* writes_back { sem 𝓛 (lends_value (cache_types K.row V.row B.row B.Device.row K.Hash) self.entry key result) }
         ensures value { option_copied_mut result ≡ option_map (λ s. s.value) (lookup (K.eq key) self.old.slots.entries) }
     {
         match self.slots.get_mut(&key) {
@@ -157,8 +157,8 @@ impl<K: Copy + Eq + Hash, V: Drop, B: AsyncLruCacheBackend<Key = K, Value = V>> 
         ensures fits { result ≡ Ok Granted → length self.new.slots.entries < self.new.slots.cap }
         ensures absent { result ≡ Ok Granted → (k : K) → lookup (K.eq k) self.old.slots.entries ≡ None
             → lookup (K.eq k) self.new.slots.entries ≡ None }
-        ensures room { MadeRoom K.eq B.flushes self.old.slots.cap may_flush device.old self.old.slots.entries result device.new
-            self.new.slots.entries }
+        ensures room { MadeRoom (cache_kind K.eq B.loads B.flushes self.old.slots.cap) may_flush device.old self.old.slots.entries
+            result device.new self.new.slots.entries }
         ensures others { self.new ≡ with_entries self.old self.new.slots.entries }
     {
         if self.slots.len() < self.slots.cap().get() {
@@ -221,8 +221,8 @@ impl<K: Copy + Eq + Hash, V: Drop, B: AsyncLruCacheBackend<Key = K, Value = V>> 
         key: K,
         may_flush: bool,
     ) -> Result<Admission, Fault>
-        ensures readied { Readied K.eq B.loads B.flushes self.old.slots.cap may_flush key device.old self.old.slots.entries result
-            device.new self.new.slots.entries }
+        ensures readied { Readied (cache_kind K.eq B.loads B.flushes self.old.slots.cap) may_flush key device.old
+            self.old.slots.entries result device.new self.new.slots.entries }
         ensures others { self.new ≡ with_entries self.old self.new.slots.entries }
     {
         if self.slots.contains(&key) {
@@ -252,7 +252,8 @@ impl<K: Copy + Eq + Hash, V: Drop, B: AsyncLruCacheBackend<Key = K, Value = V>> 
         value: V,
     ) -> Result<Option<V>, (Fault, V)>
         requires { IsSome (lookup (K.eq key) self.old.slots.entries) }
-        ensures written { Overwritten K.eq B.flushes key value device.old self.old.slots.entries result device.new self.new.slots.entries }
+        ensures written { Overwritten K.eq B.flushes (key, value) device.old self.old.slots.entries result device.new
+            self.new.slots.entries }
         ensures others { self.new ≡ with_entries self.old self.new.slots.entries }
     {
         match self.flush_at(device, key) {
@@ -273,8 +274,8 @@ impl<K: Copy + Eq + Hash, V: Drop, B: AsyncLruCacheBackend<Key = K, Value = V>> 
         may_flush: bool,
     ) -> Result<Option<V>, (Fault, V)>
         requires { lookup (K.eq key) self.old.slots.entries ≡ None }
-        ensures added { Added K.eq B.flushes self.old.slots.cap may_flush key value device.old self.old.slots.entries result device.new
-            self.new.slots.entries }
+        ensures added { Added (cache_kind K.eq B.loads B.flushes self.old.slots.cap) may_flush (key, value) device.old
+            self.old.slots.entries result device.new self.new.slots.entries }
         ensures others { self.new ≡ with_entries self.old self.new.slots.entries }
     {
         match self.make_room(device, may_flush) {
@@ -299,10 +300,11 @@ impl<K: Copy + Eq + Hash, V: Drop, B: AsyncLruCacheBackend<Key = K, Value = V>> 
         key: K,
         may_flush: bool,
     ) -> Result<&mut V, NotLent>
-        ensures* writes_back { sem 𝓛 (lends_found K.row V.row B.row B.Device.row K.Hash B.loads B.flushes self.entry device.old device.new
-            key may_flush result) }
+        ensures* writes_back { sem 𝓛 (lends_found (cache_types K.row V.row B.row B.Device.row K.Hash)
+            (cache_kind K.eq B.loads B.flushes self.old.slots.cap) self.entry device.old device.new key may_flush result) }
         ensures value { IfOk result (λ v. (mid : List (K × Slot V))
-            × Readied K.eq B.loads B.flushes self.old.slots.cap may_flush key device.old self.old.slots.entries (Ok Granted) device.new mid
+            × Readied (cache_kind K.eq B.loads B.flushes self.old.slots.cap) may_flush key device.old self.old.slots.entries (Ok Granted)
+            device.new mid
             × (option_map (λ s. s.value) (lookup (K.eq key) mid) ≡ Some v.now)) }
     {
         match self.ready(device, key, may_flush) {
@@ -327,8 +329,8 @@ impl<K: Copy + Eq + Hash, V: Drop, B: AsyncLruCacheBackend<Key = K, Value = V>> 
         value: V,
         may_flush: bool,
     ) -> Result<Option<V>, (Fault, V)>
-        ensures inserted { Inserted K.eq B.flushes self.old.slots.cap may_flush key value device.old self.old.slots.entries result
-            device.new self.new.slots.entries }
+        ensures inserted { Inserted (cache_kind K.eq B.loads B.flushes self.old.slots.cap) may_flush (key, value) device.old
+            self.old.slots.entries result device.new self.new.slots.entries }
         ensures others { self.new ≡ with_entries self.old self.new.slots.entries }
     {
         if !self.slots.contains(&key) {

@@ -36,9 +36,11 @@ impl<S: Storage> AsyncLruCacheBackend for L2CacheBackend<S> {
 
     type Device = ImageFile<S>;
 
-    ghost loads = { λ old key result new. (new.header ≡ old.header) × TableLoaded old.header.fields key (S.state old.image) result (S.state new.image) };
+    ghost loads = { λ old key result new. (new.header ≡ old.header)
+        × TableLoaded old.header.fields key (S.state old.image) result (S.state new.image) };
 
-    ghost flushes = { λ old key table result new table'. (new.header ≡ old.header) × TableFlushed key table (S.state old.image) result (S.state new.image) table' };
+    ghost flushes = { λ old key table result new table'. (new.header ≡ old.header)
+        × TableFlushed key table (S.state old.image) result (S.state new.image) table' };
 
     fn load(&self, device: &mut ImageFile<S>, key: HostCluster) -> Result<L2Table, Fault> {
         if !is_in_reach(key, device.header.cluster_bits()) {
@@ -92,9 +94,11 @@ impl<S: Storage> AsyncLruCacheBackend for RefBlockCacheBackend<S> {
 
     type Device = ImageFile<S>;
 
-    ghost loads = { λ old key result new. (new.header ≡ old.header) × BlockLoaded old.header.fields key (S.state old.image) result (S.state new.image) };
+    ghost loads = { λ old key result new. (new.header ≡ old.header)
+        × BlockLoaded old.header.fields key (S.state old.image) result (S.state new.image) };
 
-    ghost flushes = { λ old key block result new block'. (new.header ≡ old.header) × BlockFlushed key block (S.state old.image) result (S.state new.image) block' };
+    ghost flushes = { λ old key block result new block'. (new.header ≡ old.header)
+        × BlockFlushed key block (S.state old.image) result (S.state new.image) block' };
 
     fn load(&self, device: &mut ImageFile<S>, key: HostCluster) -> Result<RefBlock, Fault> {
         if !is_in_reach(key, device.header.cluster_bits()) {
@@ -151,13 +155,13 @@ impl<S: Storage> MetadataCaches<S> {
     ghost use Rattle.qcow2_alloc.specs.declared.cache.CacheDependency.TheVariants.{Unset, L2DependsOnRb, RbDependsOnL2};
     ghost use Rattle.qcow2_types.specs.Consistency.{IsConsistent};
     ghost use Rattle.imago_storage.specs.declared.fault.Fault.{Fault};
-    ghost use Rattle.qcow2_alloc.specs.Caches.{cached_in, order_of, HasRoomOf};
+    ghost use Rattle.qcow2_alloc.specs.Caches.{cached_file, cached_in, order_of, HasRoomOf};
     ghost use Rattle.qcow2_alloc.specs.Memory.{written};
     ghost use Rattle.qcow2_alloc.specs.Cache.{Readied, Inserted};
     ghost use Rattle.qcow2_alloc.specs.Putting.{TableInserted, BlockInserted};
     ghost use Rattle.qcow2_alloc.specs.Dropping.{Dropped, StaysSafe};
     ghost use Rattle.qcow2_alloc.specs.Finding.{TableFound, BlockFound};
-    ghost use Rattle.qcow2_alloc.specs.CachesLending.{with_tables, with_blocks, table_loads, table_flushes, block_loads, block_flushes, lends_table, lends_block};
+    ghost use Rattle.qcow2_alloc.specs.CachesLending.{with_tables, with_blocks, table_kind, block_kind, lends_table, lends_block};
     ghost use Rattle.std.specs.Borrow.{sem};
     ghost use Rattle.std.specs.Map.{lookup, remove_entry};
     ghost use Rattle.std.specs.Option.{option_map};
@@ -257,8 +261,9 @@ impl<S: Storage> MetadataCaches<S> {
 
     /// Writes all modified refcount blocks, and before them the modified L2 tables where these come first.
     ///
-    /// It refuses with `Fault::Memory`, `Fault::Storage`, and `Fault::DamagedTable` where words can't name the cluster of one of them, which no
-    /// safe cache has; what is cached then stays, and what wasn't written stays modified. The file of a safe cache is consistent at each stop.
+    /// It refuses with `Fault::Memory`, `Fault::Storage`, and `Fault::DamagedTable` where words can't name the cluster of one of them,
+    /// which no safe cache has; what is cached then stays, and what wasn't written stays modified. The file of a safe cache is consistent
+    /// at each stop.
     pub fn flush_rb(&mut self, file: &mut ImageFile<S>) -> Result<(), Fault>
         ensures going { Going file.old.header (order_of self.old) Always (result ≡ Ok tt) (S.state file.old.image) (cached_in self.old)
             (S.state file.new.image) (cached_in self.new) }
@@ -304,8 +309,9 @@ impl<S: Storage> MetadataCaches<S> {
 
     /// Writes all modified L2 tables and refcount blocks, in the announced order, and else the tables first.
     ///
-    /// It refuses with `Fault::Memory`, `Fault::Storage`, and `Fault::DamagedTable` where words can't name the cluster of one of them, which no
-    /// safe cache has; what is cached then stays, and what wasn't written stays modified. The file of a safe cache is consistent at each stop.
+    /// It refuses with `Fault::Memory`, `Fault::Storage`, and `Fault::DamagedTable` where words can't name the cluster of one of them,
+    /// which no safe cache has; what is cached then stays, and what wasn't written stays modified. The file of a safe cache is consistent
+    /// at each stop.
     pub fn flush_all(&mut self, file: &mut ImageFile<S>) -> Result<(), Fault>
         ensures going { Going file.old.header (order_of self.old) Always (result ≡ Ok tt) (S.state file.old.image) (cached_in self.old)
             (S.state file.new.image) (cached_in self.new) }
@@ -392,9 +398,8 @@ impl<S: Storage> MetadataCaches<S> {
 
     // Finds the L2 table in a cluster, or loads it where there is room.
     fn l2_find(&mut self, file: &mut ImageFile<S>, cluster: HostCluster) -> Result<Admission, Fault>
-        ensures readied { Readied nat_eq (table_loads S.state)
-            (table_flushes S.state) self.old.l2.slots.cap false cluster file.old self.old.l2.slots.entries result file.new
-            self.new.l2.slots.entries }
+        ensures readied { Readied (table_kind S.state self.old.l2.slots.cap) false cluster file.old self.old.l2.slots.entries
+            result file.new self.new.l2.slots.entries }
         ensures others { self.new ≡ with_tables self.old self.new.l2.slots.entries }
     {
         self.l2.ready(file, cluster, false)
@@ -421,14 +426,14 @@ impl<S: Storage> MetadataCaches<S> {
         }
     }
 
-    /// The L2 table in a cluster, found or loaded, whose entry goes first. What is written to it is written to the file later, by a flush or
-    /// where it has to make room.
+    /// The L2 table in a cluster, found or loaded, whose entry goes first. What is written to it is written to the file later, by a flush
+    /// or where it has to make room.
     ///
     /// Where the cache is full, the least recently used table that isn't pinned is flushed in place and its entry removed, and before it
     /// the modified refcount blocks are, where these come first. It refuses with `Fault::Memory`; with `Fault::Storage`; with
     /// `Fault::CacheFull` where each table of a full cache is pinned; and with `Fault::DamagedTable` where words can't name the cluster, or
-    /// that of a table or block that is to be written, which no safe cache has, or where the file has words there that no L2 table has. What is
-    /// cached then stays, but for the table that made room. The file of a safe cache is consistent at each stop.
+    /// that of a table or block that is to be written, which no safe cache has, or where the file has words there that no L2 table has.
+    /// What is cached then stays, but for the table that made room. The file of a safe cache is consistent at each stop.
     pub fn l2_get_or_insert(
         &mut self,
         file: &mut ImageFile<S>,
@@ -449,9 +454,8 @@ impl<S: Storage> MetadataCaches<S> {
 
     // Finds the refcount block in a cluster, or loads it where there is room.
     fn rb_find(&mut self, file: &mut ImageFile<S>, cluster: HostCluster) -> Result<Admission, Fault>
-        ensures readied { Readied nat_eq (block_loads S.state)
-            (block_flushes S.state) self.old.rb.slots.cap false cluster file.old self.old.rb.slots.entries result file.new
-            self.new.rb.slots.entries }
+        ensures readied { Readied (block_kind S.state self.old.rb.slots.cap) false cluster file.old self.old.rb.slots.entries
+            result file.new self.new.rb.slots.entries }
         ensures others { self.new ≡ with_blocks self.old self.new.rb.slots.entries }
     {
         self.rb.ready(file, cluster, false)
@@ -478,14 +482,14 @@ impl<S: Storage> MetadataCaches<S> {
         }
     }
 
-    /// The refcount block in a cluster, found or loaded, whose entry goes first. What is written to it is written to the file later, by a flush
-    /// or where it has to make room.
+    /// The refcount block in a cluster, found or loaded, whose entry goes first. What is written to it is written to the file later, by a
+    /// flush or where it has to make room.
     ///
     /// Where the cache is full, the least recently used block that isn't pinned is flushed in place and its entry removed, and before it
     /// the modified L2 tables are, where these come first. It refuses with `Fault::Memory`; with `Fault::Storage`; with
     /// `Fault::CacheFull` where each block of a full cache is pinned; and with `Fault::DamagedTable` where words can't name the cluster, or
-    /// that of a table or block that is to be written, which no safe cache has. What is cached then stays, but for the block that made room. The
-    /// file of a safe cache is consistent at each stop.
+    /// that of a table or block that is to be written, which no safe cache has. What is cached then stays, but for the block that made
+    /// room. The file of a safe cache is consistent at each stop.
     pub fn rb_get_or_insert(
         &mut self,
         file: &mut ImageFile<S>,
@@ -511,7 +515,7 @@ impl<S: Storage> MetadataCaches<S> {
         cluster: HostCluster,
         table: L2Table,
     ) -> Result<Option<L2Table>, (Fault, L2Table)>
-        ensures inserted { Inserted nat_eq (table_flushes S.state) self.old.l2.slots.cap false cluster table file.old
+        ensures inserted { Inserted (table_kind S.state self.old.l2.slots.cap) false (cluster, table) file.old
             self.old.l2.slots.entries result file.new self.new.l2.slots.entries }
         ensures others { self.new ≡ with_tables self.old self.new.l2.slots.entries }
     {
@@ -526,7 +530,7 @@ impl<S: Storage> MetadataCaches<S> {
         table: L2Table,
     ) -> Result<(), (Fault, L2Table)>
         requires { lookup (nat_eq cluster) self.old.l2.slots.entries ≡ None → self.old.l2.slots.cap ≤ length self.old.l2.slots.entries }
-        ensures { TableInserted S.state table cluster self.old file.old result self.new file.new }
+        ensures { TableInserted S.state cluster table (cached_file self.old file.old) result (cached_file self.new file.new) }
     {
         let flushed = self.before_tables(file);
         match flushed {
@@ -545,7 +549,7 @@ impl<S: Storage> MetadataCaches<S> {
         cluster: HostCluster,
         table: L2Table,
     ) -> Result<(), (Fault, L2Table)>
-        ensures { TableInserted S.state table cluster self.old file.old result self.new file.new }
+        ensures { TableInserted S.state cluster table (cached_file self.old file.old) result (cached_file self.new file.new) }
     {
         match self.l2_put(file, cluster, table) {
             Ok(None) => Ok(()),
@@ -554,20 +558,23 @@ impl<S: Storage> MetadataCaches<S> {
         }
     }
 
-    /// Puts an L2 table at its cluster, whose entry goes first. One that was there is flushed before, where it is modified, and its pins stay.
+    /// Puts an L2 table at its cluster, whose entry goes first. One that was there is flushed before, where it is modified, and its pins
+    /// stay.
     ///
-    /// Where the cache is full, the least recently used table that isn't pinned is flushed in place and its entry removed, and before a flush
-    /// the modified refcount blocks are written, where these come first. A safe image stays safe where the table is what the file has there, and neither
-    /// it nor one that was there is modified. It refuses with `Fault::Memory`; with `Fault::Storage`; with `Fault::CacheFull` where each table
-    /// of a full cache is pinned; and with `Fault::DamagedTable` where words can't name the cluster of a table or block that is to be written,
-    /// which no safe cache has. Refused, it gives the table back, and what is cached stays, but for the table that made room.
+    /// Where the cache is full, the least recently used table that isn't pinned is flushed in place and its entry removed, and before a
+    /// flush the modified refcount blocks are written, where these come first. A safe image stays safe where the table is what the file has
+    /// there, and neither it nor one that was there is modified. It refuses with `Fault::Memory`; with `Fault::Storage`; with
+    /// `Fault::CacheFull` where each table of a full cache is pinned; and with `Fault::DamagedTable` where words can't name the cluster of
+    /// a table or block that is to be written, which no safe cache has. Refused, it gives the table back, and what is cached stays, but for
+    /// the table that made room.
     pub fn l2_insert(
         &mut self,
         file: &mut ImageFile<S>,
         table: L2Table,
     ) -> Result<(), (Fault, L2Table)>
         requires placed { IsSome table.cluster }
-        ensures { IfSome table.cluster (λ cluster. TableInserted S.state table cluster self.old file.old result self.new file.new) }
+        ensures { IfSome table.cluster (λ cluster. TableInserted S.state cluster table (cached_file self.old file.old) result
+            (cached_file self.new file.new)) }
     {
         match table.get_cluster() {
             Some(cluster) => self.l2_insert_at(file, cluster, table),
@@ -594,7 +601,7 @@ impl<S: Storage> MetadataCaches<S> {
         cluster: HostCluster,
         block: RefBlock,
     ) -> Result<Option<RefBlock>, (Fault, RefBlock)>
-        ensures inserted { Inserted nat_eq (block_flushes S.state) self.old.rb.slots.cap false cluster block file.old
+        ensures inserted { Inserted (block_kind S.state self.old.rb.slots.cap) false (cluster, block) file.old
             self.old.rb.slots.entries result file.new self.new.rb.slots.entries }
         ensures others { self.new ≡ with_blocks self.old self.new.rb.slots.entries }
     {
@@ -609,7 +616,7 @@ impl<S: Storage> MetadataCaches<S> {
         block: RefBlock,
     ) -> Result<(), (Fault, RefBlock)>
         requires { lookup (nat_eq cluster) self.old.rb.slots.entries ≡ None → self.old.rb.slots.cap ≤ length self.old.rb.slots.entries }
-        ensures { BlockInserted S.state block cluster self.old file.old result self.new file.new }
+        ensures { BlockInserted S.state cluster block (cached_file self.old file.old) result (cached_file self.new file.new) }
     {
         let flushed = self.before_blocks(file);
         match flushed {
@@ -628,7 +635,7 @@ impl<S: Storage> MetadataCaches<S> {
         cluster: HostCluster,
         block: RefBlock,
     ) -> Result<(), (Fault, RefBlock)>
-        ensures { BlockInserted S.state block cluster self.old file.old result self.new file.new }
+        ensures { BlockInserted S.state cluster block (cached_file self.old file.old) result (cached_file self.new file.new) }
     {
         match self.rb_put(file, cluster, block) {
             Ok(None) => Ok(()),
@@ -637,20 +644,23 @@ impl<S: Storage> MetadataCaches<S> {
         }
     }
 
-    /// Puts a refcount block at its cluster, whose entry goes first. One that was there is flushed before, where it is modified, and its pins stay.
+    /// Puts a refcount block at its cluster, whose entry goes first. One that was there is flushed before, where it is modified, and its
+    /// pins stay.
     ///
-    /// Where the cache is full, the least recently used block that isn't pinned is flushed in place and its entry removed, and before a flush
-    /// the modified L2 tables are written, where these come first. A safe image stays safe where the block is what the file has there, and neither
-    /// it nor one that was there is modified. It refuses with `Fault::Memory`; with `Fault::Storage`; with `Fault::CacheFull` where each block
-    /// of a full cache is pinned; and with `Fault::DamagedTable` where words can't name the cluster of a table or block that is to be written,
-    /// which no safe cache has. Refused, it gives the block back, and what is cached stays, but for the block that made room.
+    /// Where the cache is full, the least recently used block that isn't pinned is flushed in place and its entry removed, and before a
+    /// flush the modified L2 tables are written, where these come first. A safe image stays safe where the block is what the file has
+    /// there, and neither it nor one that was there is modified. It refuses with `Fault::Memory`; with `Fault::Storage`; with
+    /// `Fault::CacheFull` where each block of a full cache is pinned; and with `Fault::DamagedTable` where words can't name the cluster of
+    /// a table or block that is to be written, which no safe cache has. Refused, it gives the block back, and what is cached stays, but for
+    /// the block that made room.
     pub fn rb_insert(
         &mut self,
         file: &mut ImageFile<S>,
         block: RefBlock,
     ) -> Result<(), (Fault, RefBlock)>
         requires placed { IsSome block.cluster }
-        ensures { IfSome block.cluster (λ cluster. BlockInserted S.state block cluster self.old file.old result self.new file.new) }
+        ensures { IfSome block.cluster (λ cluster. BlockInserted S.state cluster block (cached_file self.old file.old) result
+            (cached_file self.new file.new)) }
     {
         match block.get_cluster() {
             Some(cluster) => self.rb_insert_at(file, cluster, block),

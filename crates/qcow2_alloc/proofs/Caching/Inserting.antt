@@ -11,7 +11,7 @@ use Rattle.imago_storage.specs.declared.fault.Fault.TheVariants.{CacheFull}
 use Rattle.qcow2_alloc.specs.declared.async_lru_cache.Admission.{Admission}
 use Rattle.qcow2_alloc.specs.declared.async_lru_cache.Admission.TheVariants.{Granted, Denied}
 use Rattle.qcow2_alloc.specs.declared.async_lru_cache.Slot.{Slot}
-use Rattle.qcow2_alloc.specs.Cache.{FlushedAt, Evicted, MadeRoom, PutAfter, Overwritten, Inserted, hit, victim}
+use Rattle.qcow2_alloc.specs.Cache.{cache_kind, FlushedAt, Evicted, MadeRoom, PutAfter, Overwritten, Inserted, hit, victim}
 use Rattle.qcow2_alloc.specs.Finding.{IsPinnedFull, PinsNothing, with_room, CountsSearch, LetsIn}
 use Rattle.qcow2_alloc.specs.Putting.{refusal_of, PutInto, MakesWay}
 use Rattle.qcow2_alloc.proofs.Flushing.Counting.{Counted}
@@ -48,7 +48,7 @@ hit-written key es slot w p v there =
     place-hit key (set_value (nat_eq key) es w) w q v
     ∙ ap (λ l. (key, record w { value = v }) ∷ l) (sym q.removed ∙ remove_written (nat_eq key) es w ∙ p.removed)
 
-module _ {V D : Type 0} (flushes : D → ℕ → V → Result Unit Fault → D → V → Type 0) (written : ℕ × Slot V → ℕ × Slot V)
+module _ {V D : Type 0} (loads : D → ℕ → Result V Fault → D → Type 0) (flushes : D → ℕ → V → Result Unit Fault → D → V → Type 0) (written : ℕ × Slot V → ℕ × Slot V)
     (kept : (key : ℕ) (slot : Slot V) (old new : D) (result : Result Unit Fault) (value : V) → flushes old key slot.value result new value → written (key, record slot { value = value }) ≡ written (key, slot))
     (cap : ℕ) (may_flush : Bool) (key : ℕ) (value : V) (before : D) (es : List (ℕ × Slot V)) (after : D) (es' : List (ℕ × Slot V)) where
   over-list : (slot : Slot V) → lookup (nat_eq key) es ≡ Some slot → (mid : List (ℕ × Slot V)) (w : V) → mid ≡ set_value (nat_eq key) es (record slot { value = w }) → es' ≡ hit (nat_eq key) mid value → es' ≡ hit (nat_eq key) es value
@@ -57,7 +57,7 @@ module _ {V D : Type 0} (flushes : D → ℕ → V → Result Unit Fault → D �
       list ∙ ap (λ (l : List (ℕ × Slot V)). hit (nat_eq key) l value) is ∙ hit-written key es slot (record slot { value = w }) p value there ∙ sym (place-hit key es slot p value)
 
   -- What the put leaves,
-  over-put : IsSome (lookup (nat_eq key) es) → (result : Result (Option V) (Fault × V)) → Overwritten nat_eq flushes key value before es result after es' → PutInto written cap key value es (put_of result) es'
+  over-put : IsSome (lookup (nat_eq key) es) → (result : Result (Option V) (Fault × V)) → Overwritten nat_eq flushes (key, value) before es result after es' → PutInto written cap key value es (put_of result) es'
   over-put there (Ok back) (none, mid, at, list) =
       let is = over-list at.slot at.there mid at.value at.entries list in
       record {
@@ -79,28 +79,28 @@ module _ {V D : Type 0} (flushes : D → ℕ → V → Result Unit Fault → D �
   not-there : {X : Type 0} → lookup (nat_eq key) es ≡ None → IsSome (lookup (nat_eq key) es) → X
   not-there none there = absurd (let no = subst (λ (o : Option (Slot V)). IsSome o) none there in cc)
 
-  added-put : lookup (nat_eq key) es ≡ None → (room : Result Admission Fault) (entries : List (ℕ × Slot V)) → MadeRoom nat_eq flushes cap may_flush before es room after entries → (result : Result (Option V) (Fault × V)) → (IsBarred result → ⊥)
-      → PutAfter nat_eq flushes key value entries room result es' → PutInto written cap key value es (put_of result) es'
+  added-put : lookup (nat_eq key) es ≡ None → (room : Result Admission Fault) (entries : List (ℕ × Slot V)) → MadeRoom (cache_kind nat_eq loads flushes cap) may_flush before es room after entries → (result : Result (Option V) (Fault × V)) → (IsBarred result → ⊥)
+      → PutAfter (key, value) entries room result es' → PutInto written cap key value es (put_of result) es'
   added-put none (Ok Granted) entries made result not (inl put) =
-      let list = room-list (λ a k r b. ⊥) flushes cap may_flush before es after entries made in
+      let list = room-list loads flushes cap may_flush before es after entries made in
       let is = put.1 ∙ ap (λ (l : List (ℕ × Slot V)). (key, record { value = value; pins = 0 }) ∷ l) list in
       subst (λ (q : Result (Option V) (Fault × V)). PutInto written cap key value es (put_of q) es') (sym put.0) (record {
         over = not-there none;
         added = λ n. is;
         refused = tt;
-        pinned = subst (λ l. PinsNothing es l) (sym is) (pins-then es (with_room cap es) _ (pins-room (λ a k r b. ⊥) flushes cap es) (pins-new key value (with_room cap es)));
+        pinned = subst (λ l. PinsNothing es l) (sym is) (pins-then es (with_room cap es) _ (pins-room loads flushes cap es) (pins-new key value (with_room cap es)));
       })
   added-put none (Ok Granted) entries made result not (inr short) =
-      let is = short.1 ∙ room-list (λ a k r b. ⊥) flushes cap may_flush before es after entries made in
+      let is = short.1 ∙ room-list loads flushes cap may_flush before es after entries made in
       subst (λ (q : Result (Option V) (Fault × V)). PutInto written cap key value es (put_of q) es') (sym short.0) (record {
         over = not-there none;
         added = λ n. tt;
         refused = (refl, inr is);
-        pinned = subst (λ l. PinsNothing es l) (sym is) (pins-room (λ a k r b. ⊥) flushes cap es);
+        pinned = subst (λ l. PinsNothing es l) (sym is) (pins-room loads flushes cap es);
       })
   added-put none (Ok Denied) entries made result not put = absurd (not (subst (λ (q : Result (Option V) (Fault × V)). IsBarred q) (sym put.0) tt))
   added-put none (Err fault) entries made result not put =
-      let r = room-refused (λ a k r b. ⊥) flushes written kept cap may_flush before es fault after entries made in
+      let r = room-refused loads flushes written kept cap may_flush before es fault after entries made in
       subst (λ (q : Result (Option V) (Fault × V)). PutInto written cap key value es (put_of q) es') (sym put.0) (record {
         over = not-there none;
         added = λ n. tt;
@@ -108,7 +108,7 @@ module _ {V D : Type 0} (flushes : D → ℕ → V → Result Unit Fault → D �
         pinned = subst (λ l. PinsNothing es l) (sym put.1) r.1;
       })
 
-  pub inserted-put : (result : Result (Option V) (Fault × V)) → (IsBarred result → ⊥) → Inserted nat_eq flushes cap may_flush key value before es result after es' → PutInto written cap key value es (put_of result) es'
+  pub inserted-put : (result : Result (Option V) (Fault × V)) → (IsBarred result → ⊥) → Inserted (cache_kind nat_eq loads flushes cap) may_flush (key, value) before es result after es' → PutInto written cap key value es (put_of result) es'
   inserted-put result not i = elim (is-there (lookup (nat_eq key) es)) [
     | inr none ↦ let a = i.fresh none in added-put none a.room a.entries a.made result not a.put
     | inl there ↦ elim (cases_Bool may_flush) [
@@ -118,27 +118,27 @@ module _ {V D : Type 0} (flushes : D → ℕ → V → Result Unit Fault → D �
   ]
 
 -- and why it is refused.
-module _ {V D : Type 0} (state : D → StorageState) (flushes : D → ℕ → V → Result Unit Fault → D → V → Type 0) (Reach : ℕ → V → Type 0)
+module _ {V D : Type 0} (state : D → StorageState) (loads : D → ℕ → Result V Fault → D → Type 0) (flushes : D → ℕ → V → Result Unit Fault → D → V → Type 0) (Reach : ℕ → V → Type 0)
     (step : (old : D) (key : ℕ) (value : V) (result : Result Unit Fault) (new : D) (value' : V) → flushes old key value result new value' → Counted (Reach key value) (state old) (state new) result)
     (cap : ℕ) (may_flush : Bool) (key : ℕ) (value : V) (before : D) (es : List (ℕ × Slot V)) (after : D) (es' : List (ℕ × Slot V)) where
   abbrev Counts : Result (Option V) (Fault × V) → Type 0
   Counts result = CountsSearch (AllByRecursion (λ (e : ℕ × Slot V). Reach e.0 e.1.value) es) (IsPinnedFull cap es) (state before).faults (state after).faults (refusal_of (put_of result))
 
-  over-counted : (result : Result (Option V) (Fault × V)) → Overwritten nat_eq flushes key value before es result after es' → Counts result
+  over-counted : (result : Result (Option V) (Fault × V)) → Overwritten nat_eq flushes (key, value) before es result after es' → Counts result
   over-counted (Ok back) (none, mid, at, list) = (step before key at.slot.value (Ok tt) after at.value at.flush).counts
   over-counted (Err refused) (back, at) =
       found-written (Reach key at.slot.value) _ _ _ _ refused.0 (λ all. all-at (λ (e : ℕ × Slot V). Reach e.0 e.1.value) key es at.slot at.there all) (step before key at.slot.value (Err refused.0) after at.value at.flush).counts
 
   added-counted : (room : Result Admission Fault) (entries : List (ℕ × Slot V)) → CountsSearch (AllByRecursion (λ (e : ℕ × Slot V). Reach e.0 e.1.value) es) (IsPinnedFull cap es) (state before).faults (state after).faults (done_of room)
-      → (result : Result (Option V) (Fault × V)) → PutAfter nat_eq flushes key value entries room result es' → Counts result
+      → (result : Result (Option V) (Fault × V)) → PutAfter (key, value) entries room result es' → Counts result
   added-counted (Ok Granted) entries same result (inl put) = subst (λ (q : Result (Option V) (Fault × V)). Counts q) (sym put.0) same
   added-counted (Ok Granted) entries same result (inr short) = subst (λ (q : Result (Option V) (Fault × V)). Counts q) (sym short.0) tt
   added-counted (Ok Denied) entries same result put = subst (λ (q : Result (Option V) (Fault × V)). Counts q) (sym put.0) same
   added-counted (Err fault) entries why result put = subst (λ (q : Result (Option V) (Fault × V)). Counts q) (sym put.0) why
 
-  pub inserted-counted : (result : Result (Option V) (Fault × V)) → Inserted nat_eq flushes cap may_flush key value before es result after es' → Counts result
+  pub inserted-counted : (result : Result (Option V) (Fault × V)) → Inserted (cache_kind nat_eq loads flushes cap) may_flush (key, value) before es result after es' → Counts result
   inserted-counted result i = elim (is-there (lookup (nat_eq key) es)) [
-    | inr none ↦ let a = i.fresh none in added-counted a.room a.entries (room-counted state (λ a k r b. ⊥) flushes Reach step cap may_flush before es a.room after a.entries a.made).1 result a.put
+    | inr none ↦ let a = i.fresh none in added-counted a.room a.entries (room-counted state loads flushes Reach step cap may_flush before es a.room after a.entries a.made).1 result a.put
     | inl there ↦ elim (cases_Bool may_flush) [
       | inl may ↦ over-counted result (i.over there may)
       | inr off ↦
@@ -148,8 +148,8 @@ module _ {V D : Type 0} (state : D → StorageState) (flushes : D → ℕ → V 
   ]
 
 -- With leave to flush it is never given back without a fault.
-module _ {V D : Type 0} (flushes : D → ℕ → V → Result Unit Fault → D → V → Type 0) (cap key : ℕ) (value : V) (before : D) (es : List (ℕ × Slot V)) (after : D) (es' : List (ℕ × Slot V)) where
-  room-not-denied : (entries : List (ℕ × Slot V)) → MadeRoom nat_eq flushes cap true before es (Ok Denied) after entries → ⊥
+module _ {V D : Type 0} (loads : D → ℕ → Result V Fault → D → Type 0) (flushes : D → ℕ → V → Result Unit Fault → D → V → Type 0) (cap key : ℕ) (value : V) (before : D) (es : List (ℕ × Slot V)) (after : D) (es' : List (ℕ × Slot V)) where
+  room-not-denied : (entries : List (ℕ × Slot V)) → MadeRoom (cache_kind nat_eq loads flushes cap) true before es (Ok Denied) after entries → ⊥
   room-not-denied entries made = elim (cases_lt (length es) cap) [
     | inl roomy ↦ let is = (made.roomy roomy).0 in cc
     | inr full ↦ by-victim (victim es) refl full
@@ -159,25 +159,25 @@ module _ {V D : Type 0} (flushes : D → ℕ → V → Result Unit Fault → D �
       by-victim None is full = let no = (made.pinned full refl is).0 in cc
       by-victim (Some k) is full = let no = (made.evicted full refl k is).0 in cc
 
-  put-not-barred : (room : Result Admission Fault) (entries : List (ℕ × Slot V)) → MadeRoom nat_eq flushes cap true before es room after entries → (result : Result (Option V) (Fault × V)) → PutAfter nat_eq flushes key value entries room result es' → IsBarred result → ⊥
+  put-not-barred : (room : Result Admission Fault) (entries : List (ℕ × Slot V)) → MadeRoom (cache_kind nat_eq loads flushes cap) true before es room after entries → (result : Result (Option V) (Fault × V)) → PutAfter (key, value) entries room result es' → IsBarred result → ⊥
   put-not-barred (Ok Granted) entries made result (inl now) barred = subst (λ (q : Result (Option V) (Fault × V)). IsBarred q) now.0 barred
   put-not-barred (Ok Granted) entries made result (inr short) barred = subst (λ (q : Result (Option V) (Fault × V)). IsBarred q) short.0 barred
   put-not-barred (Ok Denied) entries made result put barred = room-not-denied entries made
   put-not-barred (Err fault) entries made result put barred = subst (λ (q : Result (Option V) (Fault × V)). IsBarred q) put.0 barred
 
-  over-not-barred : (result : Result (Option V) (Fault × V)) → Overwritten nat_eq flushes key value before es result after es' → IsBarred result → ⊥
+  over-not-barred : (result : Result (Option V) (Fault × V)) → Overwritten nat_eq flushes (key, value) before es result after es' → IsBarred result → ⊥
   over-not-barred (Ok None) over barred = barred
   over-not-barred (Ok (Some back)) over barred = let no = over.0 in cc
   over-not-barred (Err refused) over barred = barred
 
-  pub never-barred : (result : Result (Option V) (Fault × V)) → Inserted nat_eq flushes cap true key value before es result after es' → IsBarred result → ⊥
+  pub never-barred : (result : Result (Option V) (Fault × V)) → Inserted (cache_kind nat_eq loads flushes cap) true (key, value) before es result after es' → IsBarred result → ⊥
   never-barred result i barred = elim (is-there (lookup (nat_eq key) es)) [
     | inr none ↦ let a = i.fresh none in put-not-barred a.room a.entries a.made result a.put barred
     | inl there ↦ over-not-barred result (i.over there refl) barred
   ]
 
 -- What each flush keeps is kept.
-module _ {V D : Type 0} (flushes : D → ℕ → V → Result Unit Fault → D → V → Type 0) (R : D → D → Type 0) (R-refl : (a : D) → R a a)
+module _ {V D : Type 0} (loads : D → ℕ → Result V Fault → D → Type 0) (flushes : D → ℕ → V → Result Unit Fault → D → V → Type 0) (R : D → D → Type 0) (R-refl : (a : D) → R a a)
     (flushing : (old new : D) (key : ℕ) (value value' : V) (answer : Result Unit Fault) → flushes old key value answer new value' → R old new)
     (cap : ℕ) (may_flush : Bool) (key : ℕ) (value : V) (before : D) (es : List (ℕ × Slot V)) (after : D) (es' : List (ℕ × Slot V)) where
   unmoved : after ≡ before → R before after
@@ -187,7 +187,7 @@ module _ {V D : Type 0} (flushes : D → ℕ → V → Result Unit Fault → D �
   evicted-related k (Ok made) entries (is, between, at, removed) = flushing before after k at.slot.value at.value (Ok tt) at.flush
   evicted-related k (Err fault) entries at = flushing before after k at.slot.value at.value (Err fault) at.flush
 
-  room-moved : (room : Result Admission Fault) (entries : List (ℕ × Slot V)) → MadeRoom nat_eq flushes cap may_flush before es room after entries → R before after
+  room-moved : (room : Result Admission Fault) (entries : List (ℕ × Slot V)) → MadeRoom (cache_kind nat_eq loads flushes cap) may_flush before es room after entries → R before after
   room-moved room entries made = elim (cases_lt (length es) cap) [
     | inl roomy ↦ unmoved (made.roomy roomy).1
     | inr full ↦ elim (cases_Bool may_flush) [
@@ -200,11 +200,11 @@ module _ {V D : Type 0} (flushes : D → ℕ → V → Result Unit Fault → D �
       by-victim None is full may = unmoved (made.pinned full may is).1
       by-victim (Some k) is full may = evicted-related k room entries (made.evicted full may k is)
 
-  over-moved : (result : Result (Option V) (Fault × V)) → Overwritten nat_eq flushes key value before es result after es' → R before after
+  over-moved : (result : Result (Option V) (Fault × V)) → Overwritten nat_eq flushes (key, value) before es result after es' → R before after
   over-moved (Ok back) (none, mid, at, list) = flushing before after key at.slot.value at.value (Ok tt) at.flush
   over-moved (Err refused) (back, at) = flushing before after key at.slot.value at.value (Err refused.0) at.flush
 
-  pub inserted-related : (result : Result (Option V) (Fault × V)) → Inserted nat_eq flushes cap may_flush key value before es result after es' → R before after
+  pub inserted-related : (result : Result (Option V) (Fault × V)) → Inserted (cache_kind nat_eq loads flushes cap) may_flush (key, value) before es result after es' → R before after
   inserted-related result i = elim (is-there (lookup (nat_eq key) es)) [
     | inr none ↦ let a = i.fresh none in room-moved a.room a.entries a.made
     | inl there ↦ elim (cases_Bool may_flush) [
@@ -214,7 +214,7 @@ module _ {V D : Type 0} (flushes : D → ℕ → V → Result Unit Fault → D �
   ]
 
 -- What makes way for a value was flushed;
-module _ {V D : Type 0} (flushes : D → ℕ → V → Result Unit Fault → D → V → Type 0) (cap key : ℕ) (value : V) (before : D) (es : List (ℕ × Slot V)) (after : D) (es' : List (ℕ × Slot V)) where
+module _ {V D : Type 0} (loads : D → ℕ → Result V Fault → D → Type 0) (flushes : D → ℕ → V → Result Unit Fault → D → V → Type 0) (cap key : ℕ) (value : V) (before : D) (es : List (ℕ × Slot V)) (after : D) (es' : List (ℕ × Slot V)) where
   abbrev pub Flushes : ℕ → Slot V → Type 0
   Flushes k slot = (left : V) × flushes before k slot.value (Ok tt) after left
 
@@ -223,7 +223,7 @@ module _ {V D : Type 0} (flushes : D → ℕ → V → Result Unit Fault → D �
       let same : at.slot ≡ slot = (let e = sym at.there ∙ there in cc) in
       (at.value, subst (λ (s : Slot V). flushes before k s.value (Ok tt) after at.value) same at.flush)
 
-  over-flushed : (slot : Slot V) → lookup (nat_eq key) es ≡ Some slot → (result : Result (Option V) (Fault × V)) → Overwritten nat_eq flushes key value before es result after es' → OnOk (put_of result) (Flushes key slot)
+  over-flushed : (slot : Slot V) → lookup (nat_eq key) es ≡ Some slot → (result : Result (Option V) (Fault × V)) → Overwritten nat_eq flushes (key, value) before es result after es' → OnOk (put_of result) (Flushes key slot)
   over-flushed slot there (Ok back) (none, mid, at, list) = at-flushed key slot there mid at
   over-flushed slot there (Err refused) over = tt
 
@@ -231,27 +231,27 @@ module _ {V D : Type 0} (flushes : D → ℕ → V → Result Unit Fault → D �
   where-ok (Ok back) x = x
   where-ok (Err refused) x = tt
 
-  room-flushed : (k : ℕ) (slot : Slot V) → lookup (nat_eq k) es ≡ Some slot → cap ≤ length es → victim es ≡ Some k → (room : Result Admission Fault) (entries : List (ℕ × Slot V)) → MadeRoom nat_eq flushes cap true before es room after entries
-      → (result : Result (Option V) (Fault × V)) → PutAfter nat_eq flushes key value entries room result es' → OnOk (put_of result) (Flushes k slot)
+  room-flushed : (k : ℕ) (slot : Slot V) → lookup (nat_eq k) es ≡ Some slot → cap ≤ length es → victim es ≡ Some k → (room : Result Admission Fault) (entries : List (ℕ × Slot V)) → MadeRoom (cache_kind nat_eq loads flushes cap) true before es room after entries
+      → (result : Result (Option V) (Fault × V)) → PutAfter (key, value) entries room result es' → OnOk (put_of result) (Flushes k slot)
   room-flushed k slot there full is (Ok done) entries made result put =
       let e = made.evicted full refl k is in
       where-ok result (at-flushed k slot there e.1 e.2)
   room-flushed k slot there full is (Err fault) entries made result put = subst (λ (q : Result (Option V) (Fault × V)). OnOk (put_of q) (Flushes k slot)) (sym put.0) tt
 
-  pub way-flushed : (result : Result (Option V) (Fault × V)) → Inserted nat_eq flushes cap true key value before es result after es' → (k : ℕ) (slot : Slot V) → MakesWay cap key es k → lookup (nat_eq k) es ≡ Some slot → OnOk (put_of result) (Flushes k slot)
+  pub way-flushed : (result : Result (Option V) (Fault × V)) → Inserted (cache_kind nat_eq loads flushes cap) true (key, value) before es result after es' → (k : ℕ) (slot : Slot V) → MakesWay cap key es k → lookup (nat_eq k) es ≡ Some slot → OnOk (put_of result) (Flushes k slot)
   way-flushed result i k slot (inl same) there =
       let here = subst (λ (n : ℕ). lookup (nat_eq n) es ≡ Some slot) same there in
       subst (λ (n : ℕ). OnOk (put_of result) (Flushes n slot)) (sym same) (over-flushed slot here result (i.over (subst (λ (o : Option (Slot V)). IsSome o) (sym here) refl) refl))
   way-flushed result i k slot (inr (none, full, is)) there = let a = i.fresh none in room-flushed k slot there full is a.room a.entries a.made result a.put
 
   -- without leave to flush nothing makes way.
-  pub way-barred : (result : Result (Option V) (Fault × V)) → (IsBarred result → ⊥) → Inserted nat_eq flushes cap false key value before es result after es' → (k : ℕ) (slot : Slot V) → MakesWay cap key es k → lookup (nat_eq k) es ≡ Some slot → ⊥
+  pub way-barred : (result : Result (Option V) (Fault × V)) → (IsBarred result → ⊥) → Inserted (cache_kind nat_eq loads flushes cap) false (key, value) before es result after es' → (k : ℕ) (slot : Slot V) → MakesWay cap key es k → lookup (nat_eq k) es ≡ Some slot → ⊥
   way-barred result not i k slot (inl same) there =
       let here = subst (λ (n : ℕ). lookup (nat_eq n) es ≡ Some slot) same there in
       not (subst (λ (q : Result (Option V) (Fault × V)). IsBarred q) (sym (i.barred (subst (λ (o : Option (Slot V)). IsSome o) (sym here) refl) refl).0) tt)
   way-barred result not i k slot (inr (none, full, is)) there =
       let a = i.fresh none in
-      let barred = subst (λ (q : Result Admission Fault). PutAfter nat_eq flushes key value a.entries q result es') (a.made.full full refl).0 a.put in
+      let barred = subst (λ (q : Result Admission Fault). PutAfter (key, value) a.entries q result es') (a.made.full full refl).0 a.put in
       not (subst (λ (q : Result (Option V) (Fault × V)). IsBarred q) (sym barred.0) tt)
 
 pub put-then : {V X Y : Type 0} (result : Result (Option V) (Fault × V)) → (X → Y) → OnOk (put_of result) X → OnOk (put_of result) Y
@@ -259,25 +259,25 @@ put-then (Ok back) f x = f x
 put-then (Err refused) f x = tt
 
 -- Into a full cache it comes where the entry that goes was flushed;
-module _ {V D : Type 0} (state : D → StorageState) (flushes : D → ℕ → V → Result Unit Fault → D → V → Type 0) (asks : StorageState → ℕ → V → Result Unit Fault → StorageState → V → Type 0)
+module _ {V D : Type 0} (state : D → StorageState) (loads : D → ℕ → Result V Fault → D → Type 0) (flushes : D → ℕ → V → Result Unit Fault → D → V → Type 0) (asks : StorageState → ℕ → V → Result Unit Fault → StorageState → V → Type 0)
     (asked : (old new : D) (key : ℕ) (value value' : V) (answer : Result Unit Fault) → flushes old key value answer new value' → asks (state old) key value answer (state new) value')
     (cap key : ℕ) (value : V) (before : D) (es : List (ℕ × Slot V)) (after : D) (es' : List (ℕ × Slot V)) (none : lookup (nat_eq key) es ≡ None) (full : cap ≤ length es) where
   abbrev Refused : Result (Option V) (Fault × V) → Result Unit Fault
   Refused result = refusal_of (put_of result)
 
-  room-lets-in : (room : Result Admission Fault) (entries : List (ℕ × Slot V)) → MadeRoom nat_eq flushes cap true before es room after entries → (result : Result (Option V) (Fault × V)) → PutAfter nat_eq flushes key value entries room result es'
+  room-lets-in : (room : Result Admission Fault) (entries : List (ℕ × Slot V)) → MadeRoom (cache_kind nat_eq loads flushes cap) true before es room after entries → (result : Result (Option V) (Fault × V)) → PutAfter (key, value) entries room result es'
       → LetsIn asks (state before) es (Refused result) (state after) es'
   room-lets-in room entries made result put = record {
     stuck = λ no. no-room room (made.pinned full refl no) put;
     goes = λ k is. by-room k room (made.evicted full refl k is) put;
   }
     where
-      no-room : (room : Result Admission Fault) → (room ≡ Err CacheFull) × (after ≡ before) × (entries ≡ es) → PutAfter nat_eq flushes key value entries room result es' → (Refused result ≡ Err CacheFull) × (state after ≡ state before) × (es' ≡ es)
+      no-room : (room : Result Admission Fault) → (room ≡ Err CacheFull) × (after ≡ before) × (entries ≡ es) → PutAfter (key, value) entries room result es' → (Refused result ≡ Err CacheFull) × (state after ≡ state before) × (es' ≡ es)
       no-room room (is, same, list) put =
-          let p : (result ≡ Err (CacheFull, value)) × (es' ≡ entries) = subst (λ (q : Result Admission Fault). PutAfter nat_eq flushes key value entries q result es') is put in
+          let p : (result ≡ Err (CacheFull, value)) × (es' ≡ entries) = subst (λ (q : Result Admission Fault). PutAfter (key, value) entries q result es') is put in
           (ap Refused p.0, ap state same, p.1 ∙ list)
 
-      by-room : (k : ℕ) (room : Result Admission Fault) → Evicted nat_eq flushes k before es room after entries → PutAfter nat_eq flushes key value entries room result es'
+      by-room : (k : ℕ) (room : Result Admission Fault) → Evicted nat_eq flushes k before es room after entries → PutAfter (key, value) entries room result es'
           → (mid : StorageState) × (answer : Result Unit Fault) × (flushed : List (ℕ × Slot V)) × FlushedAt nat_eq asks k (state before) es answer mid flushed
           × MatchResult answer (λ _. Kept mid (state after)) (λ fault. (Refused result ≡ Err fault) × (state after ≡ mid) × (es' ≡ flushed))
       by-room k (Ok made) (is, flushed, at, removed) put =
@@ -285,40 +285,40 @@ module _ {V D : Type 0} (state : D → StorageState) (flushes : D → ℕ → V 
       by-room k (Err fault) at put =
           (state after, Err fault, entries, record { slot = at.slot; value = at.value; there = at.there; flush = asked before after k at.slot.value at.value (Err fault) at.flush; entries = at.entries }, (ap Refused put.0, refl, put.1))
 
-  pub inserted-lets-in : (result : Result (Option V) (Fault × V)) → Inserted nat_eq flushes cap true key value before es result after es' → LetsIn asks (state before) es (Refused result) (state after) es'
+  pub inserted-lets-in : (result : Result (Option V) (Fault × V)) → Inserted (cache_kind nat_eq loads flushes cap) true (key, value) before es result after es' → LetsIn asks (state before) es (Refused result) (state after) es'
   inserted-lets-in result i = let a = i.fresh none in room-lets-in a.room a.entries a.made result a.put
 
   -- without leave to flush it comes back.
-  pub inserted-barred : (result : Result (Option V) (Fault × V)) → (IsBarred result → ⊥) → Inserted nat_eq flushes cap false key value before es result after es' → ⊥
+  pub inserted-barred : (result : Result (Option V) (Fault × V)) → (IsBarred result → ⊥) → Inserted (cache_kind nat_eq loads flushes cap) false (key, value) before es result after es' → ⊥
   inserted-barred result not i =
       let a = i.fresh none in
-      let barred : (result ≡ Ok (Some value)) × (es' ≡ a.entries) = subst (λ (q : Result Admission Fault). PutAfter nat_eq flushes key value a.entries q result es') (a.made.full full refl).0 a.put in
+      let barred : (result ≡ Ok (Some value)) × (es' ≡ a.entries) = subst (λ (q : Result Admission Fault). PutAfter (key, value) a.entries q result es') (a.made.full full refl).0 a.put in
       not (subst (λ (q : Result (Option V) (Fault × V)). IsBarred q) (sym barred.0) tt)
 
 -- It is put where nothing has to be written before.
-module _ {V D : Type 0} (flushes : D → ℕ → V → Result Unit Fault → D → V → Type 0) (cap key : ℕ) (value : V) (before : D) (es : List (ℕ × Slot V)) (after : D) (es' : List (ℕ × Slot V)) where
+module _ {V D : Type 0} (loads : D → ℕ → Result V Fault → D → Type 0) (flushes : D → ℕ → V → Result Unit Fault → D → V → Type 0) (cap key : ℕ) (value : V) (before : D) (es : List (ℕ × Slot V)) (after : D) (es' : List (ℕ × Slot V)) where
   -- what a put without leave to flush does
   pub record IsQuiet (result : Result (Option V) (Fault × V)) : Type 0 where
     pub file : after ≡ before
     pub absent : lookup (nat_eq key) es ≡ None
     pub way : (es' ≡ es) ⊎ ((es' ≡ (key, record { value = value; pins = 0 }) ∷ es) × (result ≡ Ok None))
 
-  quiet-put : lookup (nat_eq key) es ≡ None → (room : Result Admission Fault) (entries : List (ℕ × Slot V)) → MadeRoom nat_eq flushes cap false before es room after entries → (result : Result (Option V) (Fault × V)) → (IsBarred result → ⊥)
-      → PutAfter nat_eq flushes key value entries room result es' → IsQuiet result
+  quiet-put : lookup (nat_eq key) es ≡ None → (room : Result Admission Fault) (entries : List (ℕ × Slot V)) → MadeRoom (cache_kind nat_eq loads flushes cap) false before es room after entries → (result : Result (Option V) (Fault × V)) → (IsBarred result → ⊥)
+      → PutAfter (key, value) entries room result es' → IsQuiet result
   quiet-put none room entries made result not later = elim (cases_lt (length es) cap) [
     | inl roomy ↦
         let r = made.roomy roomy in
-        elim (subst (λ (q : Result Admission Fault). PutAfter nat_eq flushes key value entries q result es') r.0 later) [
+        elim (subst (λ (q : Result Admission Fault). PutAfter (key, value) entries q result es') r.0 later) [
           | inl now ↦ record { file = r.1; absent = none; way = inr (now.1 ∙ ap (λ (l : List (ℕ × Slot V)). (key, record { value = value; pins = 0 }) ∷ l) r.2, now.0) }
           | inr short ↦ record { file = r.1; absent = none; way = inl (short.1 ∙ r.2) }
         ]
     | inr full ↦
         let r = made.full full refl in
-        let barred = subst (λ (q : Result Admission Fault). PutAfter nat_eq flushes key value entries q result es') r.0 later in
+        let barred = subst (λ (q : Result Admission Fault). PutAfter (key, value) entries q result es') r.0 later in
         absurd (not (subst (λ (q : Result (Option V) (Fault × V)). IsBarred q) (sym barred.0) tt))
   ]
 
-  pub quiet : (result : Result (Option V) (Fault × V)) → (IsBarred result → ⊥) → Inserted nat_eq flushes cap false key value before es result after es' → IsQuiet result
+  pub quiet : (result : Result (Option V) (Fault × V)) → (IsBarred result → ⊥) → Inserted (cache_kind nat_eq loads flushes cap) false (key, value) before es result after es' → IsQuiet result
   quiet result not i = elim (is-there (lookup (nat_eq key) es)) [
     | inr none ↦ let added = i.fresh none in quiet-put none added.room added.entries added.made result not added.put
     | inl there ↦ absurd (not (subst (λ (q : Result (Option V) (Fault × V)). IsBarred q) (sym (i.barred there refl).0) tt))
@@ -331,7 +331,7 @@ module _ {V D : Type 0} (flushes : D → ℕ → V → Result Unit Fault → D �
     pub entries : es' ≡ es
     pub full : lookup (nat_eq key) es ≡ None → cap ≤ length es
 
-  pub put-back : (back : V) → Inserted nat_eq flushes cap false key value before es (Ok (Some back)) after es' → IsBack back
+  pub put-back : (back : V) → Inserted (cache_kind nat_eq loads flushes cap) false (key, value) before es (Ok (Some back)) after es' → IsBack back
   put-back back i = elim (is-there (lookup (nat_eq key) es)) [
     | inl there ↦
         let b = i.barred there refl in
@@ -339,13 +339,13 @@ module _ {V D : Type 0} (flushes : D → ℕ → V → Result Unit Fault → D �
     | inr none ↦ let added = i.fresh none in elim (cases_lt (length es) cap) [
       | inl roomy ↦
           let r = added.made.roomy roomy in
-          absurd (elim (subst (λ (q : Result Admission Fault). PutAfter nat_eq flushes key value added.entries q (Ok (Some back)) es') r.0 added.put) [
+          absurd (elim (subst (λ (q : Result Admission Fault). PutAfter (key, value) added.entries q (Ok (Some back)) es') r.0 added.put) [
             | inl now ↦ let no = now.0 in cc
             | inr short ↦ let no = short.0 in cc
           ])
       | inr full ↦
           let r = added.made.full full refl in
-          let barred = subst (λ (q : Result Admission Fault). PutAfter nat_eq flushes key value added.entries q (Ok (Some back)) es') r.0 added.put in
+          let barred = subst (λ (q : Result Admission Fault). PutAfter (key, value) added.entries q (Ok (Some back)) es') r.0 added.put in
           record { same = (let e = barred.0 in cc); file = r.1; entries = barred.1 ∙ r.2; full = λ none. full }
     ]
   ]

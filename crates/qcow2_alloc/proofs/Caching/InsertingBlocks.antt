@@ -18,8 +18,8 @@ use Rattle.qcow2_alloc.specs.declared.cache.MetadataCaches.{MetadataCaches}
 use Rattle.qcow2_alloc.specs.declared.file.ImageFile.{ImageFile}
 use Rattle.qcow2_alloc.specs.Backends.{BlockFlushed}
 use Rattle.qcow2_alloc.specs.Cache.{Inserted, with_entries}
-use Rattle.qcow2_alloc.specs.Caches.{cached_in, order_of}
-use Rattle.qcow2_alloc.specs.CachesLending.{with_blocks, block_flushes}
+use Rattle.qcow2_alloc.specs.Caches.{cached_file, cached_in, order_of}
+use Rattle.qcow2_alloc.specs.CachesLending.{with_blocks, block_loads, block_flushes, block_kind}
 use Rattle.qcow2_alloc.specs.Finding.{IsPinnedFull, CountsSearch, LetsBlockIn}
 use Rattle.qcow2_alloc.specs.Putting.{refusal_of, IsNewBlock, BlockInserted}
 use Rattle.qcow2_alloc.specs.Going.{Going, Always, ReadyBlocks, WasNotCutOff, IsMild, AreTablesInReach, CountsWrites, WritesTables}
@@ -73,7 +73,7 @@ module _ (H : Header) (order : CacheDependency) (tables : List (ℕ × Slot Tabl
 
 module _ {S : Type 0} (state : S → StorageState) (cluster : ℕ) (block : Block) where
   abbrev Put : Bool → ℕ → ImageFile S → List (ℕ × Slot Block) → Result (Option Block) (Fault × Block) → ImageFile S → List (ℕ × Slot Block) → Type 0
-  Put may_flush cap before es result after es' = Inserted nat_eq (block_flushes state) cap may_flush cluster block before es result after es'
+  Put may_flush cap before es result after es' = Inserted (block_kind state cap) may_flush (cluster, block) before es result after es'
 
   block-kept-by : (key : ℕ) (slot : Slot Block) (old new : ImageFile S) (answer : Result Unit Fault) (value : Block) → block_flushes state old key slot.value answer new value → written_block (key, record slot { value = value }) ≡ written_block (key, slot)
   block-kept-by key slot old new answer value flush = block-kept key slot (state old.image) answer (state new.image) value flush.1
@@ -83,7 +83,7 @@ module _ {S : Type 0} (state : S → StorageState) (cluster : ℕ) (block : Bloc
       → CountsSearch (other × AllByRecursion (λ (e : ℕ × Slot Block). e.1.value.modified ≡ true → IsInReach e.1.value.cluster_bits e.0) es) (IsPinnedFull cap es) faults (state after.image).faults (refusal_of (put_of result))
   block-put-counts may_flush cap before es result after es' faults is other i =
       counts-wider _ _ _ _ faults _ (refusal_of (put_of result)) (λ f. f.1) is
-      (inserted-counted (λ (d : ImageFile S). state d.image) (block_flushes state) (λ key t. t.modified ≡ true → IsInReach t.cluster_bits key)
+      (inserted-counted (λ (d : ImageFile S). state d.image) (block_loads state) (block_flushes state) (λ key t. t.modified ≡ true → IsInReach t.cluster_bits key)
       (λ old key value answer new value' flush. block-counted key value (state old.image) (state new.image) answer value' flush.1) cap may_flush cluster block before es after es' result i)
 
   -- What is new fits behind calls that keep the image.
@@ -95,23 +95,23 @@ module _ {S : Type 0} (state : S → StorageState) (cluster : ℕ) (block : Bloc
 
   -- What is put without leave to flush
   module _ (old new : MetadataCaches S) (before after : ImageFile S) (same : new ≡ with_blocks old new.rb.slots.entries) where
-    pub block-put-now : (result : Result (Option Block) (Fault × Block)) → (IsBarred result → ⊥) → Put false old.rb.slots.cap before old.rb.slots.entries result after new.rb.slots.entries → BlockInserted state block cluster old before (put_of result) new after
-    block-put-now result not i = subst (λ (m : MetadataCaches S). BlockInserted state block cluster old before (put_of result) m after) (sym same) (now new.rb.slots.entries i)
+    pub block-put-now : (result : Result (Option Block) (Fault × Block)) → (IsBarred result → ⊥) → Put false old.rb.slots.cap before old.rb.slots.entries result after new.rb.slots.entries → BlockInserted state cluster block (cached_file old before) (put_of result) (cached_file new after)
+    block-put-now result not i = subst (λ (m : MetadataCaches S). BlockInserted state cluster block (cached_file old before) (put_of result) (cached_file m after)) (sym same) (now new.rb.slots.entries i)
       where
-        now : (es' : List (ℕ × Slot Block)) → Put false old.rb.slots.cap before old.rb.slots.entries result after es' → BlockInserted state block cluster old before (put_of result) (with_blocks old es') after
+        now : (es' : List (ℕ × Slot Block)) → Put false old.rb.slots.cap before old.rb.slots.entries result after es' → BlockInserted state cluster block (cached_file old before) (put_of result) (cached_file (with_blocks old es') after)
         now es' i =
-            let q = quiet (block_flushes state) old.rb.slots.cap cluster block before old.rb.slots.entries after es' result not i in
+            let q = quiet (block_loads state) (block_flushes state) old.rb.slots.cap cluster block before old.rb.slots.entries after es' result not i in
             let kept : Kept (state before.image) (state after.image) = subst (λ (d : ImageFile S). Kept (state before.image) (state d.image)) (sym q.file) (kept-same (state before.image)) in
             record {
               going = subst (λ (d : ImageFile S). Going before.header (order_of old) (λ _. IsNewBlock (bytes_of (state before.image).bytes) before.header.fields cluster block old.rb.slots.entries) (WasNotCutOff (refusal_of (put_of result))) (state before.image) (cached_in old) (state d.image) (record { blocks = es'; tables = old.l2.slots.entries })) (sym q.file)
                   (put-quietly (new_block before.header (order_of old) old.l2.slots.entries cluster block state) (state before.image) (cached_in old) _ (fresh-stays old before)
                   (WasNotCutOff (refusal_of (put_of result))) (state before.image) old.rb.slots.entries es' _ (going-none before.header (order_of old) Always (WasNotCutOff (refusal_of (put_of result))) (state before.image) (cached_in old)) q.absent q.way);
-              put = inserted-put (block_flushes state) written_block block-kept-by old.rb.slots.cap false cluster block before old.rb.slots.entries after es' result not i;
-              flushed = λ k slot way there. absurd (way-barred (block_flushes state) old.rb.slots.cap cluster block before old.rb.slots.entries after es' result not i k slot way there);
+              put = inserted-put (block_loads state) (block_flushes state) written_block block-kept-by old.rb.slots.cap false cluster block before old.rb.slots.entries after es' result not i;
+              flushed = λ k slot way there. absurd (way-barred (block_loads state) (block_flushes state) old.rb.slots.cap cluster block before old.rb.slots.entries after es' result not i k slot way there);
               roomy = λ none room. (kept, refl);
               tables = refl;
               apart = λ no. refl;
-              behind = λ none full. absurd (inserted-barred (λ (d : ImageFile S). state d.image) (block_flushes state) (λ a key block answer b block'. BlockFlushed key block a answer b block') (λ a b key block block' answer flush. flush.1)
+              behind = λ none full. absurd (inserted-barred (λ (d : ImageFile S). state d.image) (block_loads state) (block_flushes state) (λ a key block answer b block'. BlockFlushed key block a answer b block') (λ a b key block block' answer flush. flush.1)
                   old.rb.slots.cap cluster block before old.rb.slots.entries after es' none full result not i);
               others = (refl, ap (λ (d : ImageFile S). d.header) q.file);
               room = record { blocks = refl; tables = refl };
@@ -126,7 +126,7 @@ module _ {S : Type 0} (state : S → StorageState) (cluster : ℕ) (block : Bloc
 
     pub block-back : (value : Block) → Put false old.rb.slots.cap before old.rb.slots.entries (Ok (Some value)) after new.rb.slots.entries → IsUnchanged × (value ≡ block)
     block-back value i =
-        let back = put-back (block_flushes state) old.rb.slots.cap cluster block before old.rb.slots.entries after new.rb.slots.entries value i in
+        let back = put-back (block_loads state) (block_flushes state) old.rb.slots.cap cluster block before old.rb.slots.entries after new.rb.slots.entries value i in
         let cap : new.rb.slots.cap ≡ old.rb.slots.cap = ap (λ (m : MetadataCaches S). m.rb.slots.cap) same in
         let long = ap (λ (l : List (ℕ × Slot Block)). length l) back.entries in (
           record {
@@ -153,7 +153,7 @@ module _ {S : Type 0} (state : S → StorageState) (cluster : ℕ) (block : Bloc
 
     block-put-full : IsBehind → Going before.header (order_of old) Always (done_so ≡ Ok tt) (state before.image) (cached_in old) (state between.image) (cached_in mid) → ReadyBlocks (order_of old) (cached_in mid) → (state between.image).faults ≡ (state before.image).faults
         → (result : Result (Option Block) (Fault × Block)) (after : ImageFile S) (es' : List (ℕ × Slot Block)) → (IsBarred result → ⊥) → after.header ≡ between.header
-        → Put true old.rb.slots.cap between old.rb.slots.entries result after es' → BlockInserted state block cluster old before (put_of result) (record old { rb = with_entries old.rb es'; l2 = mid.l2 }) after
+        → Put true old.rb.slots.cap between old.rb.slots.entries result after es' → BlockInserted state cluster block (cached_file old before) (put_of result) (cached_file (record old { rb = with_entries old.rb es'; l2 = mid.l2 }) after)
     block-put-full behind going ready faults result after es' not header' i =
         let now : cached_in mid ≡ record { blocks = old.rb.slots.entries; tables = mid.l2.slots.entries } = ap (λ (m : MetadataCaches S). cached_in m) same in
         record {
@@ -162,9 +162,9 @@ module _ {S : Type 0} (state : S → StorageState) (cluster : ℕ) (block : Bloc
               old.rb.slots.cap between old.rb.slots.entries after es' (done_so ≡ Ok tt) refl
               (subst (λ (c : Cached). Going before.header (order_of old) Always (done_so ≡ Ok tt) (state before.image) (cached_in old) (state between.image) c) now going)
               (subst (λ (c : Cached). ReadyBlocks (order_of old) c) now ready) result i;
-          put = inserted-put (block_flushes state) written_block block-kept-by old.rb.slots.cap true cluster block between old.rb.slots.entries after es' result not i;
-          flushed = λ k slot way there. put-then result (λ x. record { mid = state between.image; between = cached_in mid; left = x.0; alone = behind.alone; first = behind.first; flush = x.1.1 })
-              (way-flushed (block_flushes state) old.rb.slots.cap cluster block between old.rb.slots.entries after es' result i k slot way there);
+          put = inserted-put (block_loads state) (block_flushes state) written_block block-kept-by old.rb.slots.cap true cluster block between old.rb.slots.entries after es' result not i;
+          flushed = λ k slot way there. put-then result (λ x. record { mid = state between.image; between = cached_in mid; alone = behind.alone; first = behind.first; flush = (x.0, x.1.1) })
+              (way-flushed (block_loads state) (block_flushes state) old.rb.slots.cap cluster block between old.rb.slots.entries after es' result i k slot way there);
           roomy = not-roomy;
           tables = ap (λ (c : Cached). c.tables) kept;
           apart = λ no. ap (λ (m : MetadataCaches S). m.l2) (idle no);
@@ -172,7 +172,7 @@ module _ {S : Type 0} (state : S → StorageState) (cluster : ℕ) (block : Bloc
               (λ no. (behind.alone no, sym now ∙ ap (λ (m : MetadataCaches S). cached_in m) (idle no)))
               (λ is. subst (λ (c : Cached). WritesTables (state before.image) (cached_in old) (Ok tt) (state between.image) c) now (behind.first is)) (
                 refl,
-                inserted-lets-in (λ (d : ImageFile S). state d.image) (block_flushes state) (λ a key block answer b block'. BlockFlushed key block a answer b block') (λ a b key block block' answer flush. flush.1)
+                inserted-lets-in (λ (d : ImageFile S). state d.image) (block_loads state) (block_flushes state) (λ a key block answer b block'. BlockFlushed key block a answer b block') (λ a b key block block' answer flush. flush.1)
                     old.rb.slots.cap cluster block between old.rb.slots.entries after es' none room result i,
               );
           others = (refl, header' ∙ header);
@@ -182,20 +182,20 @@ module _ {S : Type 0} (state : S → StorageState) (cluster : ℕ) (block : Bloc
 
     pub block-put-behind : IsBehind → Going before.header (order_of old) Always (done_so ≡ Ok tt) (state before.image) (cached_in old) (state between.image) (cached_in mid) → ReadyBlocks (order_of mid) (cached_in mid) → (state between.image).faults ≡ (state before.image).faults
         → (result : Result (Option Block) (Fault × Block)) (after : ImageFile S) (new : MetadataCaches S) → new ≡ record mid { rb = with_entries mid.rb new.rb.slots.entries }
-        → Put true mid.rb.slots.cap between mid.rb.slots.entries result after new.rb.slots.entries → BlockInserted state block cluster old before (put_of result) new after
+        → Put true mid.rb.slots.cap between mid.rb.slots.entries result after new.rb.slots.entries → BlockInserted state cluster block (cached_file old before) (put_of result) (cached_file new after)
     block-put-behind behind going ready faults result after new is i =
         let es' = new.rb.slots.entries in
         let i' : Put true old.rb.slots.cap between old.rb.slots.entries result after es' = subst (λ (m : MetadataCaches S). Put true m.rb.slots.cap between m.rb.slots.entries result after es') same i in
         let now : new ≡ record old { rb = with_entries old.rb es'; l2 = mid.l2 } = is ∙ ap (λ (m : MetadataCaches S). record m { rb = with_entries m.rb es' }) same in
-        subst (λ (m : MetadataCaches S). BlockInserted state block cluster old before (put_of result) m after) (sym now)
+        subst (λ (m : MetadataCaches S). BlockInserted state cluster block (cached_file old before) (put_of result) (cached_file m after)) (sym now)
         (block-put-full behind going (subst (λ (m : MetadataCaches S). ReadyBlocks (order_of m) (cached_in mid)) same ready) faults result after es'
-        (never-barred (block_flushes state) old.rb.slots.cap cluster block between old.rb.slots.entries after es' result i')
-        (inserted-related (block_flushes state) (λ a b. b.header ≡ a.header) (λ a. refl) (λ a b key value value' answer f. f.0) old.rb.slots.cap true cluster block between old.rb.slots.entries after es' result i') i')
+        (never-barred (block_loads state) (block_flushes state) old.rb.slots.cap cluster block between old.rb.slots.entries after es' result i')
+        (inserted-related (block_loads state) (block_flushes state) (λ a b. b.header ≡ a.header) (λ a. refl) (λ a b key value value' answer f. f.0) old.rb.slots.cap true cluster block between old.rb.slots.entries after es' result i') i')
 
     pub block-put-halted : (fault : Fault) → Going before.header (order_of old) Always (failed fault ≡ Ok tt) (state before.image) (cached_in old) (state between.image) (cached_in mid)
         → CountsWrites (AreTablesInReach (cached_in old)) (state before.image).faults (state between.image).faults (Err fault)
         → (IsMild fault → IsFaultless (state before.image) (state between.image))
-        → ((order_of old ≡ RbDependsOnL2 → ⊥) → ⊥) → (order_of old ≡ RbDependsOnL2 → WritesTables (state before.image) (cached_in old) (Err fault) (state between.image) (cached_in mid)) → BlockInserted state block cluster old before (Err (fault, block)) mid between
+        → ((order_of old ≡ RbDependsOnL2 → ⊥) → ⊥) → (order_of old ≡ RbDependsOnL2 → WritesTables (state before.image) (cached_in old) (Err fault) (state between.image) (cached_in mid)) → BlockInserted state cluster block (cached_file old before) (Err (fault, block)) (cached_file mid between)
     block-put-halted fault going why faultless some did =
         let blocks : (cached_in mid).blocks ≡ (cached_in old).blocks = ap (λ (m : MetadataCaches S). (cached_in m).blocks) same in
         record {

@@ -18,8 +18,8 @@ use Rattle.qcow2_alloc.specs.declared.cache.MetadataCaches.{MetadataCaches}
 use Rattle.qcow2_alloc.specs.declared.file.ImageFile.{ImageFile}
 use Rattle.qcow2_alloc.specs.Backends.{TableFlushed}
 use Rattle.qcow2_alloc.specs.Cache.{Inserted, with_entries}
-use Rattle.qcow2_alloc.specs.Caches.{cached_in, order_of}
-use Rattle.qcow2_alloc.specs.CachesLending.{with_tables, table_flushes}
+use Rattle.qcow2_alloc.specs.Caches.{cached_file, cached_in, order_of}
+use Rattle.qcow2_alloc.specs.CachesLending.{with_tables, table_loads, table_flushes, table_kind}
 use Rattle.qcow2_alloc.specs.Finding.{IsPinnedFull, CountsSearch, LetsTableIn}
 use Rattle.qcow2_alloc.specs.Putting.{refusal_of, IsNewTable, TableInserted}
 use Rattle.qcow2_alloc.specs.Going.{Going, Always, ReadyTables, WasNotCutOff, IsMild, AreBlocksInReach, CountsWrites, WritesBlocks}
@@ -72,7 +72,7 @@ module _ (H : Header) (order : CacheDependency) (blocks : List (ℕ × Slot Bloc
 
 module _ {S : Type 0} (state : S → StorageState) (cluster : ℕ) (table : TableValue) where
   abbrev Put : Bool → ℕ → ImageFile S → List (ℕ × Slot TableValue) → Result (Option TableValue) (Fault × TableValue) → ImageFile S → List (ℕ × Slot TableValue) → Type 0
-  Put may_flush cap before es result after es' = Inserted nat_eq (table_flushes state) cap may_flush cluster table before es result after es'
+  Put may_flush cap before es result after es' = Inserted (table_kind state cap) may_flush (cluster, table) before es result after es'
 
   table-kept-by : (key : ℕ) (slot : Slot TableValue) (old new : ImageFile S) (answer : Result Unit Fault) (value : TableValue) → table_flushes state old key slot.value answer new value → written_table (key, record slot { value = value }) ≡ written_table (key, slot)
   table-kept-by key slot old new answer value flush = table-kept key slot (state old.image) answer (state new.image) value flush.1
@@ -82,7 +82,7 @@ module _ {S : Type 0} (state : S → StorageState) (cluster : ℕ) (table : Tabl
       → CountsSearch (AllByRecursion (λ (e : ℕ × Slot TableValue). e.1.value.modified ≡ true → IsInReach e.1.value.layout.cluster_bits e.0) es × other) (IsPinnedFull cap es) faults (state after.image).faults (refusal_of (put_of result))
   table-put-counts may_flush cap before es result after es' faults is other i =
       counts-wider _ _ _ _ faults _ (refusal_of (put_of result)) (λ f. f.0) is
-      (inserted-counted (λ (d : ImageFile S). state d.image) (table_flushes state) (λ key t. t.modified ≡ true → IsInReach t.layout.cluster_bits key)
+      (inserted-counted (λ (d : ImageFile S). state d.image) (table_loads state) (table_flushes state) (λ key t. t.modified ≡ true → IsInReach t.layout.cluster_bits key)
       (λ old key value answer new value' flush. table-counted key value (state old.image) (state new.image) answer value' flush.1) cap may_flush cluster table before es after es' result i)
 
   -- What is new fits behind calls that keep the image.
@@ -94,23 +94,23 @@ module _ {S : Type 0} (state : S → StorageState) (cluster : ℕ) (table : Tabl
 
   -- What is put without leave to flush
   module _ (old new : MetadataCaches S) (before after : ImageFile S) (same : new ≡ with_tables old new.l2.slots.entries) where
-    pub table-put-now : (result : Result (Option TableValue) (Fault × TableValue)) → (IsBarred result → ⊥) → Put false old.l2.slots.cap before old.l2.slots.entries result after new.l2.slots.entries → TableInserted state table cluster old before (put_of result) new after
-    table-put-now result not i = subst (λ (m : MetadataCaches S). TableInserted state table cluster old before (put_of result) m after) (sym same) (now new.l2.slots.entries i)
+    pub table-put-now : (result : Result (Option TableValue) (Fault × TableValue)) → (IsBarred result → ⊥) → Put false old.l2.slots.cap before old.l2.slots.entries result after new.l2.slots.entries → TableInserted state cluster table (cached_file old before) (put_of result) (cached_file new after)
+    table-put-now result not i = subst (λ (m : MetadataCaches S). TableInserted state cluster table (cached_file old before) (put_of result) (cached_file m after)) (sym same) (now new.l2.slots.entries i)
       where
-        now : (es' : List (ℕ × Slot TableValue)) → Put false old.l2.slots.cap before old.l2.slots.entries result after es' → TableInserted state table cluster old before (put_of result) (with_tables old es') after
+        now : (es' : List (ℕ × Slot TableValue)) → Put false old.l2.slots.cap before old.l2.slots.entries result after es' → TableInserted state cluster table (cached_file old before) (put_of result) (cached_file (with_tables old es') after)
         now es' i =
-            let q = quiet (table_flushes state) old.l2.slots.cap cluster table before old.l2.slots.entries after es' result not i in
+            let q = quiet (table_loads state) (table_flushes state) old.l2.slots.cap cluster table before old.l2.slots.entries after es' result not i in
             let kept : Kept (state before.image) (state after.image) = subst (λ (d : ImageFile S). Kept (state before.image) (state d.image)) (sym q.file) (kept-same (state before.image)) in
             record {
               going = subst (λ (d : ImageFile S). Going before.header (order_of old) (λ _. IsNewTable (bytes_of (state before.image).bytes) before.header.fields cluster table old.l2.slots.entries) (WasNotCutOff (refusal_of (put_of result))) (state before.image) (cached_in old) (state d.image) (record { tables = es'; blocks = old.rb.slots.entries })) (sym q.file)
                   (put-quietly (new_table before.header (order_of old) old.rb.slots.entries cluster table state) (state before.image) (cached_in old) _ (fresh-stays old before)
                   (WasNotCutOff (refusal_of (put_of result))) (state before.image) old.l2.slots.entries es' _ (going-none before.header (order_of old) Always (WasNotCutOff (refusal_of (put_of result))) (state before.image) (cached_in old)) q.absent q.way);
-              put = inserted-put (table_flushes state) written_table table-kept-by old.l2.slots.cap false cluster table before old.l2.slots.entries after es' result not i;
-              flushed = λ k slot way there. absurd (way-barred (table_flushes state) old.l2.slots.cap cluster table before old.l2.slots.entries after es' result not i k slot way there);
+              put = inserted-put (table_loads state) (table_flushes state) written_table table-kept-by old.l2.slots.cap false cluster table before old.l2.slots.entries after es' result not i;
+              flushed = λ k slot way there. absurd (way-barred (table_loads state) (table_flushes state) old.l2.slots.cap cluster table before old.l2.slots.entries after es' result not i k slot way there);
               roomy = λ none room. (kept, refl);
               blocks = refl;
               apart = λ no. refl;
-              behind = λ none full. absurd (inserted-barred (λ (d : ImageFile S). state d.image) (table_flushes state) (λ a key table answer b table'. TableFlushed key table a answer b table') (λ a b key table table' answer flush. flush.1)
+              behind = λ none full. absurd (inserted-barred (λ (d : ImageFile S). state d.image) (table_loads state) (table_flushes state) (λ a key table answer b table'. TableFlushed key table a answer b table') (λ a b key table table' answer flush. flush.1)
                   old.l2.slots.cap cluster table before old.l2.slots.entries after es' none full result not i);
               others = (refl, ap (λ (d : ImageFile S). d.header) q.file);
               room = record { tables = refl; blocks = refl };
@@ -125,7 +125,7 @@ module _ {S : Type 0} (state : S → StorageState) (cluster : ℕ) (table : Tabl
 
     pub table-back : (value : TableValue) → Put false old.l2.slots.cap before old.l2.slots.entries (Ok (Some value)) after new.l2.slots.entries → IsUnchanged × (value ≡ table)
     table-back value i =
-        let back = put-back (table_flushes state) old.l2.slots.cap cluster table before old.l2.slots.entries after new.l2.slots.entries value i in
+        let back = put-back (table_loads state) (table_flushes state) old.l2.slots.cap cluster table before old.l2.slots.entries after new.l2.slots.entries value i in
         let cap : new.l2.slots.cap ≡ old.l2.slots.cap = ap (λ (m : MetadataCaches S). m.l2.slots.cap) same in
         let long = ap (λ (l : List (ℕ × Slot TableValue)). length l) back.entries in (
           record {
@@ -152,7 +152,7 @@ module _ {S : Type 0} (state : S → StorageState) (cluster : ℕ) (table : Tabl
 
     table-put-full : IsBehind → Going before.header (order_of old) Always (done_so ≡ Ok tt) (state before.image) (cached_in old) (state between.image) (cached_in mid) → ReadyTables (order_of old) (cached_in mid) → (state between.image).faults ≡ (state before.image).faults
         → (result : Result (Option TableValue) (Fault × TableValue)) (after : ImageFile S) (es' : List (ℕ × Slot TableValue)) → (IsBarred result → ⊥) → after.header ≡ between.header
-        → Put true old.l2.slots.cap between old.l2.slots.entries result after es' → TableInserted state table cluster old before (put_of result) (record old { l2 = with_entries old.l2 es'; rb = mid.rb }) after
+        → Put true old.l2.slots.cap between old.l2.slots.entries result after es' → TableInserted state cluster table (cached_file old before) (put_of result) (cached_file (record old { l2 = with_entries old.l2 es'; rb = mid.rb }) after)
     table-put-full behind going ready faults result after es' not header' i =
         let now : cached_in mid ≡ record { tables = old.l2.slots.entries; blocks = mid.rb.slots.entries } = ap (λ (m : MetadataCaches S). cached_in m) same in
         record {
@@ -161,9 +161,9 @@ module _ {S : Type 0} (state : S → StorageState) (cluster : ℕ) (table : Tabl
               old.l2.slots.cap between old.l2.slots.entries after es' (done_so ≡ Ok tt) refl
               (subst (λ (c : Cached). Going before.header (order_of old) Always (done_so ≡ Ok tt) (state before.image) (cached_in old) (state between.image) c) now going)
               (subst (λ (c : Cached). ReadyTables (order_of old) c) now ready) result i;
-          put = inserted-put (table_flushes state) written_table table-kept-by old.l2.slots.cap true cluster table between old.l2.slots.entries after es' result not i;
-          flushed = λ k slot way there. put-then result (λ x. record { mid = state between.image; between = cached_in mid; left = x.0; alone = behind.alone; first = behind.first; flush = x.1.1 })
-              (way-flushed (table_flushes state) old.l2.slots.cap cluster table between old.l2.slots.entries after es' result i k slot way there);
+          put = inserted-put (table_loads state) (table_flushes state) written_table table-kept-by old.l2.slots.cap true cluster table between old.l2.slots.entries after es' result not i;
+          flushed = λ k slot way there. put-then result (λ x. record { mid = state between.image; between = cached_in mid; alone = behind.alone; first = behind.first; flush = (x.0, x.1.1) })
+              (way-flushed (table_loads state) (table_flushes state) old.l2.slots.cap cluster table between old.l2.slots.entries after es' result i k slot way there);
           roomy = not-roomy;
           blocks = ap (λ (c : Cached). c.blocks) kept;
           apart = λ no. ap (λ (m : MetadataCaches S). m.rb) (idle no);
@@ -171,7 +171,7 @@ module _ {S : Type 0} (state : S → StorageState) (cluster : ℕ) (table : Tabl
               (λ no. (behind.alone no, sym now ∙ ap (λ (m : MetadataCaches S). cached_in m) (idle no)))
               (λ is. subst (λ (c : Cached). WritesBlocks (state before.image) (cached_in old) (Ok tt) (state between.image) c) now (behind.first is)) (
                 refl,
-                inserted-lets-in (λ (d : ImageFile S). state d.image) (table_flushes state) (λ a key table answer b table'. TableFlushed key table a answer b table') (λ a b key table table' answer flush. flush.1)
+                inserted-lets-in (λ (d : ImageFile S). state d.image) (table_loads state) (table_flushes state) (λ a key table answer b table'. TableFlushed key table a answer b table') (λ a b key table table' answer flush. flush.1)
                     old.l2.slots.cap cluster table between old.l2.slots.entries after es' none room result i,
               );
           others = (refl, header' ∙ header);
@@ -181,20 +181,20 @@ module _ {S : Type 0} (state : S → StorageState) (cluster : ℕ) (table : Tabl
 
     pub table-put-behind : IsBehind → Going before.header (order_of old) Always (done_so ≡ Ok tt) (state before.image) (cached_in old) (state between.image) (cached_in mid) → ReadyTables (order_of mid) (cached_in mid) → (state between.image).faults ≡ (state before.image).faults
         → (result : Result (Option TableValue) (Fault × TableValue)) (after : ImageFile S) (new : MetadataCaches S) → new ≡ record mid { l2 = with_entries mid.l2 new.l2.slots.entries }
-        → Put true mid.l2.slots.cap between mid.l2.slots.entries result after new.l2.slots.entries → TableInserted state table cluster old before (put_of result) new after
+        → Put true mid.l2.slots.cap between mid.l2.slots.entries result after new.l2.slots.entries → TableInserted state cluster table (cached_file old before) (put_of result) (cached_file new after)
     table-put-behind behind going ready faults result after new is i =
         let es' = new.l2.slots.entries in
         let i' : Put true old.l2.slots.cap between old.l2.slots.entries result after es' = subst (λ (m : MetadataCaches S). Put true m.l2.slots.cap between m.l2.slots.entries result after es') same i in
         let now : new ≡ record old { l2 = with_entries old.l2 es'; rb = mid.rb } = is ∙ ap (λ (m : MetadataCaches S). record m { l2 = with_entries m.l2 es' }) same in
-        subst (λ (m : MetadataCaches S). TableInserted state table cluster old before (put_of result) m after) (sym now)
+        subst (λ (m : MetadataCaches S). TableInserted state cluster table (cached_file old before) (put_of result) (cached_file m after)) (sym now)
         (table-put-full behind going (subst (λ (m : MetadataCaches S). ReadyTables (order_of m) (cached_in mid)) same ready) faults result after es'
-        (never-barred (table_flushes state) old.l2.slots.cap cluster table between old.l2.slots.entries after es' result i')
-        (inserted-related (table_flushes state) (λ a b. b.header ≡ a.header) (λ a. refl) (λ a b key value value' answer f. f.0) old.l2.slots.cap true cluster table between old.l2.slots.entries after es' result i') i')
+        (never-barred (table_loads state) (table_flushes state) old.l2.slots.cap cluster table between old.l2.slots.entries after es' result i')
+        (inserted-related (table_loads state) (table_flushes state) (λ a b. b.header ≡ a.header) (λ a. refl) (λ a b key value value' answer f. f.0) old.l2.slots.cap true cluster table between old.l2.slots.entries after es' result i') i')
 
     pub table-put-halted : (fault : Fault) → Going before.header (order_of old) Always (failed fault ≡ Ok tt) (state before.image) (cached_in old) (state between.image) (cached_in mid)
         → CountsWrites (AreBlocksInReach (cached_in old)) (state before.image).faults (state between.image).faults (Err fault)
         → (IsMild fault → IsFaultless (state before.image) (state between.image))
-        → ((order_of old ≡ L2DependsOnRb → ⊥) → ⊥) → (order_of old ≡ L2DependsOnRb → WritesBlocks (state before.image) (cached_in old) (Err fault) (state between.image) (cached_in mid)) → TableInserted state table cluster old before (Err (fault, table)) mid between
+        → ((order_of old ≡ L2DependsOnRb → ⊥) → ⊥) → (order_of old ≡ L2DependsOnRb → WritesBlocks (state before.image) (cached_in old) (Err fault) (state between.image) (cached_in mid)) → TableInserted state cluster table (cached_file old before) (Err (fault, table)) (cached_file mid between)
     table-put-halted fault going why faultless some did =
         let tables : (cached_in mid).tables ≡ (cached_in old).tables = ap (λ (m : MetadataCaches S). (cached_in m).tables) same in
         record {

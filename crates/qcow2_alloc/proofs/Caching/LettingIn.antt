@@ -16,7 +16,7 @@ use Rattle.qcow2_alloc.specs.declared.cache.CacheDependency.TheVariants.{Unset, 
 use Rattle.qcow2_alloc.specs.declared.cache.MetadataCaches.{MetadataCaches}
 use Rattle.qcow2_alloc.specs.declared.file.ImageFile.{ImageFile}
 use Rattle.qcow2_alloc.specs.Backends.{TableFlushed, BlockFlushed}
-use Rattle.qcow2_alloc.specs.Cache.{FlushedAt, Evicted, MadeRoom, Loaded, LoadedAfter, Readied, FlushedEach, fault_of, latest, with_value, victim}
+use Rattle.qcow2_alloc.specs.Cache.{cache_kind, FlushedAt, Evicted, MadeRoom, Loaded, LoadedAfter, Readied, FlushedEach, fault_of, latest, with_value, victim}
 use Rattle.qcow2_alloc.specs.Caches.{cached_in}
 use Rattle.qcow2_alloc.specs.Finding.{LetsIn}
 use Rattle.qcow2_alloc.specs.Going.{WritesTables, WritesBlocks, Behind}
@@ -62,7 +62,7 @@ module _ {V D : Type 0} (state : D → StorageState) (loads : D → ℕ → Resu
 
   -- Without leave to flush nothing is loaded into a full cache.
   pub never-now : (cap key : ℕ) (before : D) (es : List (ℕ × Slot V)) (result : Result Admission Fault) (after : D) (es' : List (ℕ × Slot V)) → lookup (nat_eq key) es ≡ None → cap ≤ length es
-      → Readied nat_eq loads flushes cap false key before es result after es' → result ≡ Ok Denied
+      → Readied (cache_kind nat_eq loads flushes cap) false key before es result after es' → result ≡ Ok Denied
   never-now cap key before es result after es' none full r =
       let m = r.missed none in
       let later : (result ≡ Ok Denied) × (after ≡ m.mid) × (es' ≡ m.entries) = subst (λ (q : Result Admission Fault). LoadedAfter loads key m.mid m.entries q result after es') (m.made.full full refl).0 m.loaded in
@@ -76,7 +76,7 @@ module _ {V D : Type 0} (state : D → StorageState) (loads : D → ℕ → Resu
     flushed-so key before es answer after es' at = record { slot = at.slot; value = at.value; there = at.there; flush = asked before after key at.slot.value at.value answer at.flush; entries = at.entries }
 
     pub lets-in : (cap key : ℕ) (before : D) (es : List (ℕ × Slot V)) (result : Result Admission Fault) (after : D) (es' : List (ℕ × Slot V)) → lookup (nat_eq key) es ≡ None → cap ≤ length es
-        → Readied nat_eq loads flushes cap true key before es result after es' → LetsIn asks (state before) es (done_of result) (state after) es'
+        → Readied (cache_kind nat_eq loads flushes cap) true key before es result after es' → LetsIn asks (state before) es (done_of result) (state after) es'
     lets-in cap key before es result after es' none full r =
         let m = r.missed none in record {
           stuck = λ no. no-room m.room m.mid m.entries (m.made.pinned full refl no) m.loaded;
@@ -117,7 +117,7 @@ module _ {V D : Type 0} (state : D → StorageState) (loads : D → ℕ → Resu
         let f = flushing before mid k at.slot.value at.value (Err fault) clean at.flush in
         absurd (let no = f.0 in cc)
 
-    room-still : (cap : ℕ) (may_flush : Bool) (before : D) (es : List (ℕ × Slot V)) (room : Result Admission Fault) (mid : D) (entries : List (ℕ × Slot V)) → MadeRoom nat_eq flushes cap may_flush before es room mid entries → AreClean es
+    room-still : (cap : ℕ) (may_flush : Bool) (before : D) (es : List (ℕ × Slot V)) (room : Result Admission Fault) (mid : D) (entries : List (ℕ × Slot V)) → MadeRoom (cache_kind nat_eq loads flushes cap) may_flush before es room mid entries → AreClean es
         → (state mid ≡ state before) × AreClean entries
     room-still cap may_flush before es room mid entries made all = elim (cases_lt (length es) cap) [
       | inl roomy ↦ same (made.roomy roomy).1 (made.roomy roomy).2
@@ -134,7 +134,7 @@ module _ {V D : Type 0} (state : D → StorageState) (loads : D → ℕ → Resu
         by-victim None is full may = same (made.pinned full may is).1 (made.pinned full may is).2
         by-victim (Some k) is full may = evicted-still k before es room mid entries (made.evicted full may k is) all
 
-    pub readied-still : (cap : ℕ) (may_flush : Bool) (key : ℕ) (before : D) (es : List (ℕ × Slot V)) (result : Result Admission Fault) (after : D) (es' : List (ℕ × Slot V)) → Readied nat_eq loads flushes cap may_flush key before es result after es'
+    pub readied-still : (cap : ℕ) (may_flush : Bool) (key : ℕ) (before : D) (es : List (ℕ × Slot V)) (result : Result Admission Fault) (after : D) (es' : List (ℕ × Slot V)) → Readied (cache_kind nat_eq loads flushes cap) may_flush key before es result after es'
         → AreClean es → Kept (state before) (state after) × AreClean es'
     readied-still cap may_flush key before es result after es' r all = elim (is-there (lookup (nat_eq key) es)) [
       | inl there ↦ let f = r.found there in (subst (λ (d : D). Kept (state before) (state d)) (sym f.1) (kept-same (state before)), subst AreClean (sym f.2) all)

@@ -8,7 +8,7 @@ use Rattle.qcow2_types.specs.Bytes.{bytes_of}
 use Rattle.qcow2_alloc.specs.declared.async_lru_cache.Admission.{Admission}
 use Rattle.qcow2_alloc.specs.declared.async_lru_cache.Admission.TheVariants.{Granted, Denied}
 use Rattle.qcow2_alloc.specs.declared.async_lru_cache.Slot.{Slot}
-use Rattle.qcow2_alloc.specs.Cache.{MadeRoom, PutAfter, Overwritten, Inserted, hit}
+use Rattle.qcow2_alloc.specs.Cache.{cache_kind, MadeRoom, PutAfter, Overwritten, Inserted, hit}
 use Rattle.qcow2_alloc.specs.Going.{Going, Always, IsMild, WasNotCutOff}
 use Rattle.qcow2_alloc.specs.Memory.{Cached, memory}
 use Rattle.qcow2_alloc.specs.Putting.{refusal_of}
@@ -65,13 +65,13 @@ module _ {V D : Type 0} (new : NewEntry V D) (a : StorageState) (A : Cached) (P 
     abbrev Put : Result (Option V) (Fault × V) → Type 0
     Put result = From (λ _. P) (WasNotCutOff (refusal_of (put_of result))) (kind.loading.state after) es'
 
-    by-put : lookup (nat_eq key) es ≡ None → (room : Result Admission Fault) (entries : List (ℕ × Slot V)) → MadeRoom nat_eq kind.flushes cap true before es room after entries → (result : Result (Option V) (Fault × V))
-        → PutAfter nat_eq kind.flushes key value entries room result es' → Put result
+    by-put : lookup (nat_eq key) es ≡ None → (room : Result Admission Fault) (entries : List (ℕ × Slot V)) → MadeRoom (cache_kind nat_eq kind.loading.loads kind.flushes cap) true before es room after entries → (result : Result (Option V) (Fault × V))
+        → PutAfter (key, value) entries room result es' → Put result
     by-put none room entries made result later =
-        by-room room (room-absent kind.flushes cap true key before es room after entries made) (then-so (WasNotCutOff room) entries (room-made kind cap true before es room after entries made)) later
+        by-room room (room-absent kind.loading.loads kind.flushes cap true key before es room after entries made) (then-so (WasNotCutOff room) entries (room-made kind cap true before es room after entries made)) later
       where
         by-room : (room : Result Admission Fault) → (room ≡ Ok Granted → lookup (nat_eq key) es ≡ None → lookup (nat_eq key) entries ≡ None) → From Always (WasNotCutOff room) (kind.loading.state after) entries
-            → PutAfter nat_eq kind.flushes key value entries room result es' → Put result
+            → PutAfter (key, value) entries room result es' → Put result
         by-room (Ok Granted) absent second (inl now) =
             subst (λ (l : List (ℕ × Slot V)). From (λ _. P) (WasNotCutOff (refusal_of (put_of result))) (kind.loading.state after) l) (sym now.1)
             (last (kind.loading.state after) entries _ ⊤ (WasNotCutOff (refusal_of (put_of result))) (λ w. tt) second (new.comes (kind.loading.state after) entries (absent refl none)))
@@ -80,7 +80,7 @@ module _ {V D : Type 0} (new : NewEntry V D) (a : StorageState) (A : Cached) (P 
         by-room (Err fault) absent second later =
             halted (kind.loading.state after) entries es' (IsMild fault) (WasNotCutOff (refusal_of (put_of result))) (λ w. subst (λ (q : Result (Option V) (Fault × V)). WasNotCutOff (refusal_of (put_of q))) later.0 w) later.1 second
 
-    by-over : (result : Result (Option V) (Fault × V)) → Overwritten nat_eq kind.flushes key value before es result after es' → Put result
+    by-over : (result : Result (Option V) (Fault × V)) → Overwritten nat_eq kind.flushes (key, value) before es result after es' → Put result
     by-over (Ok back) (none, mid, at, list) =
         let p = place-of-key key es at.slot at.there in
         let w = record at.slot { value = at.value } in
@@ -101,7 +101,7 @@ module _ {V D : Type 0} (new : NewEntry V D) (a : StorageState) (A : Cached) (P 
         halted (kind.loading.state after) (p.front ++ (key, w) ∷ p.back) es' (IsMild refused.0) (IsMild refused.0) (λ w. w) (at.entries ∙ p.set w) second
 
     -- or it is put once what has to be is.
-    pub put-going : (result : Result (Option V) (Fault × V)) → Inserted nat_eq kind.flushes cap true key value before es result after es' → Put result
+    pub put-going : (result : Result (Option V) (Fault × V)) → Inserted (cache_kind nat_eq kind.loading.loads kind.flushes cap) true (key, value) before es result after es' → Put result
     put-going result i = elim (is-there (lookup (nat_eq key) es)) [
       | inr none ↦ let added = i.fresh none in by-put none added.room added.entries added.made result added.put
       | inl there ↦ by-over result (i.over there refl)

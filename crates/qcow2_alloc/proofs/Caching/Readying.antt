@@ -7,7 +7,7 @@ use Rattle.imago_storage.specs.declared.fault.Fault.{Fault}
 use Rattle.qcow2_alloc.specs.declared.async_lru_cache.Admission.{Admission}
 use Rattle.qcow2_alloc.specs.declared.async_lru_cache.Admission.TheVariants.{Granted, Denied}
 use Rattle.qcow2_alloc.specs.declared.async_lru_cache.Slot.{Slot}
-use Rattle.qcow2_alloc.specs.Cache.{Evicted, MadeRoom, Loaded, LoadedAfter, Readied, victim}
+use Rattle.qcow2_alloc.specs.Cache.{cache_kind, Evicted, MadeRoom, Loaded, LoadedAfter, Readied, victim}
 use Rattle.qcow2_alloc.specs.Going.{IsMild, WasNotCutOff}
 use Rattle.qcow2_alloc.specs.Going.{Going}
 use Rattle.qcow2_alloc.proofs.Caching.Entries.{remove_absent}
@@ -50,12 +50,12 @@ module _ {V D : Type 0} (kind : LoadedKind V D) where
       ])
 
 -- No key comes where room is made: not where one goes,
-module _ {V D : Type 0} (flushes : D → ℕ → V → Result Unit Fault → D → V → Type 0) where
+module _ {V D : Type 0} (loads : D → ℕ → Result V Fault → D → Type 0) (flushes : D → ℕ → V → Result Unit Fault → D → V → Type 0) where
   evicted-absent : (key other : ℕ) (before : D) (es : List (ℕ × Slot V)) (after : D) (es' : List (ℕ × Slot V)) (made : Admission) → Evicted nat_eq flushes key before es (Ok made) after es' → lookup (nat_eq other) es ≡ None → lookup (nat_eq other) es' ≡ None
   evicted-absent key other before es after es' made (is, mid, at, removed) none = ap (λ l. lookup (nat_eq other) l) removed ∙ remove_absent (nat_eq key) (nat_eq other) es none
 
   -- nor else.
-  pub room-absent : (cap : ℕ) (may_flush : Bool) (key : ℕ) (before : D) (es : List (ℕ × Slot V)) (result : Result Admission Fault) (after : D) (es' : List (ℕ × Slot V)) → MadeRoom nat_eq flushes cap may_flush before es result after es'
+  pub room-absent : (cap : ℕ) (may_flush : Bool) (key : ℕ) (before : D) (es : List (ℕ × Slot V)) (result : Result Admission Fault) (after : D) (es' : List (ℕ × Slot V)) → MadeRoom (cache_kind nat_eq loads flushes cap) may_flush before es result after es'
       → result ≡ Ok Granted → lookup (nat_eq key) es ≡ None → lookup (nat_eq key) es' ≡ None
   room-absent cap may_flush key before es result after es' made done none = elim (cases_lt (length es) cap) [
     | inl roomy ↦ let r = made.roomy roomy in ap (λ l. lookup (nat_eq key) l) r.2 ∙ none
@@ -95,7 +95,7 @@ module _ {V D : Type 0} (kind : EntryKind V D) where
   evicted-fits key before es (Err fault) after es' at f = kind.fits before after key at.slot.value at.value (Err fault) at.flush f
 
   -- Room is made.
-  pub room-made : (cap : ℕ) (may_flush : Bool) (before : D) (es : List (ℕ × Slot V)) (result : Result Admission Fault) (after : D) (es' : List (ℕ × Slot V)) → MadeRoom nat_eq kind.flushes cap may_flush before es result after es'
+  pub room-made : (cap : ℕ) (may_flush : Bool) (before : D) (es : List (ℕ × Slot V)) (result : Result Admission Fault) (after : D) (es' : List (ℕ × Slot V)) → MadeRoom (cache_kind nat_eq kind.loading.loads kind.flushes cap) may_flush before es result after es'
       → Goes kind.loading (WasNotCutOff result) before es after es'
   room-made cap may_flush before es result after es' made = elim (cases_lt (length es) cap) [
     | inl roomy ↦ let r = made.roomy roomy in stays kind.loading (WasNotCutOff result) before es after es' r.1 r.2
@@ -109,7 +109,7 @@ module _ {V D : Type 0} (kind : EntryKind V D) where
       by-victim None is full may = let r = made.pinned full may is in stays kind.loading (WasNotCutOff result) before es after es' r.1 r.2
       by-victim (Some key) is full may = evicted key before es result after es' (made.evicted full may key is)
 
-  room-fits : (cap : ℕ) (may_flush : Bool) (before : D) (es : List (ℕ × Slot V)) (result : Result Admission Fault) (after : D) (es' : List (ℕ × Slot V)) → MadeRoom nat_eq kind.flushes cap may_flush before es result after es' → kind.loading.Fits before → kind.loading.Fits after
+  room-fits : (cap : ℕ) (may_flush : Bool) (before : D) (es : List (ℕ × Slot V)) (result : Result Admission Fault) (after : D) (es' : List (ℕ × Slot V)) → MadeRoom (cache_kind nat_eq kind.loading.loads kind.flushes cap) may_flush before es result after es' → kind.loading.Fits before → kind.loading.Fits after
   room-fits cap may_flush before es result after es' made f = elim (cases_lt (length es) cap) [
     | inl roomy ↦ subst kind.loading.Fits (sym (made.roomy roomy).1) f
     | inr full ↦ elim (cases_Bool may_flush) [
@@ -123,19 +123,19 @@ module _ {V D : Type 0} (kind : EntryKind V D) where
       by-victim (Some key) is full may = evicted-fits key before es result after es' (made.evicted full may key is) f
 
   -- It is found or loaded.
-  pub readied : (cap : ℕ) (may_flush : Bool) (key : ℕ) (before : D) (es : List (ℕ × Slot V)) (result : Result Admission Fault) (after : D) (es' : List (ℕ × Slot V)) → kind.loading.Fits before → Readied nat_eq kind.loading.loads kind.flushes cap may_flush key before es result after es'
+  pub readied : (cap : ℕ) (may_flush : Bool) (key : ℕ) (before : D) (es : List (ℕ × Slot V)) (result : Result Admission Fault) (after : D) (es' : List (ℕ × Slot V)) → kind.loading.Fits before → Readied (cache_kind nat_eq kind.loading.loads kind.flushes cap) may_flush key before es result after es'
       → Goes kind.loading (WasNotCutOff result) before es after es'
   readied cap may_flush key before es result after es' f r = elim (is-there (lookup (nat_eq key) es)) [
     | inl there ↦ let f = r.found there in stays kind.loading (WasNotCutOff result) before es after es' f.1 f.2
     | inr none ↦ let m = r.missed none in by-room none m.room m.mid m.entries m.made m.loaded
   ]
     where
-      by-room : lookup (nat_eq key) es ≡ None → (room : Result Admission Fault) (mid : D) (entries : List (ℕ × Slot V)) → MadeRoom nat_eq kind.flushes cap may_flush before es room mid entries → LoadedAfter kind.loading.loads key mid entries room result after es'
+      by-room : lookup (nat_eq key) es ≡ None → (room : Result Admission Fault) (mid : D) (entries : List (ℕ × Slot V)) → MadeRoom (cache_kind nat_eq kind.loading.loads kind.flushes cap) may_flush before es room mid entries → LoadedAfter kind.loading.loads key mid entries room result after es'
           → Goes kind.loading (WasNotCutOff result) before es after es'
       by-room none (Ok Granted) mid entries made later =
           goes-weaker kind.loading (⊤ × WasNotCutOff result) (WasNotCutOff result) before after es es' (λ w. (tt, w))
           (goes-then kind.loading ⊤ (WasNotCutOff result) before mid after es entries es' (room-made cap may_flush before es (Ok Granted) mid entries made)
-          (loaded kind.loading key mid entries result after es' (room-absent kind.flushes cap may_flush key before es (Ok Granted) mid entries made refl none) (room-fits cap may_flush before es (Ok Granted) mid entries made f) later))
+          (loaded kind.loading key mid entries result after es' (room-absent kind.loading.loads kind.flushes cap may_flush key before es (Ok Granted) mid entries made refl none) (room-fits cap may_flush before es (Ok Granted) mid entries made f) later))
       by-room none (Ok Denied) mid entries made later =
           subst (λ (d : D). Goes kind.loading (WasNotCutOff result) before es d es') (sym later.1)
           (subst (λ (l : List (ℕ × Slot V)). Goes kind.loading (WasNotCutOff result) before es mid l) (sym later.2)
@@ -148,7 +148,7 @@ module _ {V D : Type 0} (kind : EntryKind V D) where
 
 -- Without leave to flush nothing is written.
 module _ {V D : Type 0} (kind : LoadedKind V D) (flushes : D → ℕ → V → Result Unit Fault → D → V → Type 0) where
-  pub readied-quietly : (cap : ℕ) (key : ℕ) (before : D) (es : List (ℕ × Slot V)) (result : Result Admission Fault) (after : D) (es' : List (ℕ × Slot V)) → kind.Fits before → Readied nat_eq kind.loads flushes cap false key before es result after es'
+  pub readied-quietly : (cap : ℕ) (key : ℕ) (before : D) (es : List (ℕ × Slot V)) (result : Result Admission Fault) (after : D) (es' : List (ℕ × Slot V)) → kind.Fits before → Readied (cache_kind nat_eq kind.loads flushes cap) false key before es result after es'
       → Goes kind (WasNotCutOff result) before es after es'
   readied-quietly cap key before es result after es' f r = elim (is-there (lookup (nat_eq key) es)) [
     | inl there ↦ let found = r.found there in stays kind (WasNotCutOff result) before es after es' found.1 found.2
@@ -175,13 +175,13 @@ module _ {V D : Type 0} (kind : LoadedKind V D) (flushes : D → ℕ → V → R
 
 -- With leave to flush it never says that there is no room.
 pub never-full : {V D : Type 0} (loads : D → ℕ → Result V Fault → D → Type 0) (flushes : D → ℕ → V → Result Unit Fault → D → V → Type 0) (cap : ℕ) (key : ℕ) (before : D) (es : List (ℕ × Slot V)) (after : D) (es' : List (ℕ × Slot V))
-    → Readied nat_eq loads flushes cap true key before es (Ok Denied) after es' → ⊥
+    → Readied (cache_kind nat_eq loads flushes cap) true key before es (Ok Denied) after es' → ⊥
 never-full loads flushes cap key before es after es' r = elim (is-there (lookup (nat_eq key) es)) [
   | inl there ↦ let found = (r.found there).0 in cc
   | inr none ↦ let m = r.missed none in by-room m.room m.mid m.entries m.made m.loaded
 ]
   where
-    by-room : (room : Result Admission Fault) (mid : _) (entries : List _) → MadeRoom nat_eq flushes cap true before es room mid entries → LoadedAfter loads key mid entries room (Ok Denied) after es' → ⊥
+    by-room : (room : Result Admission Fault) (mid : _) (entries : List _) → MadeRoom (cache_kind nat_eq loads flushes cap) true before es room mid entries → LoadedAfter loads key mid entries room (Ok Denied) after es' → ⊥
     by-room (Ok Granted) mid entries made later = let is = later.0 in cc
     by-room (Err fault) mid entries made later = let is = later.0 in cc
     by-room (Ok Denied) mid entries made later = elim (cases_lt (length es) cap) [

@@ -13,7 +13,7 @@ use Rattle.imago_storage.proofs.Composing.{rose_before, rose_behind}
 use Rattle.qcow2_alloc.specs.declared.async_lru_cache.Admission.{Admission}
 use Rattle.qcow2_alloc.specs.declared.async_lru_cache.Admission.TheVariants.{Granted, Denied}
 use Rattle.qcow2_alloc.specs.declared.async_lru_cache.Slot.{Slot}
-use Rattle.qcow2_alloc.specs.Cache.{Evicted, MadeRoom, Loaded, LoadedAfter, Readied, victim, victim_from}
+use Rattle.qcow2_alloc.specs.Cache.{cache_kind, Evicted, MadeRoom, Loaded, LoadedAfter, Readied, victim, victim_from}
 use Rattle.qcow2_alloc.specs.Finding.{with_room, IsPinnedFull, PinsNothing, Sought, WhyNotFound, CountsSearch}
 use Rattle.qcow2_alloc.specs.Going.{IsMild, WhyNotWritten, WasNotCutOff}
 use Rattle.qcow2_alloc.proofs.Flushing.Counting.{Counted}
@@ -120,7 +120,7 @@ module _ {V D : Type 0} (loads : D → ℕ → Result V Fault → D → Type 0) 
     pub device : after ≡ before
     pub entries : es' ≡ es
 
-  pub full-stays : (cap key : ℕ) (before : D) (es : List (ℕ × Slot V)) (after : D) (es' : List (ℕ × Slot V)) → Readied nat_eq loads flushes cap false key before es (Ok Denied) after es' → IsFullNow cap key before es after es'
+  pub full-stays : (cap key : ℕ) (before : D) (es : List (ℕ × Slot V)) (after : D) (es' : List (ℕ × Slot V)) → Readied (cache_kind nat_eq loads flushes cap) false key before es (Ok Denied) after es' → IsFullNow cap key before es after es'
   full-stays cap key before es after es' r = elim (is-there (lookup (nat_eq key) es)) [
     | inl there ↦ absurd (let no = (r.found there).0 in cc)
     | inr none ↦ let m = r.missed none in elim (cases_lt (length es) cap) [
@@ -136,7 +136,7 @@ module _ {V D : Type 0} (loads : D → ℕ → Result V Fault → D → Type 0) 
       loaded-not room mid entries is later = let load = subst (λ (q : Result Admission Fault). LoadedAfter loads key mid entries q (Ok Denied) after es') is later in let no = load.0 in cc
 
   -- the list once room was made
-  pub room-list : (cap : ℕ) (may_flush : Bool) (before : D) (es : List (ℕ × Slot V)) (after : D) (es' : List (ℕ × Slot V)) → MadeRoom nat_eq flushes cap may_flush before es (Ok Granted) after es' → es' ≡ with_room cap es
+  pub room-list : (cap : ℕ) (may_flush : Bool) (before : D) (es : List (ℕ × Slot V)) (after : D) (es' : List (ℕ × Slot V)) → MadeRoom (cache_kind nat_eq loads flushes cap) may_flush before es (Ok Granted) after es' → es' ≡ with_room cap es
   room-list cap may_flush before es after es' made = elim (cases_lt (length es) cap) [
     | inl roomy ↦ rw (lt-ltb (length es) cap roomy) (made.roomy roomy).2
     | inr full ↦ elim (cases_Bool may_flush) [
@@ -152,7 +152,7 @@ module _ {V D : Type 0} (loads : D → ℕ → Result V Fault → D → Type 0) 
   -- and where none could be
   pub room-refused : (written : ℕ × Slot V → ℕ × Slot V)
       (kept : (key : ℕ) (slot : Slot V) (old new : D) (result : Result Unit Fault) (value : V) → flushes old key slot.value result new value → written (key, record slot { value = value }) ≡ written (key, slot))
-      (cap : ℕ) (may_flush : Bool) (before : D) (es : List (ℕ × Slot V)) (fault : Fault) (after : D) (es' : List (ℕ × Slot V)) → MadeRoom nat_eq flushes cap may_flush before es (Err fault) after es'
+      (cap : ℕ) (may_flush : Bool) (before : D) (es : List (ℕ × Slot V)) (fault : Fault) (after : D) (es' : List (ℕ × Slot V)) → MadeRoom (cache_kind nat_eq loads flushes cap) may_flush before es (Err fault) after es'
       → (map written es' ≡ map written es) × PinsNothing es es'
   room-refused written kept cap may_flush before es fault after es' made = elim (cases_lt (length es) cap) [
     | inl roomy ↦ absurd (let r = (made.roomy roomy).0 in cc)
@@ -187,7 +187,7 @@ module _ {V D : Type 0} (loads : D → ℕ → Result V Fault → D → Type 0) 
       (kept : (key : ℕ) (slot : Slot V) (old new : D) (result : Result Unit Fault) (value : V) → flushes old key slot.value result new value → written (key, record slot { value = value }) ≡ written (key, slot))
       (read : V) (cap : ℕ) (may_flush : Bool) (key : ℕ) (before : D) (es : List (ℕ × Slot V)) (result : Result Admission Fault) (after : D) (es' : List (ℕ × Slot V))
       → ((mid : D) (value : V) → loads mid key (Ok value) after → value ≡ read) → (result ≡ Ok Denied → ⊥)
-      → Readied nat_eq loads flushes cap may_flush key before es result after es' → Sought written cap key read es (done_of result) es'
+      → Readied (cache_kind nat_eq loads flushes cap) may_flush key before es result after es' → Sought written cap key read es (done_of result) es'
   sought written kept read cap may_flush key before es result after es' reads not r = record {
     there = λ there. (r.found there).2;
     loaded = λ none. let m = r.missed none in by-load m.room m.mid m.entries m.made result (λ v l. reads m.mid v l) not m.loaded;
@@ -198,7 +198,7 @@ module _ {V D : Type 0} (loads : D → ℕ → Result V Fault → D → Type 0) 
     ];
   }
     where
-      by-load : (room : Result Admission Fault) (mid : D) (entries : List (ℕ × Slot V)) → MadeRoom nat_eq flushes cap may_flush before es room mid entries → (result : Result Admission Fault) → ((value : V) → loads mid key (Ok value) after → value ≡ read) → (result ≡ Ok Denied → ⊥)
+      by-load : (room : Result Admission Fault) (mid : D) (entries : List (ℕ × Slot V)) → MadeRoom (cache_kind nat_eq loads flushes cap) may_flush before es room mid entries → (result : Result Admission Fault) → ((value : V) → loads mid key (Ok value) after → value ≡ read) → (result ≡ Ok Denied → ⊥)
           → LoadedAfter loads key mid entries room result after es' → OnOk (done_of result) (es' ≡ (key, record { value = read; pins = 0 }) ∷ with_room cap es)
       by-load room mid entries made (Err fault) reads not later = tt
       by-load (Ok Granted) mid entries made (Ok found) reads not (is, value, load, list) =
@@ -206,7 +206,7 @@ module _ {V D : Type 0} (loads : D → ℕ → Result V Fault → D → Type 0) 
       by-load (Ok Denied) mid entries made (Ok found) reads not later = absurd (not later.0)
       by-load (Err fault) mid entries made (Ok found) reads not later = absurd (let no = later.0 in cc)
 
-      by-pins : (room : Result Admission Fault) (mid : D) (entries : List (ℕ × Slot V)) → MadeRoom nat_eq flushes cap may_flush before es room mid entries → (result : Result Admission Fault) → (result ≡ Ok Denied → ⊥)
+      by-pins : (room : Result Admission Fault) (mid : D) (entries : List (ℕ × Slot V)) → MadeRoom (cache_kind nat_eq loads flushes cap) may_flush before es room mid entries → (result : Result Admission Fault) → (result ≡ Ok Denied → ⊥)
           → LoadedAfter loads key mid entries room result after es' → PinsNothing es es'
       by-pins (Ok Granted) mid entries made (Ok found) not (is, value, load, list) =
           let made-room = room-list cap may_flush before es mid entries made in
@@ -215,13 +215,13 @@ module _ {V D : Type 0} (loads : D → ℕ → Result V Fault → D → Type 0) 
       by-pins (Ok Denied) mid entries made result not later = absurd (not later.0)
       by-pins (Err fault) mid entries made result not later = subst (λ l. PinsNothing es l) (sym later.2) (room-refused written kept cap may_flush before es fault mid entries made).1
 
-      by-refused : (room : Result Admission Fault) (mid : D) (entries : List (ℕ × Slot V)) (fault : Fault) → MadeRoom nat_eq flushes cap may_flush before es room mid entries → LoadedAfter loads key mid entries room (Err fault) after es'
+      by-refused : (room : Result Admission Fault) (mid : D) (entries : List (ℕ × Slot V)) (fault : Fault) → MadeRoom (cache_kind nat_eq loads flushes cap) may_flush before es room mid entries → LoadedAfter loads key mid entries room (Err fault) after es'
           → (map written es' ≡ map written es) ⊎ (es' ≡ with_room cap es)
       by-refused (Ok Granted) mid entries fault made (same, why) = inr (same ∙ room-list cap may_flush before es mid entries made)
       by-refused (Ok Denied) mid entries fault made later = absurd (let no = later.0 in cc)
       by-refused (Err other) mid entries fault made later = inl (ap (λ l. map written l) later.2 ∙ (room-refused written kept cap may_flush before es other mid entries made).0)
 
-      by-refusal : (result : Result Admission Fault) → Readied nat_eq loads flushes cap may_flush key before es result after es' → OnErr (done_of result) ((map written es' ≡ map written es) ⊎ (es' ≡ with_room cap es))
+      by-refusal : (result : Result Admission Fault) → Readied (cache_kind nat_eq loads flushes cap) may_flush key before es result after es' → OnErr (done_of result) ((map written es' ≡ map written es) ⊎ (es' ≡ with_room cap es))
       by-refusal (Ok found) r = tt
       by-refusal (Err fault) r = elim (is-there (lookup (nat_eq key) es)) [
         | inl there ↦ inl (ap (λ l. map written l) (r.found there).2)
@@ -232,7 +232,7 @@ module _ {V D : Type 0} (loads : D → ℕ → Result V Fault → D → Type 0) 
   pub readied-related : (R : D → D → Type 0) (R-refl : (a : D) → R a a) (R-trans : (a b c : D) → R a b → R b c → R a c)
       → ((old new : D) (key : ℕ) (answer : Result V Fault) → loads old key answer new → R old new)
       → ((old new : D) (key : ℕ) (value value' : V) (answer : Result Unit Fault) → flushes old key value answer new value' → R old new)
-      → (cap : ℕ) (may_flush : Bool) (key : ℕ) (before : D) (es : List (ℕ × Slot V)) (result : Result Admission Fault) (after : D) (es' : List (ℕ × Slot V)) → Readied nat_eq loads flushes cap may_flush key before es result after es' → R before after
+      → (cap : ℕ) (may_flush : Bool) (key : ℕ) (before : D) (es : List (ℕ × Slot V)) (result : Result Admission Fault) (after : D) (es' : List (ℕ × Slot V)) → Readied (cache_kind nat_eq loads flushes cap) may_flush key before es result after es' → R before after
   readied-related R R-refl R-trans loading flushing cap may_flush key before es result after es' r = elim (is-there (lookup (nat_eq key) es)) [
     | inl there ↦ same before after (r.found there).1
     | inr none ↦ let m = r.missed none in R-trans before m.mid after (room-related m.room m.mid m.entries m.made) (by-room m.room m.mid m.entries m.loaded)
@@ -245,7 +245,7 @@ module _ {V D : Type 0} (loads : D → ℕ → Result V Fault → D → Type 0) 
       by-eviction k (Ok made) mid entries (is, between, at, removed) = flushing before mid k at.slot.value at.value (Ok tt) at.flush
       by-eviction k (Err fault) mid entries at = flushing before mid k at.slot.value at.value (Err fault) at.flush
 
-      room-related : (room : Result Admission Fault) (mid : D) (entries : List (ℕ × Slot V)) → MadeRoom nat_eq flushes cap may_flush before es room mid entries → R before mid
+      room-related : (room : Result Admission Fault) (mid : D) (entries : List (ℕ × Slot V)) → MadeRoom (cache_kind nat_eq loads flushes cap) may_flush before es room mid entries → R before mid
       room-related room mid entries made = elim (cases_lt (length es) cap) [
         | inl roomy ↦ same before mid (made.roomy roomy).1
         | inr full ↦ elim (cases_Bool may_flush) [
@@ -270,7 +270,7 @@ module _ {V D : Type 0} (loads : D → ℕ → Result V Fault → D → Type 0) 
   -- Where there is room nothing is written.
   pub roomy-kept : (state : D → StorageState) (cap : ℕ) (may_flush : Bool) (key : ℕ) (before : D) (es : List (ℕ × Slot V)) (result : Result Admission Fault) (after : D) (es' : List (ℕ × Slot V))
       → ((old new : D) (answer : Result V Fault) → loads old key answer new → Kept (state old) (state new)) → Kept (state before) (state before)
-      → length es < cap → Readied nat_eq loads flushes cap may_flush key before es result after es' → Kept (state before) (state after)
+      → length es < cap → Readied (cache_kind nat_eq loads flushes cap) may_flush key before es result after es' → Kept (state before) (state after)
   roomy-kept state cap may_flush key before es result after es' loading same roomy r = elim (is-there (lookup (nat_eq key) es)) [
     | inl there ↦ subst (λ (d : D). Kept (state before) (state d)) (sym (r.found there).1) same
     | inr none ↦ let m = r.missed none in let made = m.made.roomy roomy in by-room m.room m.mid m.entries made.0 made.1 m.loaded
@@ -287,7 +287,7 @@ module _ {V D : Type 0} (loads : D → ℕ → Result V Fault → D → Type 0) 
 -- Why it is refused.
 module _ {V D : Type 0} (state : D → StorageState) (loads : D → ℕ → Result V Fault → D → Type 0) (flushes : D → ℕ → V → Result Unit Fault → D → V → Type 0) (Reach : ℕ → V → Type 0)
     (step : (old : D) (key : ℕ) (value : V) (result : Result Unit Fault) (new : D) (value' : V) → flushes old key value result new value' → Counted (Reach key value) (state old) (state new) result) where
-  pub room-counted : (cap : ℕ) (may_flush : Bool) (before : D) (es : List (ℕ × Slot V)) (result : Result Admission Fault) (after : D) (es' : List (ℕ × Slot V)) → MadeRoom nat_eq flushes cap may_flush before es result after es'
+  pub room-counted : (cap : ℕ) (may_flush : Bool) (before : D) (es : List (ℕ × Slot V)) (result : Result Admission Fault) (after : D) (es' : List (ℕ × Slot V)) → MadeRoom (cache_kind nat_eq loads flushes cap) may_flush before es result after es'
       → ((state before).faults ≤ (state after).faults) × CountsSearch (AllByRecursion (λ (e : ℕ × Slot V). Reach e.0 e.1.value) es) (IsPinnedFull cap es) (state before).faults (state after).faults (done_of result)
   room-counted cap may_flush before es result after es' made = elim (cases_lt (length es) cap) [
     | inl roomy ↦ let r = made.roomy roomy in same-counted Granted r.0 r.1
@@ -336,7 +336,7 @@ module _ {V D : Type 0} (state : D → StorageState) (loads : D → ℕ → Resu
       | inr short ↦ let l = loading before key (Ok short.1) after short.2 in (l.0, subst (λ (q : Fault). WhyNotFound (fine after key) full (state before).faults (state after).faults q) (sym short.0) tt)
     ]
 
-    pub readied-counted : (cap : ℕ) (may_flush : Bool) (key : ℕ) (before : D) (es : List (ℕ × Slot V)) (result : Result Admission Fault) (after : D) (es' : List (ℕ × Slot V)) → Readied nat_eq loads flushes cap may_flush key before es result after es'
+    pub readied-counted : (cap : ℕ) (may_flush : Bool) (key : ℕ) (before : D) (es : List (ℕ × Slot V)) (result : Result Admission Fault) (after : D) (es' : List (ℕ × Slot V)) → Readied (cache_kind nat_eq loads flushes cap) may_flush key before es result after es'
         → ((state before).faults ≤ (state after).faults) × CountsSearch (fine after key × AllByRecursion (λ (e : ℕ × Slot V). Reach e.0 e.1.value) es) (IsPinnedFull cap es) (state before).faults (state after).faults (done_of result)
     readied-counted cap may_flush key before es result after es' r = elim (is-there (lookup (nat_eq key) es)) [
       | inl there ↦

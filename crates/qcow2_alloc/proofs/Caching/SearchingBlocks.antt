@@ -22,7 +22,7 @@ use Rattle.qcow2_alloc.specs.declared.file.ImageFile.{ImageFile}
 use Rattle.qcow2_alloc.specs.Backends.{BlockLoaded, BlockFlushed}
 use Rattle.qcow2_alloc.specs.Cache.{Readied, with_entries}
 use Rattle.qcow2_alloc.specs.Caches.{cached_in, order_of}
-use Rattle.qcow2_alloc.specs.CachesLending.{with_blocks, block_loads, block_flushes}
+use Rattle.qcow2_alloc.specs.CachesLending.{with_blocks, block_loads, block_flushes, block_kind}
 use Rattle.qcow2_alloc.specs.Finding.{Sought, BlockFound, LetsBlockIn, LetsIn, IsPinnedFull, WhyNotFound, CountsSearch}
 use Rattle.qcow2_alloc.specs.Going.{Going, Always, ReadyBlocks, WasNotCutOff, IsMild, AreTablesInReach, CountsWrites, WritesTables}
 use Rattle.qcow2_alloc.specs.Memory.{Cached, written, written_block}
@@ -64,7 +64,7 @@ l2-alone old mid same order = ap (λ l. record mid { rb = l }) same ∙ ap (λ o
 
 module _ {S : Type 0} (state : S → StorageState) (cluster : ℕ) where
   abbrev Ready : Bool → ℕ → ImageFile S → List (ℕ × Slot Block) → Result Admission Fault → ImageFile S → List (ℕ × Slot Block) → Type 0
-  Ready may_flush cap before es result after es' = Readied nat_eq (block_loads state) (block_flushes state) cap may_flush cluster before es result after es'
+  Ready may_flush cap before es result after es' = Readied (block_kind state cap) may_flush cluster before es result after es'
 
   header-stays : (may_flush : Bool) (cap : ℕ) (before : ImageFile S) (es : List (ℕ × Slot Block)) (result : Result Admission Fault) (after : ImageFile S) (es' : List (ℕ × Slot Block)) → Ready may_flush cap before es result after es' → after.header ≡ before.header
   header-stays may_flush cap before es result after es' r =

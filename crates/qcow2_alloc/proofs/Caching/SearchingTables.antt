@@ -24,7 +24,7 @@ use Rattle.qcow2_alloc.specs.declared.file.ImageFile.{ImageFile}
 use Rattle.qcow2_alloc.specs.Backends.{TableLoaded, TableFlushed}
 use Rattle.qcow2_alloc.specs.Cache.{Readied, with_entries}
 use Rattle.qcow2_alloc.specs.Caches.{cached_in, order_of}
-use Rattle.qcow2_alloc.specs.CachesLending.{with_tables, table_loads, table_flushes}
+use Rattle.qcow2_alloc.specs.CachesLending.{with_tables, table_loads, table_flushes, table_kind}
 use Rattle.qcow2_alloc.specs.Finding.{Sought, TableFound, LetsTableIn, LetsIn, IsTableFine, IsPinnedFull, WhyNotFound, CountsSearch}
 use Rattle.qcow2_alloc.specs.Going.{Going, Always, ReadyTables, WasNotCutOff, IsMild, AreBlocksInReach, CountsWrites, WritesBlocks}
 use Rattle.qcow2_alloc.specs.Memory.{Cached, written, written_table}
@@ -73,7 +73,7 @@ rb-alone old mid same order = ap (λ l. record mid { l2 = l }) same ∙ ap (λ o
 
 module _ {S : Type 0} (state : S → StorageState) (cluster : ℕ) where
   abbrev Ready : Bool → ℕ → ImageFile S → List (ℕ × Slot TableValue) → Result Admission Fault → ImageFile S → List (ℕ × Slot TableValue) → Type 0
-  Ready may_flush cap before es result after es' = Readied nat_eq (table_loads state) (table_flushes state) cap may_flush cluster before es result after es'
+  Ready may_flush cap before es result after es' = Readied (table_kind state cap) may_flush cluster before es result after es'
 
   header-stays : (may_flush : Bool) (cap : ℕ) (before : ImageFile S) (es : List (ℕ × Slot TableValue)) (result : Result Admission Fault) (after : ImageFile S) (es' : List (ℕ × Slot TableValue)) → Ready may_flush cap before es result after es' → after.header ≡ before.header
   header-stays may_flush cap before es result after es' r =

@@ -1,11 +1,10 @@
 use Rattle.std.proofs.Common.{Ok, Err, subst, false}
-use Rattle.std.specs.Prelude.{nat_eq}
 use Rattle.qcow2_alloc.specs.declared.async_lru_cache.Admission.{Admission}
 use Rattle.qcow2_alloc.specs.declared.async_lru_cache.Admission.TheVariants.{Granted}
 use Rattle.qcow2_alloc.specs.declared.cache.MetadataCaches.{MetadataCaches}
 use Rattle.qcow2_alloc.specs.declared.file.ImageFile.{ImageFile}
 use Rattle.qcow2_alloc.specs.Cache.{Readied}
-use Rattle.qcow2_alloc.specs.CachesLending.{table_loads, table_flushes}
+use Rattle.qcow2_alloc.specs.CachesLending.{table_kind}
 use Rattle.qcow2_alloc.specs.Finding.{TableFound}
 use Rattle.qcow2_alloc.proofs.Caching.SearchingTables.{table-found-now, table-stuck}
 use Rattle.qcow2_alloc.proofs.Faults.{handed-on}
@@ -13,14 +12,14 @@ use Rattle.qcow2_alloc.proofs.cache.MetadataCaches.l2_ready.Goals as goal
 
 pub returns-in-Granted : goal.returns-in-Granted
 returns-in-Granted g c = table-found-now g.S.Storage.state c.args.cluster c.args.self.now c.l2_find.new.self c.args.file.now c.l2_find.new.file c.l2_find.ensures.others (Ok Granted) (λ no. cc)
-    (subst (λ (a : Admission). Readied nat_eq (table_loads g.S.Storage.state) (table_flushes g.S.Storage.state) c.args.self.now.l2.slots.cap false c.args.cluster c.args.file.now c.args.self.now.l2.slots.entries (Ok a) c.l2_find.new.file c.l2_find.new.self.l2.slots.entries) c.in-Granted.is c.in_ok-l2_find.ensures.readied)
+    (subst (λ (a : Admission). Readied (table_kind g.S.Storage.state c.args.self.now.l2.slots.cap) false c.args.cluster c.args.file.now c.args.self.now.l2.slots.entries (Ok a) c.l2_find.new.file c.l2_find.new.self.l2.slots.entries) c.in-Granted.is c.in_ok-l2_find.ensures.readied)
 
 pub returns-in-Denied : goal.returns-in-Denied
 returns-in-Denied g c =
     let state = g.S.Storage.state in
     let now = c.l2_find.new.self in
     let readied = c.in_ok-l2_find.ensures.readied in
-    let full = subst (λ (a : Admission). Readied nat_eq (table_loads state) (table_flushes state) c.args.self.now.l2.slots.cap false c.args.cluster c.args.file.now c.args.self.now.l2.slots.entries (Ok a) c.l2_find.new.file now.l2.slots.entries) c.in-Denied.is readied in
+    let full = subst (λ (a : Admission). Readied (table_kind state c.args.self.now.l2.slots.cap) false c.args.cluster c.args.file.now c.args.self.now.l2.slots.entries (Ok a) c.l2_find.new.file now.l2.slots.entries) c.in-Denied.is readied in
     let stuck = table-stuck state c.args.cluster c.args.self.now now c.args.file.now c.l2_find.new.file c.l2_find.ensures.others full in
     subst (λ (m : MetadataCaches g.row.S.Denot). TableFound state c.args.cluster m c.args.file.now c.l2_load.result c.l2_load.new.self c.l2_load.new.file) stuck.caches
     (subst (λ (f : ImageFile g.row.S.Denot). TableFound state c.args.cluster now f c.l2_load.result c.l2_load.new.self c.l2_load.new.file) stuck.file c.l2_load.ensures)

@@ -1,10 +1,10 @@
 use Rattle.std.proofs.Common.{Ok, Err, subst, sym, Option, false}
-use Rattle.std.specs.Prelude.{nat_eq}
 use Rattle.qcow2_metadata.specs.Blocks.{Block}
 use Rattle.qcow2_alloc.specs.declared.cache.MetadataCaches.{MetadataCaches}
 use Rattle.qcow2_alloc.specs.declared.file.ImageFile.{ImageFile}
 use Rattle.qcow2_alloc.specs.Cache.{Inserted}
-use Rattle.qcow2_alloc.specs.CachesLending.{block_flushes}
+use Rattle.qcow2_alloc.specs.Caches.{cached_file}
+use Rattle.qcow2_alloc.specs.CachesLending.{block_kind}
 use Rattle.qcow2_alloc.specs.Putting.{BlockInserted}
 use Rattle.qcow2_alloc.proofs.Caching.Inserting.{IsBarred}
 use Rattle.qcow2_alloc.proofs.Caching.InsertingBlocks.{block-put-now, block-back}
@@ -20,11 +20,11 @@ returns-in-Ok-Some g c =
     let state = g.S.Storage.state in
     let now = c.rb_put.new.self in
     let old = c.args.self.now in
-    let inserted = subst (λ (o : Option Block). Inserted nat_eq (block_flushes state) old.rb.slots.cap false c.args.cluster c.args.block c.args.file.now old.rb.slots.entries (Ok o) c.rb_put.new.file now.rb.slots.entries) c.in-Ok-Some.field-0-is c.in-Ok-Some.ensures.inserted in
+    let inserted = subst (λ (o : Option Block). Inserted (block_kind state old.rb.slots.cap) false (c.args.cluster, c.args.block) c.args.file.now old.rb.slots.entries (Ok o) c.rb_put.new.file now.rb.slots.entries) c.in-Ok-Some.field-0-is c.in-Ok-Some.ensures.inserted in
     let back = block-back state c.args.cluster c.args.block old now c.args.file.now c.rb_put.new.file c.rb_put.ensures.others c.in-Ok-Some.block inserted in
-    subst (λ (v : Block). BlockInserted state v c.args.cluster old c.args.file.now c.rb_put_over.result c.rb_put_over.new.self c.rb_put_over.new.file) back.1
-    (subst (λ (m : MetadataCaches g.row.S.Denot). BlockInserted state c.in-Ok-Some.block c.args.cluster m c.args.file.now c.rb_put_over.result c.rb_put_over.new.self c.rb_put_over.new.file) back.0.caches
-    (subst (λ (f : ImageFile g.row.S.Denot). BlockInserted state c.in-Ok-Some.block c.args.cluster now f c.rb_put_over.result c.rb_put_over.new.self c.rb_put_over.new.file) back.0.file c.rb_put_over.ensures))
+    subst (λ (v : Block). BlockInserted state c.args.cluster v (cached_file old c.args.file.now) c.rb_put_over.result (cached_file c.rb_put_over.new.self c.rb_put_over.new.file)) back.1
+    (subst (λ (m : MetadataCaches g.row.S.Denot). BlockInserted state c.args.cluster c.in-Ok-Some.block (cached_file m c.args.file.now) c.rb_put_over.result (cached_file c.rb_put_over.new.self c.rb_put_over.new.file)) back.0.caches
+    (subst (λ (f : ImageFile g.row.S.Denot). BlockInserted state c.args.cluster c.in-Ok-Some.block (cached_file now f) c.rb_put_over.result (cached_file c.rb_put_over.new.self c.rb_put_over.new.file)) back.0.file c.rb_put_over.ensures))
 
 pub returns-in-Err : goal.returns-in-Err
 returns-in-Err g c =
