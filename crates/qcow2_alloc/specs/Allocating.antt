@@ -1,5 +1,5 @@
 -- How free clusters are counted, and made room to be counted in.
-use Rattle.std.specs.Prelude.{⊤, ◌==◌, if◌then◌else◌, Bool, true, false, IfOk, ◌≡◌, ◌≢◌, ◌⊎◌, ℕ, ◌+◌, ◌*◌, ◌/◌, ◌%◌, ◌<◌, ◌≤◌, IsTrue, Result, OnOk, Ok, Err, MatchResult, MatchOption, length, slice_index}
+use Rattle.std.specs.Prelude.{⊤, ◌==◌, if◌then◌else◌, Bool, IfOk, ◌≡◌, ◌≢◌, ◌⊎◌, ℕ, ◌+◌, ◌*◌, ◌/◌, ◌%◌, ◌<◌, ◌≤◌, IsTrue, Result, OnOk, Ok, Err, MatchResult, MatchOption, length, slice_index}
 use Rattle.std.specs.List.{sum_by}
 use Rattle.imago_storage.specs.State.{StorageState}
 use Rattle.imago_storage.specs.Calls.{Later, IsFaultless}
@@ -12,6 +12,8 @@ use Rattle.qcow2_types.specs.Switched.{with_refcount_table}
 use Rattle.qcow2_metadata.specs.Tables.{TableValue}
 use Rattle.qcow2_metadata.specs.Blocks.{Block, with_counter}
 use Rattle.qcow2_metadata.specs.Places.{IsInReach}
+use Rattle.qcow2_alloc.specs.declared.allocation.readying_runs.Provision.{Provision}
+use Rattle.qcow2_alloc.specs.declared.allocation.readying_runs.Provision.TheVariants.{Complete, Extended}
 use Rattle.qcow2_alloc.specs.declared.cache.CacheDependency.TheVariants.{L2DependsOnRb}
 use Rattle.qcow2_alloc.specs.Allocators.{named_block, UsesBlock}
 use Rattle.qcow2_alloc.specs.Caches.{CachedFile, order_of, KeepsTables}
@@ -39,8 +41,8 @@ RaisesCluster state table cluster old result new = MatchOption
 abbrev pub OnlyRaised : Metadata → Metadata → Type 0
 OnlyRaised m m' = (c : ℕ) → (counted m' c ≡ counted m c) ⊎ ((counted m c ≡ 0) × (counted m' c ≡ 1))
 
--- Why a call that allocates was refused: as one that counts is, or since there is no place left, of which `full` says what number tells it, and
--- no fault goes before.
+-- Why a call that allocates was refused: as one that counts is, or since there is no place left, of which `full` says what number tells it,
+-- and no fault goes before.
 abbrev pub WhyNotAllocated : Type 0 → (Bool → Type 0) → (ℕ → Type 0) → ℕ → ℕ → Fault → Type 0
 WhyNotAllocated sound loose full before after (Limit number) = full number × (after ≡ before)
 WhyNotAllocated sound loose full before after fault = WhyNotCounted sound loose before after fault
@@ -129,14 +131,14 @@ pub record Allocating {S : Type 0} (state : S → StorageState) (ok : Type 0) (h
   pub loose : (any : Bool) → IsLoose s.table s.caches any → IsLoose s'.table s'.caches any
   pub room : KeepsTables s.caches s'.caches
 
--- The blocks at these indices are made that there aren't, and the answer is whether one was. Words that named a block stay.
-pub record MakesBlocks {S : Type 0} (state : S → StorageState) (first end : ℕ) (s : ImageState S) (result : Result Bool Fault)
-    (s' : ImageState S) : Type 0 where
+-- The blocks at these indices are made that there aren't. Words that named a block stay.
+pub record MakesBlocks {S : Type 0} (state : S → StorageState) (first end : ℕ) (s : ImageState S)
+    (result : Result Provision Fault) (s' : ImageState S) : Type 0 where
   pub step : Allocating state (WasNotCutOff result) (λ _. 0) s s'
   pub named : OnOk result ((i : ℕ) → first ≤ i → i < end → block_offset (slice_index s'.table.words i) ≢ 0)
   pub kept : (i : ℕ) → block_offset (slice_index s.table.words i) ≢ 0 → slice_index s'.table.words i ≡ slice_index s.table.words i
-  pub idle : IfOk result (λ made. made ≡ false → (s'.table ≡ s.table) × (s'.caches ≡ s.caches) × (s'.file ≡ s.file))
-  pub fewer : IfOk result (λ made. made ≡ true → missing s'.table < missing s.table)
+  pub idle : IfOk result (λ provision. provision ≡ Complete → (s'.table ≡ s.table) × (s'.caches ≡ s.caches) × (s'.file ≡ s.file))
+  pub fewer : IfOk result (λ provision. provision ≡ Extended → missing s'.table < missing s.table)
   pub long : length s'.table.words ≡ length s.table.words
   pub layout : s'.table.layout ≡ s.table.layout
   pub placed : s'.table.cluster ≡ s.table.cluster

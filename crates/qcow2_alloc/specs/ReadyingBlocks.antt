@@ -1,5 +1,5 @@
 -- What a run of clusters needs before it can be counted.
-use Rattle.std.specs.Prelude.{◌≡◌, ◌≢◌, ◌⊎◌, ℕ, min, ◌+◌, ◌-◌, ◌*◌, ◌/◌, ◌^◌, ◌<◌, ◌≤◌, ◌++◌, Bool, true, false, Result, Err, IfOk, OnOk, OnErr, MatchResult, length, slice_index}
+use Rattle.std.specs.Prelude.{◌≡◌, ◌≢◌, ◌⊎◌, ℕ, min, ◌+◌, ◌-◌, ◌*◌, ◌/◌, ◌^◌, ◌<◌, ◌≤◌, ◌++◌, Result, Err, IfOk, OnOk, OnErr, MatchResult, length, slice_index}
 use Rattle.imago_storage.specs.State.{StorageState}
 use Rattle.imago_storage.specs.declared.fault.Fault.{Fault}
 use Rattle.imago_storage.specs.declared.fault.Fault.TheVariants.{DamagedTable, Limit}
@@ -8,6 +8,8 @@ use Rattle.qcow2_types.specs.Header.{Fields}
 use Rattle.qcow2_types.specs.Words.{block_offset}
 use Rattle.qcow2_metadata.specs.Places.{IsInReach}
 use Rattle.qcow2_metadata.specs.Tables.{TableValue}
+use Rattle.qcow2_alloc.specs.declared.allocation.readying_runs.Provision.{Provision}
+use Rattle.qcow2_alloc.specs.declared.allocation.readying_runs.Provision.TheVariants.{Complete, Extended}
 use Rattle.qcow2_alloc.specs.Allocating.{Allocating, WhyNotAllocated, missing}
 use Rattle.qcow2_alloc.specs.FillingBlocks.{FillsFrom}
 use Rattle.qcow2_alloc.specs.Freeing.{IsLoose}
@@ -20,8 +22,8 @@ use Rattle.qcow2_alloc.specs.State.{ImageState, metadata, IsGuarded, WhereGuarde
 abbrev pub last_number : (first n : ℕ) → ℕ
 last_number first n = min (first + (n - 1)) (2 ^ 64 - 1)
 
--- Why no run can be counted that begins at a cluster: it is the first of the file, which holds the header, or the run ends too far behind, as
--- its last cluster tells.
+-- Why no run can be counted that begins at a cluster: it is the first of the file, which holds the header, or the run ends too far behind,
+-- as its last cluster tells.
 abbrev pub WhyNotFit : Fields → ℕ → ℕ → Fault → Type 0
 WhyNotFit h n first DamagedTable = first ≡ 0
 WhyNotFit h n first (Limit number) = (number ≡ last_number first n)
@@ -39,7 +41,8 @@ HasMade mark at first last m m' =
     ((last < length m.table.words) × (length m'.table.words ≡ length m.table.words) × FillsFrom mark first (last + 1) m m')
     ⊎ ((length m.table.words ≤ last) × TableGrown mark at m m')
 
--- Why neither could be: words can't name the first cluster that one of the blocks counts, or there is no place for the table, as a number tells.
+-- Why neither could be: words can't name the first cluster that one of the blocks counts, or there is no place for the table, as a number
+-- tells.
 abbrev pub NoneCanBeMade : (mark at first last number : ℕ) → Metadata → Type 0
 NoneCanBeMade mark at first last number m =
     (((i : ℕ) → first ≤ i → i ≤ last → IsInReach m.header.fields.cluster_bits (i * counters_of_block m.header.fields)) → ⊥)
@@ -51,17 +54,19 @@ pub record CountsAsBefore (m m' : Metadata) : Type 0 where
   pub table : m'.table ≡ m.table
   pub counts : (c : ℕ) → counted m' c ≡ counted m c
 
--- The refcount table has a block at each index of a range, or has more than it had: it grows until it holds the index `at` where it has no word for
--- the last of these. The answer is whether it does.
-pub record ReadiesBlocks {S : Type 0} (state : S → StorageState) (mark at first last : ℕ) (s : ImageState S) (result : Result Bool Fault)
-    (s' : ImageState S) : Type 0 where
+-- The refcount table has a block at each index of a range, or has more than it had: it grows until it holds the index `at` where it has
+-- no word for the last of these.
+pub record ReadiesBlocks {S : Type 0} (state : S → StorageState) (mark at first last : ℕ) (s : ImageState S)
+    (result : Result Provision Fault) (s' : ImageState S) : Type 0 where
   pub leaked : ℕ → ℕ
   pub leaks : Leaks (IsGuarded state s) (IsLoose s.table s.caches) result leaked
   pub step : Allocating state (WasNotCutOff result) leaked s s'
-  pub idle : IfOk result (λ made. made ≡ false → (s'.table ≡ s.table) × (s'.caches ≡ s.caches) × (s'.file ≡ s.file))
-  pub ready : IfOk result (λ made. made ≡ false → (i : ℕ) → first ≤ i → i ≤ last → block_offset (slice_index s'.table.words i) ≢ 0)
-  pub further : IfOk result (λ made. made ≡ true → HasMore s.table s'.table)
-  pub made : WhereGuarded state s (IfOk result (λ made. made ≡ true → HasMade mark at first last (metadata state s) (metadata state s')))
+  pub idle : IfOk result (λ provision. provision ≡ Complete → (s'.table ≡ s.table) × (s'.caches ≡ s.caches) × (s'.file ≡ s.file))
+  pub ready : IfOk result (λ provision. provision ≡ Complete
+      → (i : ℕ) → first ≤ i → i ≤ last → block_offset (slice_index s'.table.words i) ≢ 0)
+  pub further : IfOk result (λ provision. provision ≡ Extended → HasMore s.table s'.table)
+  pub made : WhereGuarded state s (IfOk result (λ provision. provision ≡ Extended
+      → HasMade mark at first last (metadata state s) (metadata state s')))
   -- It grows where it has no word for the last, and only then.
   pub once : last < length s.table.words → (s'.pending ≡ s.pending) × (s'.file.header ≡ s.file.header)
       × (length s'.table.words ≡ length s.table.words)

@@ -1,5 +1,5 @@
 -- Blocks are made one behind the other.
-use Rattle.std.proofs.Common.{◌≡◌, ◌≢◌, ℕ, ◌+◌, ◌*◌, ◌<◌, ◌≤◌, refl, arith, ap, sym, subst, ◌∙◌, List, length, Bool, true, false, Result, Ok, Err, inl, inr}
+use Rattle.std.proofs.Common.{◌≡◌, ◌≢◌, ℕ, ◌+◌, ◌*◌, ◌<◌, ◌≤◌, refl, arith, ap, sym, subst, ◌∙◌, List, length, Bool, Result, Ok, Err, inl, inr}
 use Rattle.std.specs.Prelude.{IsTrue, IfOk, OnOk, MatchResult, slice_index, slice_set, ◌==◌, if◌then◌else◌}
 use Rattle.std.specs.List.{sum_by}
 use Rattle.std.proofs.lemmas.Bool.{cases_eq, ne_eqb}
@@ -15,6 +15,8 @@ use Rattle.qcow2_types.specs.Counts.{counters_of_block}
 use Rattle.qcow2_types.specs.Pending.{FreeEntry}
 use Rattle.qcow2_metadata.specs.Places.{IsInReach}
 use Rattle.qcow2_metadata.specs.Tables.{TableValue}
+use Rattle.qcow2_alloc.specs.declared.allocation.readying_runs.Provision.{Provision}
+use Rattle.qcow2_alloc.specs.declared.allocation.readying_runs.Provision.TheVariants.{Complete, Extended}
 use Rattle.qcow2_alloc.specs.declared.cache.CacheDependency.TheVariants.{L2DependsOnRb}
 use Rattle.qcow2_alloc.specs.declared.cache.MetadataCaches.{MetadataCaches}
 use Rattle.qcow2_alloc.specs.declared.file.ImageFile.{ImageFile}
@@ -29,16 +31,16 @@ use Rattle.qcow2_alloc.proofs.Handing.Allocating.{allocating-none, allocating-th
 use Rattle.qcow2_alloc.proofs.Freeing.FreeingEntries.{why-counted-wider}
 
 -- the answer of a call that succeeded
-abbrev pub so : Bool → Result Bool Fault
+abbrev pub so : Provision → Result Provision Fault
 so made = Ok made
 
 -- and of one that was refused
-abbrev pub refused : Fault → Result Bool Fault
+abbrev pub refused : Fault → Result Provision Fault
 refused fault = Err fault
 
 -- what is answered once one more block was made, or wasn't
-abbrev pub made_by : Result Unit Fault → Result Bool Fault
-made_by (Ok done) = Ok true
+abbrev pub made_by : Result Unit Fault → Result Provision Fault
+made_by (Ok done) = Ok Extended
 made_by (Err fault) = Err fault
 
 -- A cause stays one over more calls, as its number tells.
@@ -72,7 +74,7 @@ fewer-missing table table' index inside long none some others =
 
 module _ {S : Type 0} (state : S → StorageState) (pending : List FreeEntry) (first : ℕ) where
   -- None,
-  pub blocks-none : (table : TableValue) (old : MetadataCaches S) (before : ImageFile S) → MakesBlocks state first first (lent table old before pending) (so false) (lent table old before pending)
+  pub blocks-none : (table : TableValue) (old : MetadataCaches S) (before : ImageFile S) → MakesBlocks state first first (lent table old before pending) (so Complete) (lent table old before pending)
   blocks-none table old before = record {
     step = allocating-none state (lent table old before pending);
     named = λ i above below. omega (arith, above, below);
@@ -86,7 +88,7 @@ module _ {S : Type 0} (state : S → StorageState) (pending : List FreeEntry) (f
     cause = refl;
   }
 
-  module _ (c : ℕ) (tA : TableValue) (A : MetadataCaches S) (fA : ImageFile S) (made : Bool) (tB : TableValue) (B : MetadataCaches S) (fB : ImageFile S) (one : MakesBlocks state first c (lent tA A fA pending) (so made) (lent tB B fB pending)) where
+  module _ (c : ℕ) (tA : TableValue) (A : MetadataCaches S) (fA : ImageFile S) (made : Provision) (tB : TableValue) (B : MetadataCaches S) (fB : ImageFile S) (one : MakesBlocks state first c (lent tA A fA pending) (so made) (lent tB B fB pending)) where
     -- one that is there,
     pub blocks-there : block_offset (slice_index tB.words c) ≢ 0 → MakesBlocks state first (c + 1) (lent tA A fA pending) (so made) (lent tB B fB pending)
     blocks-there there = record {
@@ -122,8 +124,8 @@ module _ {S : Type 0} (state : S → StorageState) (pending : List FreeEntry) (f
     }
       where
         step : (r : Result Unit Fault) → Allocating state (WasNotCutOff r) (λ _. 0) (lent tB B fB pending) (lent tC C fC pending) → Allocating state (WasNotCutOff (made_by r)) (λ _. 0) (lent tA A fA pending) (lent tC C fC pending)
-        step (Ok done) more = allocating-as state (WasNotCutOff (so true)) (WasNotCutOff (so true)) (λ d. 0 + 0) (λ _. 0) (lent tA A fA pending) (lent tC C fC pending) (λ w. w) (λ d. omega arith)
-            (allocating-then state (WasNotCutOff (so made)) (WasNotCutOff (so true)) (λ _. 0) (λ _. 0) (lent tA A fA pending) (lent tB B fB pending) (lent tC C fC pending) tt one.step more)
+        step (Ok done) more = allocating-as state (WasNotCutOff (so Extended)) (WasNotCutOff (so Extended)) (λ d. 0 + 0) (λ _. 0) (lent tA A fA pending) (lent tC C fC pending) (λ w. w) (λ d. omega arith)
+            (allocating-then state (WasNotCutOff (so made)) (WasNotCutOff (so Extended)) (λ _. 0) (λ _. 0) (lent tA A fA pending) (lent tB B fB pending) (lent tC C fC pending) tt one.step more)
         step (Err fault) more = allocating-as state (WasNotCutOff (made_by (Err fault))) (WasNotCutOff (made_by (Err fault))) (λ d. 0 + 0) (λ _. 0) (lent tA A fA pending) (lent tC C fC pending) (λ w. w) (λ d. omega arith)
             (allocating-then state (WasNotCutOff (so made)) (WasNotCutOff (made_by (Err fault))) (λ _. 0) (λ _. 0) (lent tA A fA pending) (lent tB B fB pending) (lent tC C fC pending) tt one.step more)
 
@@ -142,15 +144,15 @@ module _ {S : Type 0} (state : S → StorageState) (pending : List FreeEntry) (f
             let same = one.kept i some in
             others i (λ at. some (ap (λ w. block_offset w) (sym same) ∙ subst (λ k. block_offset (slice_index tB.words k) ≡ 0) (sym at) none)) ∙ same
 
-        idle : (r : Result Unit Fault) → IfOk (made_by r) (λ made'. made' ≡ false → (tC ≡ tA) × (C ≡ A) × (fC ≡ fA))
+        idle : (r : Result Unit Fault) → IfOk (made_by r) (λ made'. made' ≡ Complete → (tC ≡ tA) × (C ≡ A) × (fC ≡ fA))
         idle (Ok done) = λ none. absurd (cc)
         idle (Err fault) = tt
 
-        before-fewer : (b : Bool) → (b ≡ false → (tB ≡ tA) × (B ≡ A) × (fB ≡ fA)) → (b ≡ true → missing tB < missing tA) → missing tB ≤ missing tA
-        before-fewer true same less = let lt = less refl in omega (arith, lt)
-        before-fewer false same less = let is = ap (λ (t : TableValue). missing t) (same refl).0 in omega (arith, is)
+        before-fewer : (b : Provision) → (b ≡ Complete → (tB ≡ tA) × (B ≡ A) × (fB ≡ fA)) → (b ≡ Extended → missing tB < missing tA) → missing tB ≤ missing tA
+        before-fewer Extended same less = let lt = less refl in omega (arith, lt)
+        before-fewer Complete same less = let is = ap (λ (t : TableValue). missing t) (same refl).0 in omega (arith, is)
 
-        fewer : (r : Result Unit Fault) → OnOk r (block_offset (slice_index tC.words c) ≢ 0) → IfOk (made_by r) (λ made'. made' ≡ true → missing tC < missing tA)
+        fewer : (r : Result Unit Fault) → OnOk r (block_offset (slice_index tC.words c) ≢ 0) → IfOk (made_by r) (λ made'. made' ≡ Extended → missing tC < missing tA)
         fewer (Ok done) there = λ some.
             let same = one.long in
             let lt = fewer-missing tB tC c (omega (arith, inside, same)) two.long none there others in

@@ -1,5 +1,5 @@
 -- Which clusters blocks take that are made one behind the other.
-use Rattle.std.proofs.Common.{Bool, Ok, ◌≡◌, ◌≢◌, ℕ, ◌+◌, ◌*◌, ◌/◌, ◌<◌, ◌≤◌, refl, arith, ap, sym, subst, ◌∙◌, inl, inr}
+use Rattle.std.proofs.Common.{Ok, ◌≡◌, ◌≢◌, ℕ, ◌+◌, ◌*◌, ◌/◌, ◌<◌, ◌≤◌, refl, arith, ap, sym, subst, ◌∙◌, inl, inr}
 use Rattle.std.specs.Prelude.{IsTrue, slice_index}
 use Rattle.std.proofs.lemmas.Bool.{cases_Bool, cases_eq, cases_lt}
 use Rattle.std.proofs.Math.Nat.{mul-le-mul, div-mul-le_self}
@@ -11,6 +11,7 @@ use Rattle.qcow2_types.specs.Counts.{counters_of_block}
 use Rattle.qcow2_types.specs.Header.{Header}
 use Rattle.qcow2_types.specs.Words.{block_offset}
 use Rattle.qcow2_metadata.specs.Tables.{TableValue}
+use Rattle.qcow2_alloc.specs.declared.allocation.readying_runs.Provision.{Provision}
 use Rattle.qcow2_alloc.specs.declared.cache.CacheDependency.TheVariants.{L2DependsOnRb}
 use Rattle.qcow2_alloc.specs.declared.cache.MetadataCaches.{MetadataCaches}
 use Rattle.qcow2_alloc.specs.declared.file.ImageFile.{ImageFile}
@@ -119,7 +120,7 @@ module _ (mark index : ℕ) (m : Metadata) where
       }
 
 -- One turn of a call that makes blocks.
-module _ {S : Type 0} (state : S → StorageState) (mark : ℕ) (sA : ImageState S) (first c : ℕ) (made : Bool) (tB : TableValue) (B : MetadataCaches S) (fB : ImageFile S) (one : MakesBlocks state first c sA (so made) (lent tB B fB sA.pending)) where
+module _ {S : Type 0} (state : S → StorageState) (mark : ℕ) (sA : ImageState S) (first c : ℕ) (made : Provision) (tB : TableValue) (B : MetadataCaches S) (fB : ImageFile S) (one : MakesBlocks state first c sA (so made) (lent tB B fB sA.pending)) where
   abbrev Start : Metadata
   Start = metadata state sA
 

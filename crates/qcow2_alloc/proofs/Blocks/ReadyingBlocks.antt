@@ -1,5 +1,5 @@
 -- What a run of clusters needs is made, or the refcount table grows.
-use Rattle.std.proofs.Common.{◌≡◌, ◌≢◌, ℕ, ◌+◌, ◌<◌, ◌≤◌, refl, arith, ap, sym, subst, length, Bool, true, false, Result, Ok, Err, inl, inr}
+use Rattle.std.proofs.Common.{◌≡◌, ◌≢◌, ℕ, ◌+◌, ◌<◌, ◌≤◌, refl, arith, ap, sym, subst, length, Bool, true, Result, Ok, Err, inl, inr}
 use Rattle.std.specs.Prelude.{IsTrue, IfOk, OnOk, MatchResult, slice_index, ◌*◌, ◌^◌}
 use Rattle.std.proofs.Math.Nat.{mul-le-mul_right}
 use Rattle.imago_storage.specs.State.{StorageState}
@@ -9,6 +9,8 @@ use Rattle.qcow2_types.specs.Counts.{counters_of_block}
 use Rattle.qcow2_types.specs.Words.{block_offset}
 use Rattle.qcow2_metadata.specs.Places.{IsInReach}
 use Rattle.qcow2_metadata.specs.Tables.{TableValue}
+use Rattle.qcow2_alloc.specs.declared.allocation.readying_runs.Provision.{Provision}
+use Rattle.qcow2_alloc.specs.declared.allocation.readying_runs.Provision.TheVariants.{Complete, Extended}
 use Rattle.qcow2_alloc.specs.declared.cache.CacheDependency.TheVariants.{L2DependsOnRb}
 use Rattle.qcow2_alloc.specs.declared.cache.MetadataCaches.{MetadataCaches}
 use Rattle.qcow2_alloc.specs.declared.file.ImageFile.{ImageFile}
@@ -51,7 +53,7 @@ module _ {S : Type 0} (state : S → StorageState) (mark at first last : ℕ) (s
   Knows P = order_of s.caches ≡ L2DependsOnRb → IsTrue (state s.file.image).shape.keeps → IsSound Start → P
 
   -- The table has words for all: blocks are made.
-  pub blocks-ready : last < length s.table.words → (result : Result Bool Fault) (table' : TableValue) (new : MetadataCaches S) (after : ImageFile S) → MakesBlocks state first (last + 1) s result (lent table' new after s.pending)
+  pub blocks-ready : last < length s.table.words → (result : Result Provision Fault) (table' : TableValue) (new : MetadataCaches S) (after : ImageFile S) → MakesBlocks state first (last + 1) s result (lent table' new after s.pending)
       → Knows (OnOk result (FillsFrom mark first (last + 1) Start (metadata_of state after new table' s.pending))) → ReadiesBlocks state mark at first last s result (lent table' new after s.pending)
   blocks-ready inside result table' new after makes fills = record {
     leaked = λ _. 0;
@@ -68,15 +70,15 @@ module _ {S : Type 0} (state : S → StorageState) (mark at first last : ℕ) (s
     cause = caused result makes.cause;
   }
     where
-      filled : (r : Result Bool Fault) → OnOk r (FillsFrom mark first (last + 1) Start (metadata_of state after new table' s.pending)) → IfOk r (λ made. made ≡ true → HasMade mark at first last Start (metadata_of state after new table' s.pending))
+      filled : (r : Result Provision Fault) → OnOk r (FillsFrom mark first (last + 1) Start (metadata_of state after new table' s.pending)) → IfOk r (λ made. made ≡ Extended → HasMade mark at first last Start (metadata_of state after new table' s.pending))
       filled (Ok made) is = λ some. inl (inside, makes.long, is)
       filled (Err fault) is = tt
 
-      named : (r : Result Bool Fault) → OnOk r ((i : ℕ) → first ≤ i → i < last + 1 → block_offset (slice_index table'.words i) ≢ 0) → IfOk r (λ made. made ≡ false → (i : ℕ) → first ≤ i → i ≤ last → block_offset (slice_index table'.words i) ≢ 0)
+      named : (r : Result Provision Fault) → OnOk r ((i : ℕ) → first ≤ i → i < last + 1 → block_offset (slice_index table'.words i) ≢ 0) → IfOk r (λ made. made ≡ Complete → (i : ℕ) → first ≤ i → i ≤ last → block_offset (slice_index table'.words i) ≢ 0)
       named (Ok made) all = λ idle i above below. all i above (omega (arith, below))
       named (Err fault) all = tt
 
-      more : (r : Result Bool Fault) → IfOk r (λ made. made ≡ true → missing table' < missing s.table) → IfOk r (λ made. made ≡ true → HasMore s.table table')
+      more : (r : Result Provision Fault) → IfOk r (λ made. made ≡ Extended → missing table' < missing s.table) → IfOk r (λ made. made ≡ Extended → HasMore s.table table')
       more (Ok made) fewer = λ some. inr (makes.long, fewer some)
       more (Err fault) fewer = tt
 
@@ -86,7 +88,7 @@ module _ {S : Type 0} (state : S → StorageState) (mark at first last : ℕ) (s
           let more = mul-le-mul_right (2 ^ s.file.header.fields.cluster_bits) le in
           far (omega (arith, near, more)))
 
-      caused : (r : Result Bool Fault)
+      caused : (r : Result Provision Fault)
           → MatchResult r (λ _. (state after.image).faults ≡ (state s.file.image).faults)
           (WhyNotAllocated (IsGuarded state s) (IsLoose s.table s.caches)
           (λ number. (i : ℕ) × (first ≤ i) × (i < last + 1) × (number ≤ i * counters_of_block s.file.header.fields) × (IsInReach s.file.header.fields.cluster_bits number → ⊥)) (state s.file.image).faults (state after.image).faults)
@@ -97,7 +99,7 @@ module _ {S : Type 0} (state : S → StorageState) (mark at first last : ℕ) (s
 
   module _ (past : length s.table.words ≤ last) (s' : ImageState S) where
     -- It hasn't: it grows,
-    pub table-ready : last ≤ at → GrowsTable state mark at s (Ok tt) s' → ReadiesBlocks state mark at first last s (so true) s'
+    pub table-ready : last ≤ at → GrowsTable state mark at s (Ok tt) s' → ReadiesBlocks state mark at first last s (so Extended) s'
     table-ready behind grows = record {
       leaked = grows.leaked;
       leaks = record { none = λ other c. leaks-ok _ _ tt grows.leaked grows.leaks c; pinned = grows.leaks.pinned };

@@ -16,6 +16,7 @@ use Rattle.qcow2_types.specs.Words.{block_offset}
 use Rattle.qcow2_metadata.specs.Growth.{IsGrownLength}
 use Rattle.qcow2_metadata.specs.Places.{IsInReach}
 use Rattle.qcow2_metadata.specs.Tables.{TableValue}
+use Rattle.qcow2_alloc.specs.declared.allocation.readying_runs.Provision.{Provision}
 use Rattle.qcow2_alloc.specs.declared.allocation.handing_out.Readiness.{Readiness}
 use Rattle.qcow2_alloc.specs.declared.allocation.handing_out.Readiness.TheVariants.{Ready, NoPlace}
 use Rattle.qcow2_alloc.specs.declared.cache.CacheDependency.TheVariants.{L2DependsOnRb}
@@ -201,7 +202,7 @@ module _ {S : Type 0} (state : S → StorageState) (mark cluster : ℕ) (s : Ima
       holds-still holds = let quiet = word.did.step.quiet holds.1 in (keeps_on (state s.file.image) (state mid.file.image) quiet.shape holds.0, word.did.step.order ∙ holds.1, (quiet.holds holds.0 holds.2 tt).0)
 
       -- or now there is a block,
-      pub counter-made : (made : Bool) → MakesBlocks state (cluster / k) (cluster / k + 1) mid (so made) (lent table' new after mid.pending)
+      pub counter-made : (made : Provision) → MakesBlocks state (cluster / k) (cluster / k + 1) mid (so made) (lent table' new after mid.pending)
           → (order_of mid.caches ≡ L2DependsOnRb → IsTrue (state mid.file.image).shape.keeps → IsSound (metadata state mid)
           → FillsFrom mark (cluster / k) (cluster / k + 1) (metadata state mid) (metadata_of state after new table' mid.pending))
           → ReadiesCounter state mark cluster s (ready_so Ready) (lent table' new after mid.pending)

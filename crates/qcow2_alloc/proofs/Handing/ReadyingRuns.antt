@@ -1,5 +1,5 @@
 -- A run of clusters is searched for and made ready, turn by turn.
-use Rattle.std.proofs.Common.{◌≡◌, ◌≢◌, ℕ, ◌+◌, ◌-◌, ◌*◌, ◌/◌, ◌^◌, ◌<◌, ◌≤◌, refl, arith, ap, sym, subst, ◌∙◌, ◌++◌, List, length, Bool, true, false, Result, Ok, Err, inl, inr}
+use Rattle.std.proofs.Common.{◌≡◌, ◌≢◌, ℕ, ◌+◌, ◌-◌, ◌*◌, ◌/◌, ◌^◌, ◌<◌, ◌≤◌, refl, arith, ap, sym, subst, ◌∙◌, ◌++◌, List, length, true, Result, Ok, Err, inl, inr}
 use Rattle.std.specs.Prelude.{⊤, ◌⊎◌, min, IsTrue, slice_index, ◌==◌}
 use Rattle.std.proofs.lemmas.Bool.{cases_lt}
 use Rattle.std.proofs.lemmas.List.Sums.{count_by-le-length}
@@ -16,6 +16,8 @@ use Rattle.qcow2_types.specs.Words.{block_offset}
 use Rattle.qcow2_types.proofs.Fields.HeaderLimits.{header-limited}
 use Rattle.qcow2_metadata.specs.Places.{IsInReach}
 use Rattle.qcow2_metadata.specs.Tables.{TableValue}
+use Rattle.qcow2_alloc.specs.declared.allocation.readying_runs.Provision.{Provision}
+use Rattle.qcow2_alloc.specs.declared.allocation.readying_runs.Provision.TheVariants.{Complete, Extended}
 use Rattle.qcow2_alloc.specs.declared.cache.CacheDependency.TheVariants.{L2DependsOnRb}
 use Rattle.qcow2_alloc.specs.declared.cache.MetadataCaches.{MetadataCaches}
 use Rattle.qcow2_alloc.specs.declared.file.ImageFile.{ImageFile}
@@ -126,9 +128,9 @@ module _ {S : Type 0} (state : S → StorageState) (s : ImageState S) where
     }
 
     -- or with what is made,
-    pub readying-made : (mark at first last : ℕ) (made : Bool) (sB : ImageState S) → ReadiesBlocks state mark at first last sA (Ok made) sB → (length s.table.words < length sA.table.words → last < length sA.table.words) → Readying state s sB
+    pub readying-made : (mark at first last : ℕ) (made : Provision) (sB : ImageState S) → ReadiesBlocks state mark at first last sA (Ok made) sB → (length s.table.words < length sA.table.words → last < length sA.table.words) → Readying state s sB
     readying-made mark at first last made sB makes covers = record {
-      step = step-on {T = Bool} (Ok made) (λ _. 0) sB
+      step = step-on {T = Provision} (Ok made) (λ _. 0) sB
           (allocating-as state ⊤ ⊤ makes.leaked (λ _. 0) sA sB (λ whole. whole) (leaks-ok _ _ made makes.leaked makes.leaks) makes.step);
       list = elim (cases_lt last (length sA.table.words)) [
         | inl inside ↦ let still = makes.once inside in elim so_far.list [
@@ -155,7 +157,7 @@ module _ {S : Type 0} (state : S → StorageState) (s : ImageState S) where
         }
 
     pub stays-on : (mark n z first last : ℕ) → 1 ≤ n → (IsGuarded state s → IsFirstRun (counted (metadata state sA)) mark n z) → first ≡ z / counters_of_block sA.file.header.fields → last ≡ (z + (n - 1)) / counters_of_block sA.file.header.fields
-        → Stays mark n sA → (sB : ImageState S) → ReadiesBlocks state mark (last + (n / counters_of_block sA.file.header.fields + 2)) first last sA (Ok true) sB → Stays mark n sB
+        → Stays mark n sA → (sB : ImageState S) → ReadiesBlocks state mark (last + (n / counters_of_block sA.file.header.fields + 2)) first last sA (Ok Extended) sB → Stays mark n sB
     stays-on mark n z first last some run first-is last-is stays sB makes holds =
         let there = holds-on holds in
         let m0 = metadata state s in
@@ -319,7 +321,7 @@ module _ {S : Type 0} (state : S → StorageState) (s : ImageState S) where
               omega (arith, inside, past')
 
       -- and ends where each cluster of the run has a block.
-      module _ (sC : ImageState S) (k last : ℕ) (size : counters_of_block fB.header.fields ≡ k) (at : ℕ) (made : ReadiesBlocks state mark at (z / k) last (lent sA.table B fB sA.pending) (Ok false) sC)
+      module _ (sC : ImageState S) (k last : ℕ) (size : counters_of_block fB.header.fields ≡ k) (at : ℕ) (made : ReadiesBlocks state mark at (z / k) last (lent sA.table B fB sA.pending) (Ok Complete) sC)
           (done : Readying state s sC) where
         pub run-ready : Stays mark n sA → 0 < k → z ≢ 0 → IsInReach fB.header.fields.cluster_bits (z + (n - 1)) → last ≡ (z + (n - 1)) / k → ReadiesRun state mark n s (Ok z) sC
         run-ready stays wide apart reach at = record {

@@ -268,7 +268,7 @@ impl Allocator {
             return Ok(Readiness::NoPlace);
         }
         let index = cluster.rt_index(file.header.rb_bits());
-        let _made = self.ensure_blocks(file, caches, index, index + 1)?;
+        let _provision = self.ensure_blocks(file, caches, index, index + 1)?;
         Ok(Readiness::Ready)
     }
 

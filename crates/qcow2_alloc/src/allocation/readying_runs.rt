@@ -21,15 +21,24 @@ use imago_storage::{Fault, Storage};
 use qcow2_metadata::{Header, RefTable, Table};
 use qcow2_types::HostCluster;
 
+// Whether what counts some clusters was all there, or something was made for that: blocks, or a longer refcount table.
+#[derive(Clone, Copy, Drop)]
+pub(crate) enum Provision {
+    // All was there.
+    Complete,
+    // Something was made.
+    Extended,
+}
+
 impl Allocator {
-    // Makes the blocks from an index to before another that there aren't yet. It answers whether one was made.
+    // Makes the blocks from an index to before another that there aren't yet.
     pub(crate) fn ensure_blocks<S: Storage>(
         &mut self,
         file: &mut ImageFile<S>,
         caches: &mut MetadataCaches<S>,
         first: usize,
         end: usize,
-    ) -> Result<bool, Fault>
+    ) -> Result<Provision, Fault>
         requires order { first ≤ end }
         requires inside { end ≤ length (table_of self.old).words }
         ensures makes { (pending : List FreeEntry)
@@ -41,20 +50,20 @@ impl Allocator {
             (metadata_of S.state file.new caches.new (table_of self.new) pending)) }
         ensures mark { mark_of self.new ≡ mark_of self.old }
     {
-        let mut made = false;
+        let mut provision = Provision::Complete;
         for index in first..end {
             if self.block_cluster(index).is_none() {
                 self.make_block(file, caches, index)?;
-                made = true;
+                provision = Provision::Extended;
             }
         }
-        Ok(made)
+        Ok(provision)
     }
 
     // Finds the first run of so many clusters, from the mark on, that aren't counted, and sees to it that each has a block. A block or
     // a table that is made for that takes clusters itself, so the run is searched for again then. The table grows once at most: where there
-    // is room, one that has grown counts the run that is found then. A refusal for want of room tells the run's last cluster, or what a growth
-    // of the table does.
+    // is room, one that has grown counts the run that is found then. A refusal for want of room tells the run's last cluster, or what a
+    // growth of the table does.
     pub(super) fn ready_run<S: Storage>(
         &mut self,
         file: &mut ImageFile<S>,
@@ -76,7 +85,14 @@ impl Allocator {
                 return Err(Fault::Limit(first.0.saturating_add(count - 1)));
             }
             let first_index = first.rt_index(file.header.rb_bits());
-            if !self.ready_blocks(file, caches, list, first_index, last_index, count)? {
+            if let Provision::Complete = self.ready_blocks(
+                file,
+                caches,
+                list,
+                first_index,
+                last_index,
+                count,
+            )? {
                 return Ok(first);
             }
         }
@@ -91,7 +107,7 @@ impl Allocator {
     }
 
     // Makes the blocks that there aren't yet from an index to another, where the refcount table has words for them, and else lets it grow:
-    // for a run of so many clusters, and beyond, as it takes clusters itself. It answers whether it did anything.
+    // for a run of so many clusters, and beyond, as it takes clusters itself.
     fn ready_blocks<S: Storage>(
         &mut self,
         file: &mut ImageFile<S>,
@@ -100,7 +116,7 @@ impl Allocator {
         first: usize,
         last: usize,
         count: u64,
-    ) -> Result<bool, Fault>
+    ) -> Result<Provision, Fault>
         requires order { first ≤ last }
         requires few { last < 2 ^ 20 }
         ensures readies { ReadiesBlocks S.state (mark_of self.old)
@@ -115,7 +131,7 @@ impl Allocator {
         }
         let spare = count / file.header.rb_entries() as u64 + 2;
         self.grow_table(file, caches, list, last + spare as usize)?;
-        Ok(true)
+        Ok(Provision::Extended)
     }
 }
 

@@ -1,6 +1,8 @@
-use Rattle.std.proofs.Common.{◌≡◌, ◌+◌, ℕ, List, Option, Bool, true, [], refl, arith, subst, sym, ap, ◌∙◌}
+use Rattle.std.proofs.Common.{◌≡◌, ◌+◌, ℕ, List, Option, [], refl, arith, subst, sym, ap, ◌∙◌}
 use Rattle.std.specs.Option.{is_some}
 use Rattle.qcow2_types.specs.Pending.{FreeEntry}
+use Rattle.qcow2_alloc.specs.declared.allocation.readying_runs.Provision.{Provision}
+use Rattle.qcow2_alloc.specs.declared.allocation.readying_runs.Provision.TheVariants.{Extended}
 use Rattle.qcow2_alloc.specs.declared.allocation.Allocator.{Allocator}
 use Rattle.qcow2_alloc.specs.declared.cache.MetadataCaches.{MetadataCaches}
 use Rattle.qcow2_alloc.specs.declared.file.ImageFile.{ImageFile}
@@ -42,7 +44,7 @@ returns-in_err-make_block-clause-makes g c = rw (handed-on _ _ c.from_residual.e
     let inside = c.requires.inside in
     let test = c.loop-index-test.true in
     blocks-within g.S.Storage.state pending c.args.first (l.index + 1) c.args.end (omega (arith, test)) (table_of c.args.self.now) c.args.caches.now c.args.file.now c.in_err-make_block.field-0.0 (table_of new.self) new.caches new.file
-    (blocks-then g.S.Storage.state pending c.args.first l.index (table_of c.args.self.now) c.args.caches.now c.args.file.now l.made (table_of l.self) l.caches l.file (l.invariant.0 pending) (omega (arith, inside, test))
+    (blocks-then g.S.Storage.state pending c.args.first l.index (table_of c.args.self.now) c.args.caches.now c.args.file.now l.provision (table_of l.self) l.caches l.file (l.invariant.0 pending) (omega (arith, inside, test))
     (named-none (table_of l.self) l.index (ap (λ (o : Option ℕ). is_some o) (sym c.block_cluster.ensures) ∙ c.if-is_none.ensures)) l.auto.index (failed c.in_err-make_block.field-0.0) (table_of new.self) new.caches new.file (c.in_err-make_block.ensures.makes pending)))
 
 pub loop-index-preserved : goal.loop-index-preserved
@@ -52,12 +54,12 @@ loop-index-preserved g c = elim c.if-is_none.branch [
       let new = w.make_block.new in
       let inside = c.requires.inside in
       let test = c.loop-index-test.true in
-      so_still true new.self new.caches new.file w.made-is w.self-is w.caches-is w.file-is (
-        (λ pending. blocks-then g.S.Storage.state pending c.args.first l.index (table_of c.args.self.now) c.args.caches.now c.args.file.now l.made (table_of l.self) l.caches l.file (l.invariant.0 pending) (omega (arith, inside, test))
+      so_still Extended new.self new.caches new.file w.provision-is w.self-is w.caches-is w.file-is (
+        (λ pending. blocks-then g.S.Storage.state pending c.args.first l.index (table_of c.args.self.now) c.args.caches.now c.args.file.now l.provision (table_of l.self) l.caches l.file (l.invariant.0 pending) (omega (arith, inside, test))
             (named-none (table_of l.self) l.index (ap (λ (o : Option ℕ). is_some o) (sym c.block_cluster.ensures) ∙ w.if-is_none.ensures)) l.auto.index succeeded (table_of new.self) new.caches new.file (w.in_ok-make_block.ensures.makes pending)),
         w.in_ok-make_block.ensures.mark ∙ l.invariant.1,
         λ pending order keeps sound.
-            turn-fills g.S.Storage.state (mark_of c.args.self.now) (lent (table_of c.args.self.now) c.args.caches.now c.args.file.now pending) c.args.first l.index l.made (table_of l.self) l.caches l.file (l.invariant.0 pending)
+            turn-fills g.S.Storage.state (mark_of c.args.self.now) (lent (table_of c.args.self.now) c.args.caches.now c.args.file.now pending) c.args.first l.index l.provision (table_of l.self) l.caches l.file (l.invariant.0 pending)
             (named-none (table_of l.self) l.index (ap (λ (o : Option ℕ). is_some o) (sym c.block_cluster.ensures) ∙ w.if-is_none.ensures)) l.auto.index (table_of new.self) new.caches new.file (w.in_ok-make_block.ensures.makes pending)
             (subst (λ (m : ℕ). order_of l.caches ≡ L2DependsOnRb → IsTrue (g.S.Storage.state l.file.image).shape.keeps → IsSound (metadata_of g.S.Storage.state l.file l.caches (table_of l.self) pending)
             → IsBlockPlaced m l.index (metadata_of g.S.Storage.state l.file l.caches (table_of l.self) pending) (metadata_of g.S.Storage.state new.file new.caches (table_of new.self) pending)) l.invariant.1 (w.in_ok-make_block.ensures.placed pending))
@@ -65,22 +67,22 @@ loop-index-preserved g c = elim c.if-is_none.branch [
       )
   | else-is_none w ↦
       let l = c.loop-index in
-      so_still l.made l.self l.caches l.file w.made-is w.self-is w.caches-is w.file-is (
-        (λ pending. blocks-there g.S.Storage.state pending c.args.first l.index (table_of c.args.self.now) c.args.caches.now c.args.file.now l.made (table_of l.self) l.caches l.file (l.invariant.0 pending) (named-some (table_of l.self) l.index (ap (λ (o : Option ℕ). is_some o) (sym c.block_cluster.ensures) ∙ w.if-is_none.ensures))),
+      so_still l.provision l.self l.caches l.file w.provision-is w.self-is w.caches-is w.file-is (
+        (λ pending. blocks-there g.S.Storage.state pending c.args.first l.index (table_of c.args.self.now) c.args.caches.now c.args.file.now l.provision (table_of l.self) l.caches l.file (l.invariant.0 pending) (named-some (table_of l.self) l.index (ap (λ (o : Option ℕ). is_some o) (sym c.block_cluster.ensures) ∙ w.if-is_none.ensures))),
         l.invariant.1,
         λ pending order keeps sound. fills-there (mark_of c.args.self.now) c.args.first (metadata_of g.S.Storage.state c.args.file.now c.args.caches.now (table_of c.args.self.now) pending) l.index (metadata_of g.S.Storage.state l.file l.caches (table_of l.self) pending) (l.invariant.2 pending order keeps sound),
       )
 ]
   where
-    P : Bool → Allocator → MetadataCaches g.row.S.Denot → ImageFile g.row.S.Denot → Type 0
+    P : Provision → Allocator → MetadataCaches g.row.S.Denot → ImageFile g.row.S.Denot → Type 0
     P b s ca f = ((pending : List FreeEntry) → MakesBlocks g.S.Storage.state c.args.first (c.loop-index.index + 1) (lent (table_of c.args.self.now) c.args.caches.now c.args.file.now pending) (so b) (lent (table_of s) ca f pending)) × (mark_of s ≡ mark_of c.args.self.now)
         × ((pending : List FreeEntry) → order_of c.args.caches.now ≡ L2DependsOnRb → IsTrue (g.S.Storage.state c.args.file.now.image).shape.keeps → IsSound (metadata_of g.S.Storage.state c.args.file.now c.args.caches.now (table_of c.args.self.now) pending)
         → FillsFrom (mark_of c.args.self.now) c.args.first (c.loop-index.index + 1) (metadata_of g.S.Storage.state c.args.file.now c.args.caches.now (table_of c.args.self.now) pending) (metadata_of g.S.Storage.state f ca (table_of s) pending))
 
-    so_still : (b : Bool) (s : Allocator) (ca : MetadataCaches g.row.S.Denot) (f : ImageFile g.row.S.Denot) → c.if-is_none.made ≡ b → c.if-is_none.self ≡ s → c.if-is_none.caches ≡ ca → c.if-is_none.file ≡ f → P b s ca f
-        → P c.if-is_none.made c.if-is_none.self c.if-is_none.caches c.if-is_none.file
+    so_still : (b : Provision) (s : Allocator) (ca : MetadataCaches g.row.S.Denot) (f : ImageFile g.row.S.Denot) → c.if-is_none.provision ≡ b → c.if-is_none.self ≡ s → c.if-is_none.caches ≡ ca → c.if-is_none.file ≡ f → P b s ca f
+        → P c.if-is_none.provision c.if-is_none.self c.if-is_none.caches c.if-is_none.file
     so_still b s ca f made self caches file known =
-        subst (λ (x : Bool). P x c.if-is_none.self c.if-is_none.caches c.if-is_none.file) (sym made)
+        subst (λ (x : Provision). P x c.if-is_none.self c.if-is_none.caches c.if-is_none.file) (sym made)
         (subst (λ (x : Allocator). P b x c.if-is_none.caches c.if-is_none.file) (sym self)
         (subst (λ (x : MetadataCaches g.row.S.Denot). P b s x c.if-is_none.file) (sym caches)
         (subst (λ (x : ImageFile g.row.S.Denot). P b s ca x) (sym file) known)))
@@ -91,7 +93,7 @@ returns-clause-makes g c = λ pending.
     let past = c.loop-index-test.false in
     let end = l.auto.index-end c.requires.order in
     let all : l.index ≡ c.args.end = omega (arith, past, end) in
-    subst (λ (n : ℕ). MakesBlocks g.S.Storage.state c.args.first n (lent (table_of c.args.self.now) c.args.caches.now c.args.file.now pending) (so l.made) (lent (table_of l.self) l.caches l.file pending)) all (l.invariant.0 pending)
+    subst (λ (n : ℕ). MakesBlocks g.S.Storage.state c.args.first n (lent (table_of c.args.self.now) c.args.caches.now c.args.file.now pending) (so l.provision) (lent (table_of l.self) l.caches l.file pending)) all (l.invariant.0 pending)
 
 pub returns-clause-fills : goal.returns-clause-fills
 returns-clause-fills g c = λ pending order keeps sound.

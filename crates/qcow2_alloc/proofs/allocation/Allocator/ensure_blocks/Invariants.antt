@@ -12,6 +12,6 @@ use Rattle.qcow2_alloc.proofs.Blocks.EnsuringBlocks.{so}
 use Rattle.qcow2_alloc.proofs.allocation.Allocator.ensure_blocks.Given as goal
 
 abbrev pub invariant-loop-index : goal.invariant-loop-index
-invariant-loop-index g l = ((pending : List FreeEntry) → MakesBlocks g.S.Storage.state l.fn.first l.index (lent (table_of l.fn.self) l.fn.caches l.fn.file pending) (so l.made) (lent (table_of l.self) l.caches l.file pending)) × (mark_of l.self ≡ mark_of l.fn.self)
+invariant-loop-index g l = ((pending : List FreeEntry) → MakesBlocks g.S.Storage.state l.fn.first l.index (lent (table_of l.fn.self) l.fn.caches l.fn.file pending) (so l.provision) (lent (table_of l.self) l.caches l.file pending)) × (mark_of l.self ≡ mark_of l.fn.self)
     × ((pending : List FreeEntry) → order_of l.fn.caches ≡ L2DependsOnRb → IsTrue (g.S.Storage.state l.fn.file.image).shape.keeps → IsSound (metadata_of g.S.Storage.state l.fn.file l.fn.caches (table_of l.fn.self) pending)
     → FillsFrom (mark_of l.fn.self) l.fn.first l.index (metadata_of g.S.Storage.state l.fn.file l.fn.caches (table_of l.fn.self) pending) (metadata_of g.S.Storage.state l.file l.caches (table_of l.self) pending))

@@ -2,6 +2,8 @@ use Rattle.std.proofs.Common.{◌≡◌, ◌<◌, ◌≤◌, ◌/◌, ◌^◌, �
 use Rattle.std.proofs.lemmas.Bool.{cases_lt}
 use Rattle.imago_storage.specs.declared.fault.Fault.TheVariants.{Limit}
 use Rattle.qcow2_types.specs.Counts.{counters_of_block}
+use Rattle.qcow2_alloc.specs.declared.allocation.readying_runs.Provision.{Provision}
+use Rattle.qcow2_alloc.specs.declared.allocation.readying_runs.Provision.TheVariants.{Complete, Extended}
 use Rattle.qcow2_alloc.specs.Allocators.{table_of, mark_of}
 use Rattle.qcow2_alloc.specs.ReadyingBlocks.{ReadiesBlocks, last_number}
 use Rattle.qcow2_alloc.specs.ReadyingRuns.{ReadiesRun}
@@ -70,7 +72,7 @@ pub loop-first-smaller : goal.loop-first-smaller
 loop-first-smaller g c =
     let l = c.loop-first in
     let made = c.in_ok-ready_blocks.ensures in
-    turns-fewer (table_of l.self) (table_of c.ready_blocks.new.self) made.short (made.readies.further c.if-not-branch.false)
+    turns-fewer (table_of l.self) (table_of c.ready_blocks.new.self) made.short (made.readies.further c.in_default.is)
 
 pub loop-first-preserved : goal.loop-first-preserved
 loop-first-preserved g c =
@@ -89,9 +91,9 @@ loop-first-preserved g c =
     let kept = stays-found state s so_far l.invariant.0 (mark_of l.self) c.args.count c.in_ok-first.first c.requires.some searched.caches searched.file c.in_ok-first.ensures
     (subst (λ (m : ℕ). Stays state s m c.args.count so_far) (sym l.invariant.1) l.invariant.4) in
     let index : c.rt_index-first_index.result ≡ c.in_ok-first.first / k = c.rt_index-first_index.ensures ∙ ap (λ (m : ℕ). c.in_ok-first.first / m) bits.entries in
-    let readies = subst (λ (b : Bool). ReadiesBlocks state (mark_of l.self) at c.rt_index-first_index.result c.in_ok-last_index.last_index (seen l.self searched.caches searched.file l.list) (Ok b) s') c.if-not-branch.false made.readies in (
+    let readies = subst (λ (b : Provision). ReadiesBlocks state (mark_of l.self) at c.rt_index-first_index.result c.in_ok-last_index.last_index (seen l.self searched.caches searched.file l.list) (Ok b) s') c.in_default.is made.readies in (
       readying-made state s (seen l.self searched.caches searched.file l.list) found
-          (mark_of l.self) at c.rt_index-first_index.result c.in_ok-last_index.last_index true s' readies
+          (mark_of l.self) at c.rt_index-first_index.result c.in_ok-last_index.last_index Extended s' readies
           (covers _ (length (table_of l.self).words) c.in_ok-last_index.last_index (length (table_of c.args.self.now).words) c.has_grown_short_of.result c.if-has_grown_short_of.false (λ a b. c.has_grown_short_of.ensures.1 (a, b)) l.invariant.3),
       made.mark ∙ l.invariant.1,
       made.held ∙ l.invariant.2,
@@ -102,8 +104,8 @@ loop-first-preserved g c =
           index c.in_ok-last_index.ensures.index kept s' readies),
     )
 
-pub returns-then-not-branch-clause-readies : goal.returns-then-not-branch-clause-readies
-returns-then-not-branch-clause-readies g c =
+pub returns-in-Complete-clause-readies : goal.returns-in-Complete-clause-readies
+returns-in-Complete-clause-readies g c =
     let s = seen c.args.self.now c.args.caches.now c.args.file.now c.args.list.now in
     let state = g.S.Storage.state in
     let l = c.loop-first in
@@ -122,9 +124,9 @@ returns-then-not-branch-clause-readies g c =
     let done = readying-made state s (seen l.self searched.caches searched.file l.list) found
     (mark_of l.self) at c.rt_index-first_index.result c.in_ok-last_index.last_index c.in_ok-ready_blocks.field-0 s' made.readies
     (covers _ (length (table_of l.self).words) c.in_ok-last_index.last_index (length (table_of c.args.self.now).words) c.has_grown_short_of.result c.if-has_grown_short_of.false (λ a b. c.has_grown_short_of.ensures.1 (a, b)) l.invariant.3) in
-    let none : ReadiesBlocks state (mark_of l.self) at (c.in_ok-first.first / k) c.in_ok-last_index.last_index (seen l.self searched.caches searched.file l.list) (Ok false) s' =
-    subst (λ (m : ℕ). ReadiesBlocks state (mark_of l.self) at m c.in_ok-last_index.last_index (seen l.self searched.caches searched.file l.list) (Ok false) s') index
-    (subst (λ (b : Bool). ReadiesBlocks state (mark_of l.self) at c.rt_index-first_index.result c.in_ok-last_index.last_index (seen l.self searched.caches searched.file l.list) (Ok b) s') c.if-not-branch.true made.readies) in
+    let none : ReadiesBlocks state (mark_of l.self) at (c.in_ok-first.first / k) c.in_ok-last_index.last_index (seen l.self searched.caches searched.file l.list) (Ok Complete) s' =
+    subst (λ (m : ℕ). ReadiesBlocks state (mark_of l.self) at m c.in_ok-last_index.last_index (seen l.self searched.caches searched.file l.list) (Ok Complete) s') index
+    (subst (λ (b : Provision). ReadiesBlocks state (mark_of l.self) at c.rt_index-first_index.result c.in_ok-last_index.last_index (seen l.self searched.caches searched.file l.list) (Ok b) s') c.in-Complete.is made.readies) in
     subst (λ (m : ℕ). ReadiesRun state m c.args.count s (Ok c.in_ok-first.first) s') l.invariant.1
     (run-ready state s so_far l.invariant.0 (mark_of l.self) c.args.count c.in_ok-first.first c.requires.some searched.caches searched.file c.in_ok-first.ensures
     s' k c.in_ok-last_index.last_index refl at none done
