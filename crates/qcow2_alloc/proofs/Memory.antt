@@ -6,6 +6,7 @@ pub mod MemoryImage
 pub mod ChangingCounters
 pub mod ChangingWords
 pub mod DroppingNames
+pub mod KeptEntries
 pub mod WordsKept
 pub mod FreeRuns
 pub mod StructureWrites

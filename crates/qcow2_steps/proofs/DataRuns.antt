@@ -20,7 +20,8 @@ use Rattle.qcow2_alloc.specs.Quiet.{Metadata, IsSound, IsUsed, in_memory, named_
 use Rattle.qcow2_alloc.specs.Safety.{IsCachedBlock, Safe}
 use Rattle.qcow2_alloc.proofs.Memory.FreeRuns.{over-agrees}
 use Rattle.qcow2_alloc.proofs.Memory.Patches.{all-weaker, place-there}
-use Rattle.qcow2_alloc.proofs.Memory.WordsKept.{block-fits, copied-stays, counters-same, named-more, ordered-still, table-fits}
+use Rattle.qcow2_alloc.proofs.Memory.KeptEntries.{counters-same, table-fits}
+use Rattle.qcow2_alloc.proofs.Memory.WordsKept.{block-fits, copied-stays, named-more, ordered-still}
 use Rattle.qcow2_alloc.proofs.Quiet.QuietFlushes.{still-table}
 use Rattle.qcow2_steps.specs.Data.{KeepsWords, WritesBeside}
 use Rattle.qcow2_steps.specs.Words.{IsReserved}
@@ -78,7 +79,7 @@ module _ (m : Metadata) (sound : IsSound m) (c k at n : ℕ) (x : Bytes) (writes
     consistent = in-file.consistent;
     tables_apart = sound.safe.tables_apart;
     blocks_apart = sound.safe.blocks_apart;
-    tables = all-weaker _ _ (λ e is. table-fits m.file x m.header.fields m.header.fields.refcount_table_offset m.header.fields.refcount_table_clusters in-file.keeps.places.l1 (λ i j live. in-file.kept.words i j live (λ e. cc)) e.0 e.1.value is) m.cached.tables sound.safe.tables;
+    tables = all-weaker _ _ (λ e is. table-fits m.file x m.header.fields m.header.fields.refcount_table_offset m.header.fields.refcount_table_clusters in-file.keeps.places.l1 e.0 (λ i j at live. in-file.kept.words i j live (λ e. cc)) e.1.value is) m.cached.tables sound.safe.tables;
     blocks = all-weaker _ _ (λ e is. block-still e.0 e.1.value is) m.cached.blocks sound.safe.blocks;
     apart = λ d some.
         let base = structure-same m.file x m.header.fields in-file.keeps.places (meets m.header.fields d) in

@@ -34,7 +34,8 @@ use Rattle.qcow2_alloc.proofs.Memory.FreeRuns.{over-agrees}
 use Rattle.qcow2_alloc.proofs.Memory.MemoryImage.{range-stays}
 use Rattle.qcow2_alloc.proofs.Memory.Patches.{all-weaker, patches-are, place-there}
 use Rattle.qcow2_alloc.proofs.Memory.StructureWrites.{memory-start, unmet-stays}
-use Rattle.qcow2_alloc.proofs.Memory.WordsKept.{counters-same, ordered-still}
+use Rattle.qcow2_alloc.proofs.Memory.KeptEntries.{counters-same}
+use Rattle.qcow2_alloc.proofs.Memory.WordsKept.{ordered-still}
 use Rattle.qcow2_alloc.proofs.Quiet.QuietEntries.{metadata-among}
 use Rattle.qcow2_alloc.proofs.Quiet.QuietShows.{in-cluster, memory-same, named-apart}
 use Rattle.qcow2_steps.specs.Advancing.{Advances}

@@ -31,7 +31,8 @@ use Rattle.qcow2_alloc.specs.Safety.{IsCachedBlock, IsCachedTable, Safe}
 use Rattle.qcow2_alloc.proofs.Memory.MemoryWords.{slot-same}
 use Rattle.qcow2_alloc.proofs.Memory.Patches.{all-both, all-weaker, place-there, places-differ}
 use Rattle.qcow2_alloc.proofs.Memory.StructureWrites.{memory-beside, unmet-stays}
-use Rattle.qcow2_alloc.proofs.Memory.WordsKept.{block-fits, counters-same, ordered-still}
+use Rattle.qcow2_alloc.proofs.Memory.KeptEntries.{counters-same}
+use Rattle.qcow2_alloc.proofs.Memory.WordsKept.{block-fits, ordered-still}
 use Rattle.qcow2_alloc.proofs.Freeing.Lists.{map-same}
 use Rattle.qcow2_alloc.proofs.Quiet.QuietEntries.{metadata-among}
 use Rattle.qcow2_alloc.proofs.Quiet.QuietFlushes.{still-table}

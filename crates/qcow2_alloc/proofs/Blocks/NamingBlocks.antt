@@ -41,7 +41,8 @@ use Rattle.qcow2_alloc.proofs.Quiet.QuietCounters.{here-one, away-none}
 use Rattle.qcow2_alloc.proofs.Quiet.QuietEntries.{metadata-among}
 use Rattle.qcow2_alloc.proofs.Quiet.QuietShows.{from-start, mapping-meets, in-cluster, memory-same}
 use Rattle.qcow2_alloc.proofs.Memory.StructureWrites.{memory-beside, unmet-stays}
-use Rattle.qcow2_alloc.proofs.Memory.WordsKept.{word-contents, structure-named, named-more, copied-stays, ordered-still, table-fits, block-fits, counters-same}
+use Rattle.qcow2_alloc.proofs.Memory.KeptEntries.{table-fits, counters-same}
+use Rattle.qcow2_alloc.proofs.Memory.WordsKept.{word-contents, structure-named, named-more, copied-stays, ordered-still, block-fits}
 
 -- Where there is no block nothing is counted.
 pub count-none : (f : Bytes) (h : Fields) (c : ℕ) → block_at f h (c / counters_of_block h) ≡ 0 → count f h c ≡ 0
@@ -232,7 +233,7 @@ module _ (m : Metadata) (i d : ℕ) (modified : Bool) (sound : IsSound m) (ready
     consistent = in-file.consistent;
     tables_apart = sound.safe.tables_apart;
     blocks_apart = sound.safe.blocks_apart;
-    tables = all-weaker _ _ (λ e is. table-fits f x h h.refcount_table_offset h.refcount_table_clusters in-file.tables (λ k j live. in-file.kept.words k j live (λ e. cc)) e.0 e.1.value is) m.cached.tables sound.safe.tables;
+    tables = all-weaker _ _ (λ e is. table-fits f x h h.refcount_table_offset h.refcount_table_clusters in-file.tables e.0 (λ k j at live. in-file.kept.words k j live (λ e. cc)) e.1.value is) m.cached.tables sound.safe.tables;
     blocks = all-weaker _ _ (λ e both. block-still e.0 e.1.value both.1 both.0) m.cached.blocks (all-both _ _ m.cached.blocks sound.safe.blocks ready.cached);
     apart = λ c some.
         let base = structure-more c in

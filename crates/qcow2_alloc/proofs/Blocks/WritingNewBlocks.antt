@@ -38,7 +38,8 @@ use Rattle.qcow2_alloc.proofs.Memory.Patches.{shaped-in}
 use Rattle.qcow2_alloc.proofs.Quiet.QuietFlushes.{memory-quietly, quiet-none}
 use Rattle.qcow2_alloc.proofs.Quiet.QuietGiven.{quietly-then-given}
 use Rattle.qcow2_alloc.proofs.Quiet.QuietThen.{quietly-otherwise, quiet-otherwise}
-use Rattle.qcow2_alloc.proofs.Memory.WordsKept.{structure-named, counters-same}
+use Rattle.qcow2_alloc.proofs.Memory.KeptEntries.{counters-same}
+use Rattle.qcow2_alloc.proofs.Memory.WordsKept.{structure-named}
 
 -- What is known of the faults of a write.
 pub put-counts : (old new : StorageState) (at : ℕ) (bytes : List ℕ) (result : Result Unit Fault) → Put old new at bytes result → MatchResult result (λ _. new.faults ≡ old.faults) (Cause old.faults new.faults)

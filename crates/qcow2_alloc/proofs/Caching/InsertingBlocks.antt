@@ -91,7 +91,7 @@ module _ {S : Type 0} (state : S → StorageState) (cluster : ℕ) (block : Bloc
       → IsNewBlock (bytes_of (state before.image).bytes) before.header.fields cluster block (cached_in old).blocks → (b : StorageState)
       → IsLeft (bytes_of (state before.image).bytes) (memory (bytes_of (state before.image).bytes) before.header.fields (cached_in old)) before.header (bytes_of b.bytes)
       → (block.modified ≡ false) × IsCachedBlock (bytes_of b.bytes) before.header.fields cluster block
-  fresh-stays old before safe fresh b left = (fresh.clean, block-stays (bytes_of (state before.image).bytes) before.header (order_of old) (cached_in old) safe (bytes_of b.bytes) left cluster block fresh.free fresh.clean fresh.fits)
+  fresh-stays old before safe fresh b left = (fresh.clean, block-stays (bytes_of (state before.image).bytes) before.header (order_of old) (cached_in old) safe (bytes_of b.bytes) left cluster block fresh.free fresh.fits)
 
   -- What is put without leave to flush
   module _ (old new : MetadataCaches S) (before after : ImageFile S) (same : new ≡ with_blocks old new.rb.slots.entries) where

@@ -90,7 +90,7 @@ module _ {S : Type 0} (state : S → StorageState) (cluster : ℕ) (table : Tabl
       → IsNewTable (bytes_of (state before.image).bytes) before.header.fields cluster table (cached_in old).tables → (b : StorageState)
       → IsLeft (bytes_of (state before.image).bytes) (memory (bytes_of (state before.image).bytes) before.header.fields (cached_in old)) before.header (bytes_of b.bytes)
       → (table.modified ≡ false) × IsCachedTable (bytes_of b.bytes) before.header.fields cluster table
-  fresh-stays old before safe fresh b left = (fresh.clean, table-stays (bytes_of (state before.image).bytes) before.header (order_of old) (cached_in old) safe (bytes_of b.bytes) left cluster table fresh.free fresh.clean fresh.fits)
+  fresh-stays old before safe fresh b left = (fresh.clean, table-stays (bytes_of (state before.image).bytes) before.header (order_of old) (cached_in old) safe (bytes_of b.bytes) left cluster table fresh.free fresh.fits)
 
   -- What is put without leave to flush
   module _ (old new : MetadataCaches S) (before after : ImageFile S) (same : new ≡ with_tables old new.l2.slots.entries) where

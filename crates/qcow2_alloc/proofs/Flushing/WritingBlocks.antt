@@ -2,14 +2,13 @@
 use Rattle.std.proofs.Common.{◌≡◌, ◌≢◌, ℕ, ◌+◌, ◌-◌, ◌*◌, ◌/◌, ◌^◌, ◌<◌, ◌≤◌, refl, arith, ap, sym, subst, ◌∙◌, List, ◌∷◌, length, true, false, inl, inr}
 use Rattle.std.specs.Prelude.{Some, ◌⊎◌, nat_eq, slice_index}
 use Rattle.std.specs.List.{AllByRecursion, IsDistinct}
-use Rattle.std.proofs.lemmas.Bool.{cases_lt, cases_eq}
+use Rattle.std.proofs.lemmas.Bool.{cases_eq}
 use Rattle.std.proofs.lemmas.Nat.{pow_pos}
 use Rattle.std.proofs.lemmas.Grind.{same_number_lists}
 use Rattle.std.proofs.lemmas.List.FromFn.{length-map-range_with_len, get_or-map-range_with_len}
 use Rattle.qcow2_types.proofs.Counting.Parts.{block_at-kept}
-use Rattle.qcow2_types.specs.Bytes.{Bytes, bytes_of, splice, word}
-use Rattle.qcow2_types.specs.Header.{Header, Shaped, cluster_size, words_of_cluster, refcount_table_entries}
-use Rattle.qcow2_types.specs.Entries.{l2_table}
+use Rattle.qcow2_types.specs.Bytes.{Bytes, bytes_of, splice}
+use Rattle.qcow2_types.specs.Header.{Header, Shaped, cluster_size, refcount_table_entries}
 use Rattle.qcow2_types.specs.Counts.{block_at, count, counter, counter_of, counters_of_block}
 use Rattle.qcow2_types.specs.References.{refs}
 use Rattle.qcow2_types.specs.BlockBytes.{block_bytes}
@@ -17,21 +16,21 @@ use Rattle.qcow2_types.specs.Frames.{Same, Outside, Kept, block}
 use Rattle.qcow2_types.specs.Steps.{BlockWritten}
 use Rattle.qcow2_types.specs.Versions.{NamedApart, SamePlaces, IsBetween, KeepsSlots}
 use Rattle.qcow2_types.proofs.Changes.BlockSteps.{block-kept, block-written, counters-written}
-use Rattle.qcow2_types.proofs.Counting.Counters.{count-same, counter-same}
+use Rattle.qcow2_types.proofs.Counting.Counters.{count-same}
 use Rattle.qcow2_types.proofs.Counting.Either.{refs-file, refs-kept, between-kept, block-before-tables, block-after-tables, block-without-order}
 use Rattle.qcow2_types.proofs.Changes.Frames.{splice-is-outside}
-use Rattle.qcow2_types.proofs.Numbers.Splices.{splice-inside, splice-outside}
+use Rattle.qcow2_types.proofs.Numbers.Splices.{splice-inside}
 use Rattle.qcow2_types.proofs.Changes.Stops.{apart-falls}
-use Rattle.qcow2_metadata.specs.Tables.{TableValue, words_in}
+use Rattle.qcow2_metadata.specs.Tables.{TableValue}
 use Rattle.qcow2_metadata.specs.Blocks.{Block, counters_in}
 use Rattle.qcow2_alloc.specs.declared.async_lru_cache.Slot.{Slot}
 use Rattle.qcow2_alloc.specs.declared.cache.CacheDependency.{CacheDependency}
 use Rattle.qcow2_alloc.specs.declared.cache.CacheDependency.TheVariants.{Unset, L2DependsOnRb, RbDependsOnL2}
 use Rattle.qcow2_alloc.specs.Memory.{memory}
 use Rattle.qcow2_alloc.specs.Safety.{IsCachedTable, IsCachedBlock, IsOrdered, Safe, IsLeft, AreTablesClean}
-use Rattle.qcow2_alloc.proofs.Freeing.Lists.{map-same}
 use Rattle.qcow2_alloc.proofs.Memory.Patches.{all-append, all-front, all-back, all-weaker, all-both, others-before, others-behind, places-differ, place-there, block-length, shaped-in}
 use Rattle.qcow2_alloc.proofs.Caching.CachedBlocks.{blocks_with, this-block, block-shows, block-settled}
+use Rattle.qcow2_alloc.proofs.Memory.KeptEntries.{written-either, table-still, block-still}
 use Rattle.qcow2_alloc.proofs.Memory.MemoryWords.{places-in-memory, slot-same}
 use Rattle.qcow2_alloc.proofs.Flushing.WritingTables.{keys-with}
 
@@ -125,54 +124,17 @@ module _ (f : Bytes) (H : Header) (tables : List (ℕ × Slot TableValue)) (fron
   between : IsBetween f x g H.fields
   between = between-kept f x g H.fields written.keeps
 
-  each : (p : ℕ) → (x p ≡ f p) ⊎ (x p ≡ g p)
-  each p = elim (cases_lt p (block_at f H.fields r)) [
-    | inl before ↦ inl (splice-outside f (block_at f H.fields r) bytes p (inl before))
-    | inr le ↦ elim (cases_lt p (block_at f H.fields r + length bytes)) [
-      | inl inside ↦ inr (
-          let at : block_at f H.fields r + (p - block_at f H.fields r) ≡ p = omega (arith, le) in
-          rw at at (splice-inside f (block_at f H.fields r) bytes (p - block_at f H.fields r) (omega (arith, le, inside)) ∙ shown (p - block_at f H.fields r) (omega (arith, le, inside, all))))
-      | inr past ↦ inl (splice-outside f (block_at f H.fields r) bytes p (inr past))
-    ]
-  ]
-
   left-there : IsLeft f g H x
-  left-there = record { consistent = written.consistent; words = between; bytes = each }
+  left-there = record { consistent = written.consistent; words = between; bytes = written-either f g (block_at f H.fields r) bytes (λ k inside. shown k (omega (arith, inside, all))) }
 
   -- cached tables, and blocks at other places, fit the file as before
   table-kept : (cluster : ℕ) (other : TableValue) → IsCachedTable f H.fields cluster other → IsCachedTable x H.fields cluster other
-  table-kept cluster other is = record {
-    fits = is.fits;
-    placed = is.placed;
-    layout = is.layout;
-    modified = λ m. let live = is.modified m in (live.0, live.1, between.places.l1 live.0 ∙ live.2, live.3);
-    clean = λ m live.
-        let at : l2_table f H.fields live.0 ≡ cluster * cluster_size H.fields = sym (between.places.l1 live.0) ∙ live.2 in
-        let there' : l2_table f H.fields live.0 ≢ 0 = λ none. place-there (cluster_size H.fields) cluster (pow_pos H.fields.cluster_bits) live.3 (sym at ∙ none) in
-        is.clean m (live.0, live.1, at, live.3)
-        ∙ subst (λ t. words_in f t (words_of_cluster H.fields) ≡ words_in x t (words_of_cluster H.fields)) at
-        (map-same (word f (l2_table f H.fields live.0)) (word x (l2_table f H.fields live.0)) (words_of_cluster H.fields)
-        (λ j less. sym (keeps.words live.0 j (record { in_l1 = live.1; is_there = there'; in_table = less }) (λ e. cc))));
-  }
+  table-kept cluster other = table-still f x H.fields between.places cluster (λ k j at live. keeps.words k j live (λ e. cc)) other
 
   block-kept-at : (cluster : ℕ) (other : Block) → key ≢ cluster → IsCachedBlock f H.fields cluster other → IsCachedBlock x H.fields cluster other
-  block-kept-at cluster other apart is = record {
-    placed = is.placed;
-    cluster_bits = is.cluster_bits;
-    order = is.order;
-    long = is.long;
-    fit = is.fit;
-    modified = λ m. let live = is.modified m in (live.0, live.1, between.places.blocks live.0 ∙ live.2, live.3);
-    clean = λ m live.
-        let at : block_at f H.fields live.0 ≡ cluster * cluster_size H.fields = sym (between.places.blocks live.0) ∙ live.2 in
-        let there' : block_at f H.fields live.0 ≢ 0 = λ none. place-there (cluster_size H.fields) cluster (pow_pos H.fields.cluster_bits) live.3 (sym at ∙ none) in
-        let away : r ≢ live.0 = λ same. places-differ (cluster_size H.fields) key cluster (pow_pos H.fields.cluster_bits) apart (sym place ∙ ap (block_at f H.fields) same ∙ at) in
-        let same : Same f x (block_at f H.fields live.0) (cluster_size H.fields) = keeps.counters live.0 live.1 there' (λ e. away (block-number r live.0 e)) in
-        is.clean m (live.0, live.1, at, live.3)
-        ∙ subst (λ t. counters_in f H.fields t ≡ counters_in x H.fields t) at
-        (map-same (counter f H.fields (block_at f H.fields live.0)) (counter x H.fields (block_at f H.fields live.0)) (counters_of_block H.fields)
-        (λ k less. sym (counter-same f x H.fields (block_at f H.fields live.0) same k less)));
-  }
+  block-kept-at cluster other apart =
+      block-still f x H.fields between.places cluster
+      (λ k inside some at. keeps.counters k inside some (λ e. places-differ (cluster_size H.fields) key cluster (pow_pos H.fields.cluster_bits) apart (sym place ∙ ap (block_at f H.fields) (block-number r k e) ∙ at))) other
 
   module _ (packs : (k : ℕ) → k < length here.value.counters → counter_of (bytes_of bytes) (2 ^ here.value.order) 0 k ≡ slice_index here.value.counters k)
       (settled : Slot Block) (counters_same : settled.value.counters ≡ here.value.counters) (bits_same : settled.value.cluster_bits ≡ here.value.cluster_bits) (order_same : settled.value.order ≡ here.value.order) (clean : settled.value.modified ≡ false) (at_key : settled.value.cluster ≡ Some key) where

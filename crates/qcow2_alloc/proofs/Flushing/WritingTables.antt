@@ -3,14 +3,14 @@ use Rattle.std.proofs.Common.{◌≡◌, ◌≢◌, ℕ, ◌+◌, ◌-◌, ◌*�
 use Rattle.std.specs.Prelude.{Some, ◌⊎◌, nat_eq, slice_index, IsFalse}
 use Rattle.std.specs.List.{AllByRecursion, IsDistinct}
 use Rattle.std.specs.Map.{keys_of}
-use Rattle.std.proofs.lemmas.Bool.{cases_lt, not-true}
+use Rattle.std.proofs.lemmas.Bool.{not-true}
 use Rattle.std.proofs.lemmas.Nat.{pow_pos}
 use Rattle.std.proofs.Math.Nat.{mul-div_left}
 use Rattle.qcow2_types.specs.Bytes.{Bytes, splice, word}
 use Rattle.qcow2_types.specs.Words.{Layout, mapping_of, is_damaged}
 use Rattle.qcow2_types.specs.Header.{Header, Shaped, cluster_size, words_of_cluster, layout_of}
 use Rattle.qcow2_types.specs.Entries.{l2_table}
-use Rattle.qcow2_types.specs.Counts.{block_at, count, counter, counters_of_block}
+use Rattle.qcow2_types.specs.Counts.{count}
 use Rattle.qcow2_types.specs.References.{structure, refs}
 use Rattle.qcow2_types.specs.Slots.{Live, slot}
 use Rattle.qcow2_types.specs.TableBytes.{table_bytes}
@@ -21,22 +21,21 @@ use Rattle.qcow2_types.proofs.Changes.Over.{table-over}
 use Rattle.qcow2_types.proofs.Changes.Frames.{word-same}
 use Rattle.qcow2_types.proofs.Counting.Parts.{words-fit}
 use Rattle.qcow2_types.proofs.Counting.Sound.{sound-words, stop-consistent}
-use Rattle.qcow2_types.proofs.Numbers.Splices.{splice-inside, splice-outside}
+use Rattle.qcow2_types.proofs.Numbers.Splices.{splice-inside}
 use Rattle.qcow2_types.proofs.Changes.Stops.{write-between, write-counts, apart-falls}
 use Rattle.qcow2_types.proofs.Counting.Either.{table-after-blocks, table-before-blocks, table-without-order, refs-between}
 use Rattle.qcow2_types.proofs.Changes.WriteBack.{once, kept, loads-still, shaped}
 use Rattle.qcow2_metadata.specs.Tables.{TableValue, IsTable, l2_words, words_in}
-use Rattle.qcow2_metadata.specs.Blocks.{Block, counters_in}
+use Rattle.qcow2_metadata.specs.Blocks.{Block}
 use Rattle.qcow2_alloc.specs.declared.async_lru_cache.Slot.{Slot}
 use Rattle.qcow2_alloc.specs.declared.cache.CacheDependency.{CacheDependency}
 use Rattle.qcow2_alloc.specs.declared.cache.CacheDependency.TheVariants.{Unset, L2DependsOnRb, RbDependsOnL2}
 use Rattle.qcow2_alloc.specs.Memory.{Cached, memory}
 use Rattle.qcow2_alloc.specs.Safety.{IsCachedTable, IsCachedBlock, IsOrdered, Safe, IsLeft, AreBlocksClean}
 use Rattle.qcow2_alloc.proofs.Memory.Patches.{all-append, all-front, all-back, all-weaker, all-both, others-before, others-behind, places-differ, table-long, place-there}
-use Rattle.qcow2_alloc.proofs.Freeing.Lists.{map-same}
 use Rattle.qcow2_metadata.proofs.WrittenBack.{read_back}
-use Rattle.qcow2_types.proofs.Counting.Counters.{counter-same}
 use Rattle.qcow2_alloc.proofs.Caching.CachedTables.{tables_with, table-shows, table-settled}
+use Rattle.qcow2_alloc.proofs.Memory.KeptEntries.{written-either, table-still, block-still}
 use Rattle.qcow2_alloc.proofs.Memory.MemoryWords.{find-table, places-in-memory, slot-same, counts-same}
 
 table-number : (i k : ℕ) → table i ≡ table k → i ≡ k
@@ -179,54 +178,17 @@ module _ (f : Bytes) (H : Header) (front : List (ℕ × Slot TableValue)) (key :
       (memory-sound f H safe.consistent (tables_with front key here back blocks) safe.tables_apart safe.tables safe.blocks) safe.apart
       (counted-by order ordered safe.ordered)
 
-  each : (p : ℕ) → (x p ≡ f p) ⊎ (x p ≡ g p)
-  each p = elim (cases_lt p (l2_table f H.fields i)) [
-    | inl before ↦ inl (splice-outside f (l2_table f H.fields i) bytes p (inl before))
-    | inr le ↦ elim (cases_lt p (l2_table f H.fields i + length bytes)) [
-      | inl inside ↦ inr (
-          let at : l2_table f H.fields i + (p - l2_table f H.fields i) ≡ p = omega (arith, le) in
-          rw at at (splice-inside f (l2_table f H.fields i) bytes (p - l2_table f H.fields i) (omega (arith, le, inside)) ∙ shown (p - l2_table f H.fields i) (omega (arith, le, inside, all))))
-      | inr past ↦ inl (splice-outside f (l2_table f H.fields i) bytes p (inr past))
-    ]
-  ]
-
   left-there : IsLeft f g H x
-  left-there = record { consistent = consistent; words = between; bytes = each }
+  left-there = record { consistent = consistent; words = between; bytes = written-either f g (l2_table f H.fields i) bytes (λ k inside. shown k (omega (arith, inside, all))) }
 
   -- cached tables at other places, and blocks, fit the file as before
   table-kept : (cluster : ℕ) (other : TableValue) → key ≢ cluster → IsCachedTable f H.fields cluster other → IsCachedTable x H.fields cluster other
-  table-kept cluster other apart is = record {
-    fits = is.fits;
-    placed = is.placed;
-    layout = is.layout;
-    modified = λ m. let live = is.modified m in (live.0, live.1, between.places.l1 live.0 ∙ live.2, live.3);
-    clean = λ m live.
-        let at : l2_table f H.fields live.0 ≡ cluster * cluster_size H.fields = sym (between.places.l1 live.0) ∙ live.2 in
-        let there' : l2_table f H.fields live.0 ≢ 0 = λ none. place-there (cluster_size H.fields) cluster (pow_pos H.fields.cluster_bits) live.3 (sym at ∙ none) in
-        let away : i ≢ live.0 = λ same. places-differ (cluster_size H.fields) key cluster (pow_pos H.fields.cluster_bits) apart (sym place ∙ ap (l2_table f H.fields) same ∙ at) in
-        is.clean m (live.0, live.1, at, live.3)
-        ∙ subst (λ t. words_in f t (words_of_cluster H.fields) ≡ words_in x t (words_of_cluster H.fields)) at
-        (map-same (word f (l2_table f H.fields live.0)) (word x (l2_table f H.fields live.0)) (words_of_cluster H.fields)
-        (λ j less. sym (keeps.words live.0 j (record { in_l1 = live.1; is_there = there'; in_table = less }) (λ e. away (table-number i live.0 e)))));
-  }
+  table-kept cluster other apart =
+      table-still f x H.fields between.places cluster
+      (λ k j at live. keeps.words k j live (λ e. places-differ (cluster_size H.fields) key cluster (pow_pos H.fields.cluster_bits) apart (sym place ∙ ap (l2_table f H.fields) (table-number i k e) ∙ at))) other
 
   block-kept : (cluster : ℕ) (block : Block) → IsCachedBlock f H.fields cluster block → IsCachedBlock x H.fields cluster block
-  block-kept cluster block is = record {
-    placed = is.placed;
-    cluster_bits = is.cluster_bits;
-    order = is.order;
-    long = is.long;
-    fit = is.fit;
-    modified = λ m. let live = is.modified m in (live.0, live.1, between.places.blocks live.0 ∙ live.2, live.3);
-    clean = λ m live.
-        let at : block_at f H.fields live.0 ≡ cluster * cluster_size H.fields = sym (between.places.blocks live.0) ∙ live.2 in
-        let there' : block_at f H.fields live.0 ≢ 0 = λ none. place-there (cluster_size H.fields) cluster (pow_pos H.fields.cluster_bits) live.3 (sym at ∙ none) in
-        let same : Same f x (block_at f H.fields live.0) (cluster_size H.fields) = keeps.counters live.0 live.1 there' (λ e. cc) in
-        is.clean m (live.0, live.1, at, live.3)
-        ∙ subst (λ t. counters_in f H.fields t ≡ counters_in x H.fields t) at
-        (map-same (counter f H.fields (block_at f H.fields live.0)) (counter x H.fields (block_at f H.fields live.0)) (counters_of_block H.fields)
-        (λ k less. sym (counter-same f x H.fields (block_at f H.fields live.0) same k less)));
-  }
+  block-kept cluster block = block-still f x H.fields between.places cluster (λ k inside some at. keeps.counters k inside some (λ e. cc)) block
 
   module _ (settled : Slot TableValue) (words_same : settled.value.words ≡ here.value.words) (layout_same : settled.value.layout ≡ here.value.layout) (written : settled.value.modified ≡ false) (at_key : settled.value.cluster ≡ Some key) where
     memory-same : memory x H.fields (tables_with front key settled back blocks) ≡ g

@@ -44,7 +44,8 @@ use Rattle.qcow2_alloc.proofs.Memory.Patches.{all-weaker, all-both, place-there,
 use Rattle.qcow2_alloc.proofs.Quiet.QuietEntries.{metadata-among}
 use Rattle.qcow2_alloc.proofs.Quiet.QuietShows.{mapping-meets, in-cluster, memory-same}
 use Rattle.qcow2_alloc.proofs.Memory.StructureWrites.{splice-agrees, memory-start, memory-beside, unmet-stays}
-use Rattle.qcow2_alloc.proofs.Memory.WordsKept.{word-contents, structure-named, named-more, copied-stays, ordered-still, table-fits, block-fits, counters-same}
+use Rattle.qcow2_alloc.proofs.Memory.KeptEntries.{table-fits, counters-same}
+use Rattle.qcow2_alloc.proofs.Memory.WordsKept.{word-contents, structure-named, named-more, copied-stays, ordered-still, block-fits}
 
 -- A block that stays in its place counts what it did.
 count-moved : (f : Bytes) (h : Fields) (o n c : ℕ) → block_at f (with_reftable h o n) (c / counters_of_block h) ≡ block_at f h (c / counters_of_block h) → count f (with_reftable h o n) c ≡ count f h c
@@ -300,7 +301,7 @@ module _ (m : Metadata) (table : TableValue) (t n : ℕ) (sound : IsSound m) (re
     consistent = in-file.consistent;
     tables_apart = sound.safe.tables_apart;
     blocks_apart = sound.safe.blocks_apart;
-    tables = all-weaker _ _ (λ e is. table-fits f x h o n in-file.tables (λ k j live. in-file.kept.words k j live (λ e. cc)) e.0 e.1.value is) m.cached.tables sound.safe.tables;
+    tables = all-weaker _ _ (λ e is. table-fits f x h o n in-file.tables e.0 (λ k j at live. in-file.kept.words k j live (λ e. cc)) e.1.value is) m.cached.tables sound.safe.tables;
     blocks = all-weaker _ _ (λ e both. block-still e.0 e.1.value both.1 both.0) m.cached.blocks (all-both _ _ m.cached.blocks sound.safe.blocks ready.cached);
     apart = λ c some.
         let base = in-file.structure (meets h c) in

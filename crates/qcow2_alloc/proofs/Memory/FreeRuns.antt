@@ -39,7 +39,8 @@ use Rattle.qcow2_alloc.proofs.Memory.MemoryWords.{places-in-memory}
 use Rattle.qcow2_alloc.proofs.Memory.Patches.{all-weaker, block-length, place-there, shaped-in}
 use Rattle.qcow2_alloc.proofs.Quiet.QuietFlushes.{still-table}
 use Rattle.qcow2_alloc.proofs.Quiet.QuietShows.{from-start, mapping-meets, in-cluster}
-use Rattle.qcow2_alloc.proofs.Memory.WordsKept.{word-named, named-more, copied-stays, ordered-still, table-fits, block-fits, counters-same}
+use Rattle.qcow2_alloc.proofs.Memory.KeptEntries.{table-fits, counters-same}
+use Rattle.qcow2_alloc.proofs.Memory.WordsKept.{word-named, named-more, copied-stays, ordered-still, block-fits}
 
 -- What is in memory agrees where the file does.
 pub over-agrees : (f g : Bytes) (es : List Patch) (p : ℕ) → f p ≡ g p → over f es p ≡ over g es p
@@ -92,7 +93,7 @@ module _ (m : Metadata) (sound : IsSound m) (c k : ℕ) (unnamed : (d : ℕ) →
     consistent = in-file.consistent;
     tables_apart = sound.safe.tables_apart;
     blocks_apart = sound.safe.blocks_apart;
-    tables = all-weaker _ _ (λ e is. table-fits m.file x m.header.fields m.header.fields.refcount_table_offset m.header.fields.refcount_table_clusters in-file.keeps.places.l1 (λ i j live. in-file.kept.words i j live (λ e. cc)) e.0 e.1.value is) m.cached.tables sound.safe.tables;
+    tables = all-weaker _ _ (λ e is. table-fits m.file x m.header.fields m.header.fields.refcount_table_offset m.header.fields.refcount_table_clusters in-file.keeps.places.l1 e.0 (λ i j at live. in-file.kept.words i j live (λ e. cc)) e.1.value is) m.cached.tables sound.safe.tables;
     blocks = all-weaker _ _ (λ e is. block-still e.0 e.1.value is) m.cached.blocks sound.safe.blocks;
     apart = λ d some.
         let base = structure-same m.file x m.header.fields in-file.keeps.places (meets m.header.fields d) in

@@ -1,28 +1,22 @@
 -- What is named and what is cached where each word means what it did, in the file and in memory, whatever the refcount table.
 use Rattle.std.proofs.Common.{◌≡◌, ◌≢◌, ℕ, ◌+◌, ◌*◌, ◌≤◌, refl, arith, ap, sym, subst, ◌∙◌, true, false}
 use Rattle.std.specs.Prelude.{max, Some, None}
-use Rattle.std.proofs.lemmas.Nat.{pow_pos}
-use Rattle.qcow2_types.specs.Bytes.{Bytes, word}
+use Rattle.qcow2_types.specs.Bytes.{Bytes}
 use Rattle.qcow2_types.specs.Words.{Mapping, data_at, zeroes, packed, unmapped, damaged}
-use Rattle.qcow2_types.specs.Header.{Fields, cluster_size, words_of_cluster}
+use Rattle.qcow2_types.specs.Header.{Fields, cluster_size}
 use Rattle.qcow2_types.specs.Entries.{l2_table}
-use Rattle.qcow2_types.specs.Counts.{count, counter, counters_of_block}
-use Rattle.qcow2_types.specs.Frames.{Same}
+use Rattle.qcow2_types.specs.Counts.{count, counter}
 use Rattle.qcow2_types.specs.References.{Weight, structure, contents, of_mapping, of_copied, meets, refs}
 use Rattle.qcow2_types.specs.Slots.{slot, Live, over_slots}
 use Rattle.qcow2_types.specs.Switched.{with_reftable}
 use Rattle.qcow2_types.specs.Versions.{of_either, named, copied}
-use Rattle.qcow2_types.proofs.Counting.Counters.{counter-same}
 use Rattle.qcow2_types.proofs.Counting.Either.{tables-same}
 use Rattle.std.proofs.Math.Nat.{le-max_left}
 use Rattle.qcow2_types.proofs.Counting.Slots.{contents-slots, slots-same, slot-le}
-use Rattle.qcow2_metadata.specs.Tables.{TableValue, words_in}
 use Rattle.qcow2_metadata.specs.Blocks.{Block, counters_in}
 use Rattle.qcow2_alloc.specs.declared.cache.CacheDependency.{CacheDependency}
 use Rattle.qcow2_alloc.specs.declared.cache.CacheDependency.TheVariants.{Unset, L2DependsOnRb, RbDependsOnL2}
-use Rattle.qcow2_alloc.specs.Safety.{IsLiveBlock, IsCachedTable, IsCachedBlock, IsOrdered}
-use Rattle.qcow2_alloc.proofs.Freeing.Lists.{map-same}
-use Rattle.qcow2_alloc.proofs.Memory.Patches.{place-there}
+use Rattle.qcow2_alloc.specs.Safety.{IsLiveBlock, IsCachedBlock, IsOrdered}
 use Rattle.qcow2_alloc.proofs.Quiet.QuietThen.{of-moved}
 
 -- What a word names as copied doesn't depend on the refcount table.
@@ -98,24 +92,7 @@ ordered-still f g x y h later cached file covers lowered Unset both = (
 ordered-still f g x y h later cached file covers lowered L2DependsOnRb first = record { cached = λ d. cached d (first.cached d); file = covers }
 ordered-still f g x y h later cached file covers lowered RbDependsOnL2 first = record { file = λ d. file d (first.file d); lowered = λ d. lowered d (first.lowered d) }
 
--- A cached table fits the file as before,
-pub table-fits : (f x : Bytes) (h : Fields) (offset clusters : ℕ) → ((i : ℕ) → l2_table x (with_reftable h offset clusters) i ≡ l2_table f h i) → ((i j : ℕ) → Live (l2_table f h) h i j → word x (l2_table f h i) j ≡ word f (l2_table f h i) j)
-    → (cluster : ℕ) (t : TableValue) → IsCachedTable f h cluster t → IsCachedTable x (with_reftable h offset clusters) cluster t
-table-fits f x h offset clusters tables words cluster t is = record {
-  fits = is.fits;
-  placed = is.placed;
-  layout = is.layout;
-  modified = λ m. let live = is.modified m in (live.0, live.1, tables live.0 ∙ live.2, live.3);
-  clean = λ m live.
-      let at : l2_table f h live.0 ≡ cluster * cluster_size h = sym (tables live.0) ∙ live.2 in
-      let there : l2_table f h live.0 ≢ 0 = λ none. place-there (cluster_size h) cluster (pow_pos h.cluster_bits) live.3 (sym at ∙ none) in
-      is.clean m (live.0, live.1, at, live.3)
-      ∙ subst (λ p. words_in f p (words_of_cluster h) ≡ words_in x p (words_of_cluster h)) at
-      (map-same (word f (l2_table f h live.0)) (word x (l2_table f h live.0)) (words_of_cluster h)
-      (λ j less. sym (words live.0 j (record { in_l1 = live.1; is_there = there; in_table = less }))));
-}
-
--- and so does a cached block.
+-- A cached block fits the file as before.
 pub block-fits : (f x : Bytes) (h : Fields) (offset clusters : ℕ) (cluster : ℕ) (b : Block) → (IsLiveBlock f h cluster → IsLiveBlock x (with_reftable h offset clusters) cluster)
     → (b.modified ≡ false → IsLiveBlock x (with_reftable h offset clusters) cluster → b.counters ≡ counters_in x h (cluster * cluster_size h))
     → IsCachedBlock f h cluster b → IsCachedBlock x (with_reftable h offset clusters) cluster b
@@ -129,7 +106,3 @@ block-fits f x h offset clusters cluster b alive clean is = record {
   modified = λ m. alive (is.modified m);
   clean = clean;
 }
-
--- Its counters are the same where its bytes are.
-pub counters-same : (f x : Bytes) (h : Fields) (place : ℕ) → Same f x place (cluster_size h) → counters_in x h place ≡ counters_in f h place
-counters-same f x h place same = map-same (counter x h place) (counter f h place) (counters_of_block h) (λ k less. counter-same f x h place same k less)
