@@ -30,8 +30,8 @@ IsCrowded m mark n = IsRoomy m mark n → ⊥
 abbrev pub IsGapless : ℕ → Metadata → Metadata → Type 0
 IsGapless mark m m' = (c : ℕ) → counted m c ≡ 0 → 0 < counted m' c → (d : ℕ) → mark ≤ d → d < c → 0 < counted m' d
 
--- What an allocation of n takes is little: of a room it is among those clusters that are enough, and a lone cluster, with what is made for it, leaves no
--- gap.
+-- What an allocation of n takes is little: of a room it is among those clusters that are enough, and a lone cluster, with what is made for
+-- it, leaves no gap.
 pub record TakesLittle (mark n : ℕ) (m m' : Metadata) : Type 0 where
   pub early : (roomy : IsRoomy m mark n) → (c : ℕ) → roomy.first + room_for m.header.fields n ≤ c → c < roomy.first + roomy.total
       → counted m' c ≡ 0

@@ -5,8 +5,8 @@ use Rattle.qcow2_types.specs.Words.{block_offset}
 use Rattle.qcow2_alloc.specs.Growing.{lacking}
 use Rattle.qcow2_alloc.specs.Quiet.{Metadata, counted, one_at}
 
--- A block was made for a word of the refcount table: one more cluster is counted, no later than any free one from the mark on that a block before it
--- counts, and than the first one that it counts itself.
+-- A block was made for a word of the refcount table: one more cluster is counted, no later than any free one from the mark on that a block
+-- before it counts, and than the first one that it counts itself.
 pub record IsBlockPlaced (mark index : ℕ) (m m' : Metadata) : Type 0 where
   pub place : ℕ
   pub raised : (c : ℕ) → counted m' c ≡ counted m c + one_at place c
@@ -19,8 +19,8 @@ abbrev pub made_for : Metadata → Metadata → ℕ → ℕ → ℕ
 made_for m m' first n = lacking m.table (counters_of_block m.header.fields) first n - lacking m'.table
     (counters_of_block m.header.fields) first n
 
--- Blocks were made for a run, those of a range of indices, one for each at most. Where as many clusters, from one on that the first of these counts, weren't counted, what is
--- counted anew lies before their end; and none lies behind the first one that its block counts.
+-- Blocks were made for a run, those of a range of indices, one for each at most. Where as many clusters, from one on that the first of
+-- these counts, weren't counted, what is counted anew lies before their end; and none lies behind the first one that its block counts.
 pub record FillsFrom (mark index end : ℕ) (m m' : Metadata) : Type 0 where
   pub fewer : (first n : ℕ) → lacking m'.table (counters_of_block m.header.fields) first n
       ≤ lacking m.table (counters_of_block m.header.fields) first n

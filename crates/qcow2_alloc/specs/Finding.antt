@@ -24,7 +24,8 @@ use Rattle.qcow2_alloc.specs.Memory.{Cached, written_table, written_block}
 use Rattle.qcow2_alloc.specs.Safety.{AreTablesClean, AreBlocksClean}
 
 module _ {V : Type 0} where
-  -- The entries of a cache of so many once there is room for one more: where it is full, the least recently used one that isn't pinned goes.
+  -- The entries of a cache of so many once there is room for one more: where it is full, the least recently used one that isn't pinned
+  -- goes.
   abbrev pub with_room : ℕ → List (ℕ × Slot V) → List (ℕ × Slot V)
   with_room cap es = cond (nat_lt (length es) cap) es (option_map_or (λ key. remove_entry (nat_eq key) es) (victim es) es)
 

@@ -42,7 +42,8 @@ abbrev pub IsMarked : Metadata → ℕ → Type 0
 IsMarked m mark = (c : ℕ) → c < mark → 0 < counted m c
 
 -- Why a call that frees was refused, by the counts of faults before and after: for want of memory or by a storage; as a damaged table or a
--- counter that can't change only where the image isn't sound; and as a full cache only where `loose` doesn't hold, that there is room to spare.
+-- counter that can't change only where the image isn't sound; and as a full cache only where `loose` doesn't hold, that there is room to
+-- spare.
 abbrev pub WhyNotFreed : Type 0 → Type 0 → ℕ → ℕ → Fault → Type 0
 WhyNotFreed sound loose before after Memory = ⊤
 WhyNotFreed sound loose before after Storage = Rose before after

@@ -30,8 +30,8 @@ pub record IsFirstRoom (table : TableValue) (k : ℕ) (counts : ℕ → ℕ) (fr
   pub least : (z t : ℕ) → from ≤ z → z < first → IsRoom table k counts n z t → ⊥
   pub short : (t : ℕ) → IsRoom table k counts n first t → total ≤ t
 
--- How far the search of a room has come: none begins before this cluster, the clusters of the run aren't counted, and a room that begins here
--- has so many at least.
+-- How far the search of a room has come: none begins before this cluster, the clusters of the run aren't counted, and a room that begins
+-- here has so many at least.
 pub record IsRoomSoFar (table : TableValue) (k : ℕ) (counts : ℕ → ℕ) (from n : ℕ) (run : Run) : Type 0 where
   pub behind : from ≤ run.first
   pub free : (c : ℕ) → run.first ≤ c → c < run.first + run.len → counts c ≡ 0

@@ -43,8 +43,8 @@ pub record IsRoomInReach (m : Metadata) (first total clusters : ℕ) : Type 0 wh
   pub reach : IsInReach m.header.fields.cluster_bits (first + (total - 1))
   pub inside : first + total ≤ clusters * words_of_cluster m.header.fields * counters_of_block m.header.fields
 
--- There is no place for a table that holds an index, as a number tells: that of the words that it would have at least, which are too many; or
--- that of the last cluster of its room, which is out of reach.
+-- There is no place for a table that holds an index, as a number tells: that of the words that it would have at least, which are too many;
+-- or that of the last cluster of its room, which is out of reach.
 abbrev pub NoPlaceToGrow : Metadata → (mark at number : ℕ) → Type 0
 NoPlaceToGrow m mark at number =
     (((n : ℕ) → IsEnough (words_of_cluster m.header.fields) (counters_of_block m.header.fields) at n → 2 ^ 20 < n)
@@ -62,8 +62,8 @@ abbrev pub IsTakenFor : (mark cluster : ℕ) → Metadata → Metadata → Type 
 IsTakenFor mark cluster m m' = (c : ℕ) → counted m c ≡ 0 → 0 < counted m' c
     → (c ≤ cluster) ⊎ IsInRoomToGrow m mark (cluster / counters_of_block m.header.fields) c
 
--- The table has grown for an index: it stands in its room behind the blocks that were lacking for that, in the order of their indices. Its words
--- name these blocks, and those that they named before. Each cluster of the room is counted, and no other count changed.
+-- The table has grown for an index: it stands in its room behind the blocks that were lacking for that, in the order of their indices. Its
+-- words name these blocks, and those that they named before. Each cluster of the room is counted, and no other count changed.
 pub record TableGrown (mark at : ℕ) (m m' : Metadata) : Type 0 where
   pub first : ℕ
   pub total : ℕ
@@ -79,14 +79,15 @@ pub record TableGrown (mark at : ℕ) (m m' : Metadata) : Type 0 where
       → block_offset (slice_index m'.table.words i) ≡ block_offset (slice_index m.table.words i)
   pub counts : (c : ℕ) → counted m' c ≡ counted m c + covers c (run_of first total)
 
--- What a refused call has counted and nobody was handed: only one that found the cache full has, and so none of a sound image where there is room
--- to spare, as `loose` says.
+-- What a refused call has counted and nobody was handed: only one that found the cache full has, and so none of a sound image where there
+-- is room to spare, as `loose` says.
 pub record Leaks {T : Type 0} (sound : Type 0) (loose : Bool → Type 0) (result : Result T Fault) (leaked : ℕ → ℕ) : Type 0 where
   pub none : (result ≡ Err CacheFull → ⊥) → (c : ℕ) → leaked c ≡ 0
   pub pinned : sound → loose true → (c : ℕ) → leaked c ≡ 0
 
--- The refcount table grows until it holds an index, while blocks are written before tables. The old table waits to be freed then. Refused without
--- being cut off, table, header and list are what they were, and of a sound image nothing is counted otherwise unless the cache is full of what is pinned.
+-- The refcount table grows until it holds an index, while blocks are written before tables. The old table waits to be freed then. Refused
+-- without being cut off, table, header and list are what they were, and of a sound image nothing is counted otherwise unless the cache is
+-- full of what is pinned.
 pub record GrowsTable {S : Type 0} (state : S → StorageState) (mark at : ℕ) (s : ImageState S) (result : Result Unit Fault)
     (s' : ImageState S) : Type 0 where
   pub leaked : ℕ → ℕ

@@ -23,16 +23,16 @@ use Rattle.qcow2_alloc.specs.Quiet.{Metadata, IsSound, IsQuiet, Quietly, counted
 use Rattle.qcow2_alloc.specs.ReadyingRuns.{handed_by, mark_behind, IsRunCounted, IsRunTold}
 use Rattle.qcow2_alloc.specs.State.{ImageState, lent, metadata, IsKept, WhereKept}
 
--- Caches that had room to spare have it still, and the refcount table names what is pinned where it did; there is as much room, and the L2 tables
--- are kept; and nothing of the header has changed but perhaps the refcount table's place.
+-- Caches that had room to spare have it still, and the refcount table names what is pinned where it did; there is as much room, and the L2
+-- tables are kept; and nothing of the header has changed but perhaps the refcount table's place.
 pub record StaysInShape {S : Type 0} (s s' : ImageState S) : Type 0 where
   pub moved : MovedTable s.file.header s'.file.header
   pub loose : (any : Bool) → IsLoose s.table s.caches any → IsLoose s'.table s'.caches any
   pub room : KeepsTables s.caches s'.caches
 
--- The refcount table grows until it holds an index: first it is announced that blocks are written before tables. The old table waits to be freed
--- then. A sound image stays sound, and its disk as it is, stops included. Refused without being cut off, table, header and list are what they
--- were, and nothing is counted otherwise unless the cache is full of what is pinned.
+-- The refcount table grows until it holds an index: first it is announced that blocks are written before tables. The old table waits to be
+-- freed then. A sound image stays sound, and its disk as it is, stops included. Refused without being cut off, table, header and list are
+-- what they were, and nothing is counted otherwise unless the cache is full of what is pinned.
 pub record GrowsReftable {S : Type 0} (state : S → StorageState) (mark at : ℕ) (s : ImageState S) (result : Result Unit Fault)
     (s' : ImageState S) : Type 0 where
   pub faults : WasNotCutOff result → IsFaultless (state s.file.image) (state s'.file.image)
@@ -54,8 +54,8 @@ pub record GrowsReftable {S : Type 0} (state : S → StorageState) (mark at : �
       (λ number. WhereKept state s (NoPlaceToGrow (metadata state s) mark at number))
       (state s.file.image).faults (state s'.file.image).faults)
 
--- The image once something of what waited was freed: no cluster is counted more often. The search begins at a cluster before which each is counted
--- where that was so.
+-- The image once something of what waited was freed: no cluster is counted more often. The search begins at a cluster before which each is
+-- counted where that was so.
 pub record IsFreed (m : Metadata) (mark : ℕ) (m' : Metadata) (mark' : ℕ) : Type 0 where
   pub sound : IsSound m'
   pub quiet : IsQuiet (λ _. 0) (λ _. 0) m m'
@@ -75,8 +75,9 @@ IsSearched (Err fault) = ⊥
 abbrev pub AreUnnamed : Metadata → FreeEntry → Type 0
 AreUnnamed m entry = (c : ℕ) → entry.first ≤ c → c < entry.first + entry.count → (named_at_all m c ≡ 0) × (waiting m c ≡ 0)
 
--- Clusters in a row are handed out: first what waits is freed, then it is announced that blocks are written before tables, and then the first run of
--- n clusters from the mark on is taken of which none is counted. A sound image stays sound, and its disk as it is, stops included.
+-- Clusters in a row are handed out: first what waits is freed, then it is announced that blocks are written before tables, and then the
+-- first run of n clusters from the mark on is taken of which none is counted. A sound image stays sound, and its disk as it is, stops
+-- included.
 pub record AllocatesClusters {S : Type 0} (state : S → StorageState) (mark n : ℕ) (is_metadata : Bool) (s : ImageState S)
     (result : Result FreeEntry Fault) (s' : ImageState S) (mark' : ℕ) : Type 0 where
   pub faults : WasNotCutOff result → IsFaultless (state s.file.image) (state s'.file.image)
@@ -141,7 +142,8 @@ IsBarred m mark cluster = (IsInReach m.header.fields.cluster_bits cluster → �
     ⊎ ((length m.table.words ≤ cluster / counters_of_block m.header.fields) × (number : ℕ)
     × NoPlaceToGrow m mark (cluster / counters_of_block m.header.fields) number)
 
--- What an answer says of one cluster: it was free, and is handed out; or it was counted, a table or a block stands in it now, or it is barred.
+-- What an answer says of one cluster: it was free, and is handed out; or it was counted, a table or a block stands in it now, or it is
+-- barred.
 abbrev pub IsHandedAt : Type 0 → ℕ → Metadata → Metadata → Option FreeEntry → Type 0
 IsHandedAt barred cluster m m' (Some entry) = (counted m cluster ≡ 0) × (counted m' cluster ≡ 1) × (named_at_all m' cluster ≡ 0)
     × (waiting m' cluster ≡ 0)
@@ -159,8 +161,8 @@ abbrev pub mark_past : ℕ → ℕ → Option FreeEntry → ℕ
 mark_past mark cluster (Some entry) = if cluster == mark then cluster + 1 else mark
 mark_past mark cluster None = mark
 
--- One cluster is handed out if it is free: first it is announced that blocks are written before tables. A sound image stays sound, and its disk as it
--- is, stops included. What waits to be freed waits on.
+-- One cluster is handed out if it is free: first it is announced that blocks are written before tables. A sound image stays sound, and its
+-- disk as it is, stops included. What waits to be freed waits on.
 pub record AllocatesClusterAt {S : Type 0} (state : S → StorageState) (mark cluster : ℕ) (s : ImageState S)
     (result : Result (Option FreeEntry) Fault) (s' : ImageState S) (mark' : ℕ) : Type 0 where
   pub faults : WasNotCutOff result → IsFaultless (state s.file.image) (state s'.file.image)

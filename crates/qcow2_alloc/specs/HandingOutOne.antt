@@ -20,8 +20,8 @@ abbrev pub leaked_by : {T : Type 0} → Result T Fault → (ℕ → ℕ) → ℕ
 leaked_by (Ok done) leaked c = 0
 leaked_by (Err fault) leaked c = leaked c
 
--- What a call does that counts clusters, while blocks are written before tables, and hands out those that its answer names. The clusters of an old
--- refcount table may come to wait to be freed.
+-- What a call does that counts clusters, while blocks are written before tables, and hands out those that its answer names. The clusters of
+-- an old refcount table may come to wait to be freed.
 pub record HandsOut {S T : Type 0} (state : S → StorageState) (handed : Result T Fault → (ℕ → ℕ) → ℕ → ℕ) (s : ImageState S)
     (result : Result T Fault) (s' : ImageState S) : Type 0 where
   pub leaked : ℕ → ℕ

@@ -67,9 +67,9 @@ formerly m c = meets m.header.fields c m.header.fields.refcount_table_offset
 abbrev pub newly_counted : Metadata → ℕ → ℕ → ℕ → ℕ
 newly_counted m t n c = if block_at m.file m.header.fields (c / counters_of_block m.header.fields) == 0 then 0 else newly m t n c
 
--- This table of n clusters stands at cluster t of the file, and can become the refcount table. It names the blocks that the old one does, and
--- perhaps new ones, and stands apart from these, in clusters that nothing names and nothing waits to free. Each of them is counted: by an
--- old block, in the file and in memory, or by a new one, which counts no other. What is cached of the new blocks has their counters.
+-- This table of n clusters stands at cluster t of the file, and can become the refcount table. It names the blocks that the old one does,
+-- and perhaps new ones, and stands apart from these, in clusters that nothing names and nothing waits to free. Each of them is counted: by
+-- an old block, in the file and in memory, or by a new one, which counts no other. What is cached of the new blocks has their counters.
 pub record IsReadyTable (m : Metadata) (table : TableValue) (t n : ℕ) : Type 0 where
   pub layout : table.layout ≡ layout_of m.header.fields
   pub long : length table.words ≡ n * words_of_cluster m.header.fields
@@ -114,8 +114,8 @@ run_of first count = record { first = first; count = count; metadata = true }
 abbrev pub rank : (ℕ → Bool) → ℕ → ℕ
 rank new i = sum_below i (λ j. if new j then 1 else 0)
 
--- From cluster s on stand new blocks in a row, by their indices, and behind them this table of n clusters, where nothing was named and nothing
--- waits to be freed. The table names each of them where the old one names none, and else what that does. Each cluster of the run is
+-- From cluster s on stand new blocks in a row, by their indices, and behind them this table of n clusters, where nothing was named and
+-- nothing waits to be freed. The table names each of them where the old one names none, and else what that does. Each cluster of the run is
 -- counted: the new blocks count those that are theirs and no other, and old blocks the rest, in the file and in memory. What is cached of
 -- the new blocks has their counters.
 pub record IsGrownTable (m : Metadata) (table : TableValue) (s : ℕ) (new : ℕ → Bool) (n : ℕ) : Type 0 where

@@ -67,8 +67,8 @@ pub record NamesNewBlocks (h : Fields) (was : TableValue) (run : Run) (old new :
       → block_offset (slice_index new.words i) ≡ (run.first + rank (lacks was (counters_of_block h) run.first run.len) i) * cluster_size h
   pub olds : (i : ℕ) → lacks was (counters_of_block h) run.first run.len i ≡ false → slice_index new.words i ≡ slice_index old.words i
 
--- A copy of the refcount table, grown to n clusters, is to stand in a run behind the blocks that are lacking for it. Its words name these, and
--- what the old ones name.
+-- A copy of the refcount table, grown to n clusters, is to stand in a run behind the blocks that are lacking for it. Its words name these,
+-- and what the old ones name.
 pub record IsGrownCopy (h : Fields) (table : TableValue) (run : Run) (n : ℕ) (copy : TableValue) : Type 0 where
   pub layout : copy.layout ≡ layout_of h
   pub long : length copy.words ≡ n * words_of_cluster h
@@ -119,8 +119,8 @@ pub record IsCopyFor (h : Fields) (table : TableValue) (run : Run) (copy : Table
   pub more : 1 ≤ clusters_of copy h.cluster_bits
   pub enough : run.len ≡ clusters_of copy h.cluster_bits + lacking table (counters_of_block h) run.first run.len
 
--- Why such a copy can't take the run, but for want of memory: it begins with the first cluster, or the table's words can't be written; or it
--- is out of reach.
+-- Why such a copy can't take the run, but for want of memory: it begins with the first cluster, or the table's words can't be written; or
+-- it is out of reach.
 abbrev pub WhyNotPlaced : Fields → TableValue → Run → TableValue → Fault → Type 0
 WhyNotPlaced h table run copy Memory = ⊤
 WhyNotPlaced h table run copy DamagedTable = (run.first ≢ 0) × CanName table h.cluster_bits (run.first + (run.len - 1)) → ⊥
@@ -168,15 +168,15 @@ waiting_then (Ok done) h pending = pending ++ table_run h
 waiting_then (Err fault) h pending = pending
 
 module _ {S : Type 0} (state : S → StorageState) where
-  -- A run that wasn't counted is taken: those of its clusters are counted that an old block counts, and the blocks that are lacking for it are
-  -- written.
+  -- A run that wasn't counted is taken: those of its clusters are counted that an old block counts, and the blocks that are lacking for it
+  -- are written.
   pub record TakesRoom (run : Run) (s : ImageState S) (result : Result Unit Fault) (s' : ImageState S) : Type 0 where
     pub counts : CountsNamed state run.first run.len s result s'
     pub taken : WhereGuarded state s (IsUncounted (metadata state s) run
         → OnOk result (IsTaken (metadata state s') run))
 
-  -- A copy of the refcount table takes a run, and becomes the image's, while the old one comes to wait; where something is known of the image
-  -- that says that the run isn't counted.
+  -- A copy of the refcount table takes a run, and becomes the image's, while the old one comes to wait; where something is known of the
+  -- image that says that the run isn't counted.
   pub record FillsRoom (known : Type 0) (run : Run) (copy : TableValue) (s : ImageState S) (result : Result Unit Fault)
       (s' : ImageState S) : Type 0 where
     pub leaked : ℕ → ℕ

@@ -38,8 +38,8 @@ pub record MayWrite (h : Header) (first n : ℕ) (taken : ℕ → ℕ) (s : Stor
   pub header : m.header ≡ h
   pub free : IsSound m → (d : ℕ) → first ≤ d → d < first + n → (named_at_all m d ≡ 0) × (IsUsed m d → 0 < taken d)
 
--- n clusters from one on are written, where they may be: what is to the disk stays, and what is counted and named. The rest of the file stays.
--- Only memory and the storage refuse it.
+-- n clusters from one on are written, where they may be: what is to the disk stays, and what is counted and named. The rest of the file
+-- stays. Only memory and the storage refuse it.
 pub record WritesClusters (h : Header) (first n : ℕ) (old : StorageState) (result : Result Unit Fault) (new : StorageState) : Type 0 where
   pub shape : new.shape ≡ old.shape
   pub later : Later old new
@@ -60,7 +60,8 @@ pub record WritesBlockTo (h : Header) (index : ℕ) (run : Run) (d : ℕ) (old :
   pub counters : (m : Metadata) (taken : ℕ → ℕ) → MayWrite h d 1 taken old m → IsTrue old.shape.keeps → IsSound m → result ≡ Ok tt
       → HasCountedOwn (bytes_of new.bytes) h.fields d index run
 
--- The blocks that are lacking for a run are written to its first clusters, in the order of their indices, and count those of it that are theirs.
+-- The blocks that are lacking for a run are written to its first clusters, in the order of their indices, and count those of it that are
+-- theirs.
 pub record WritesLacking (h : Header) (table : TableValue) (run : Run) (old : StorageState) (result : Result Unit Fault)
     (new : StorageState) : Type 0 where
   pub writes : WritesClusters h run.first run.len old result new

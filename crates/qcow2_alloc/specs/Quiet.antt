@@ -75,8 +75,8 @@ module _ (m : Metadata) where
     pub apart : structure m.file m.header.fields (meets m.header.fields c) ≡ 0
     pub taken : waiting c < counted c
 
-  -- What is cached is safe, and the refcount table is that of the file. In memory clusters are counted at least for what names them and for what
-  -- waits to free them; nothing names metadata that waits to be freed, in the file or in memory.
+  -- What is cached is safe, and the refcount table is that of the file. In memory clusters are counted at least for what names them and for
+  -- what waits to free them; nothing names metadata that waits to be freed, in the file or in memory.
   pub record IsSound : Type 0 where
     pub safe : Safe m.file m.header m.cached m.order
     pub table : IsTableOf m.file m.header.fields m.table
@@ -84,8 +84,8 @@ module _ (m : Metadata) where
     pub unnamed : (c : ℕ) → 0 < waiting_metadata c → named_at_all c ≡ 0
 
   -- A file with this header shows what the image does in its file or in memory: it is consistent, each of its words means what it does in
-  -- one of them, and what it names has the bytes that it has in the file. Its refcount table may stand elsewhere. Words of the L1 table keep
-  -- each bit, and the header's cluster each byte behind the first 64, which hold numbers alone.
+  -- one of them, and what it names has the bytes that it has in the file. Its refcount table may stand elsewhere. Words of the L1 table
+  -- keep each bit, and the header's cluster each byte behind the first 64, which hold numbers alone.
   pub record ShowsEither (x : Bytes) (H : Header) : Type 0 where
     pub consistent : IsConsistent x H
     pub moved : (offset : ℕ) × (clusters : ℕ) × (H ≡ with_refcount_table m.header offset clusters)
@@ -97,9 +97,10 @@ module _ (m : Metadata) where
     pub contents : (i j : ℕ) → Live (l2_table m.file m.header.fields) m.header.fields i j → (p : ℕ)
         → 0 < of_mapping m.header.fields (touches p 1) (slot x H.fields i j) → x p ≡ m.file p
 
--- The image is as it was to the disk: in memory each word means what it did, and the file shows what it did there or in memory. What is used
--- and not taken keeps its bytes and its place, and no more entries wait to free it. In memory, how often a cluster is counted beyond what names it and what waits to free it has changed by
--- what was handed out and by what was taken back, to be named, to wait or to be free.
+-- The image is as it was to the disk: in memory each word means what it did, and the file shows what it did there or in memory. What is
+-- used and not taken keeps its bytes and its place, and no more entries wait to free it. In memory, how often a cluster is counted beyond
+-- what names it and what waits to free it has changed by what was handed out and by what was taken back, to be named, to wait or to be
+-- free.
 pub record IsQuiet (handed taken : ℕ → ℕ) (old new : Metadata) : Type 0 where
   pub shows : ShowsEither old new.file new.header
   pub words : (i j : ℕ) → Live (l2_table old.file old.header.fields) old.header.fields i j

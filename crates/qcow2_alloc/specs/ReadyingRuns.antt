@@ -17,8 +17,8 @@ use Rattle.qcow2_alloc.specs.ReadyingBlocks.{last_number}
 use Rattle.qcow2_alloc.specs.SearchingClusters.{IsFirstRun}
 use Rattle.qcow2_alloc.specs.State.{ImageState, metadata, IsGuarded, WhereGuarded}
 
--- Why the first run of n clusters from the mark on that aren't counted isn't made ready to be, as a number tells: that of its last cluster, which
--- words can't name or the refcount table doesn't count; or what tells that there is no place for a table that has grown for it.
+-- Why the first run of n clusters from the mark on that aren't counted isn't made ready to be, as a number tells: that of its last cluster,
+-- which words can't name or the refcount table doesn't count; or what tells that there is no place for a table that has grown for it.
 pub record IsRunTold (m : Metadata) (mark n number : ℕ) : Type 0 where
   pub first : ℕ
   pub run : IsFirstRun (counted m) mark n first
@@ -27,7 +27,8 @@ pub record IsRunTold (m : Metadata) (mark n number : ℕ) : Type 0 where
       → length m.table.words ≤ (first + (n - 1)) / counters_of_block m.header.fields))
       ⊎ NoPlaceToGrow m mark ((first + (n - 1)) / counters_of_block m.header.fields + (n / counters_of_block m.header.fields + 2)) number
 
--- The first run of n clusters from the mark on that aren't counted is ready to be: the refcount table names a block for each, and words can name it.
+-- The first run of n clusters from the mark on that aren't counted is ready to be: the refcount table names a block for each, and words can
+-- name it.
 pub record ReadiesRun {S : Type 0} (state : S → StorageState) (mark n : ℕ) (s : ImageState S) (result : Result ℕ Fault)
     (s' : ImageState S) : Type 0 where
   pub leaked : ℕ → ℕ

@@ -1,4 +1,5 @@
--- What holds of an image file and of the tables and blocks that are cached of it, so that the file is consistent whenever the machine stops.
+-- What holds of an image file and of the tables and blocks that are cached of it, so that the file is consistent whenever the machine
+-- stops.
 use Rattle.imago_storage.specs.State.{StorageState, Rose, InStep}
 use Rattle.std.specs.Prelude.{IsTrue, ◌≡◌, ◌≢◌, ◌⊎◌, ℕ, ◌*◌, ◌<◌, ◌≤◌, ◌^◌, true, false, List, length, slice_index, nat_eq, Some}
 use Rattle.std.specs.List.{AllByRecursion, IsDistinct}

@@ -43,8 +43,8 @@ impl Allocator {
     /// The allocator of an image: its refcount table is loaded, and the search for free clusters begins at cluster 0.
     ///
     /// It refuses with `Fault::DamagedTable` where the table doesn't begin with a cluster that words can name, and then asks nothing of the
-    /// storage, or where one of its words has no meaning; with `Fault::Limit` where the table has more than 2^20 words; with `Fault::Memory`;
-    /// and with `Fault::Storage`.
+    /// storage, or where one of its words has no meaning; with `Fault::Limit` where the table has more than 2^20 words; with
+    /// `Fault::Memory`; and with `Fault::Storage`.
     pub fn new<S: Storage>(alloc: Global, file: &mut ImageFile<S>) -> Result<Allocator, Fault>
         ensures loads { LoadsAllocator (S.state file.old.image) file.old.header.fields result (S.state file.new.image) }
         ensures header { file.new.header ≡ file.old.header }
@@ -215,8 +215,8 @@ impl Allocator {
         Ok(())
     }
 
-    /// Counts down the clusters of each entry of the list: first those that held metadata, which nothing names, in the file or in memory; then,
-    /// once it was announced that tables are written before blocks, those of the guest's data. In an image whose data is in an
+    /// Counts down the clusters of each entry of the list: first those that held metadata, which nothing names, in the file or in memory;
+    /// then, once it was announced that tables are written before blocks, those of the guest's data. In an image whose data is in an
     /// external file, nothing is counted for these: they are taken off the list, and nothing is announced.
     ///
     /// It refuses with `Fault::Memory`; with `Fault::Storage`; with `Fault::CacheFull` only where as many blocks are pinned as there is

@@ -139,8 +139,8 @@ pub fn mapping_a_kept_cluster()
         → NamesDropped (file_with f H order cached) i j (zeroes (Some x) true) (data_at x true) cached' }
 {}
 
-/// A word of a cached L2 table may be set to the one that `L2TableWriteGuard::map_cluster` writes for a data cluster that nothing names, in the
-/// file or in memory, and that is counted in memory. What is cached stays safe, and nothing else changes in memory.
+/// A word of a cached L2 table may be set to the one that `L2TableWriteGuard::map_cluster` writes for a data cluster that nothing names, in
+/// the file or in memory, and that is counted in memory. What is cached stays safe, and nothing else changes in memory.
 pub fn naming_a_cluster()
     ensures { (f : Bytes) (H : Header) (cached cached' : Cached) (order : CacheDependency) (key i j x : ℕ) → Safe f H cached order
         → (sets : SetsWord f H.fields cached key i j (2 ^ 63 + x * cluster_size H.fields) cached')
@@ -169,8 +169,8 @@ pub fn what_is_safe_is_sound()
         → IsSound (record { file = f; header = H; cached = cached; order = order; table = table; pending = [] }) }
 {}
 
-/// An image that a checker accepts is sound right after it was opened: by the header that loads from it, for reading or for writing, with new
-/// caches and a new allocator. Only memory and the storage refuse that allocator, and the L1 table, which is loaded as the file has it.
+/// An image that a checker accepts is sound right after it was opened: by the header that loads from it, for reading or for writing, with
+/// new caches and a new allocator. Only memory and the storage refuse that allocator, and the L1 table, which is loaded as the file has it.
 pub fn what_a_checker_accepts_opens_sound()
     ensures consistent { (f : Bytes) (found : List (ℕ × ℕ)) (writing : Bool) (H : Header) → IsVerdict f (Ok found)
         → header_of writing f ≡ Ok H → IsConsistent f H }
@@ -248,16 +248,16 @@ pub fn what_is_quiet_adds_up()
         → IsQuiet (λ c. h c + both c) (λ c. t c + both c) m m' → IsQuiet h t m m' }
 {}
 
-/// What is done quietly names no cluster anew that is used and not taken. So what a caller was handed stays unnamed until it names it: it is
-/// used, as it is counted beyond what waits to free it and nothing names it.
+/// What is done quietly names no cluster anew that is used and not taken. So what a caller was handed stays unnamed until it names it: it
+/// is used, as it is counted beyond what waits to free it and nothing names it.
 pub fn what_is_used_is_not_named_anew()
     ensures names { (m m' : Metadata) (handed taken : ℕ → ℕ) → IsQuiet handed taken m m' → (c : ℕ) → IsUsed m c → taken c ≡ 0
         → named_at_all m' c ≤ named_at_all m c }
     ensures unnamed { (m : Metadata) (c : ℕ) → waiting m c < counted m c → named_at_all m c ≡ 0 → IsUsed m c }
 {}
 
-/// Of two calls, where the first wasn't cut off, what is handed out and taken adds up, too; also where the second was cut off over a storage
-/// that tells its stops, which refused no change.
+/// Of two calls, where the first wasn't cut off, what is handed out and taken adds up, too; also where the second was cut off over a
+/// storage that tells its stops, which refused no change.
 pub fn what_is_done_quietly_adds_up()
     ensures then { (first second : Result Unit Fault) (h t h' t' : ℕ → ℕ) (s : StorageState) (m : Metadata) (s' : StorageState)
         (m' : Metadata) (s'' : StorageState) (m'' : Metadata) → WasNotCutOff first → (IsSound m → (c : ℕ) → 0 < referenced m c → t c ≡ 0)
@@ -273,8 +273,8 @@ pub fn what_is_done_quietly_adds_up()
         → Quietly (WasNotCutOff result) h t s m s' m' }
 {}
 
-/// A counter of a cached block may be lowered where an entry of the list of clusters to free had its cluster, while tables are written before
-/// blocks, or if the entry is of metadata. The image stays sound, and is to the disk as it was.
+/// A counter of a cached block may be lowered where an entry of the list of clusters to free had its cluster, while tables are written
+/// before blocks, or if the entry is of metadata. The image stays sound, and is to the disk as it was.
 pub fn freeing_a_cluster()
     ensures { (m : Metadata) (key c n : ℕ) (cached' : Cached) (pending' : List FreeEntry) → IsSound m → (m.order ≡ RbDependsOnL2)
         ⊎ (0 < waiting_metadata m c) → SetsCounter m.file m.header.fields m.cached key c n cached' → counted m c ≡ n + 1
@@ -311,8 +311,8 @@ pub fn entries_of_metadata_count_one_by_one()
         ≡ covers c (record { first = first; count = count; metadata = metadata }) + one_at (first + count) c }
 {}
 
-/// Clusters may be put among those that wait to be freed, where the counts cover them beside what is named and what waits; nothing names those
-/// of metadata. They are taken back.
+/// Clusters may be put among those that wait to be freed, where the counts cover them beside what is named and what waits; nothing names
+/// those of metadata. They are taken back.
 pub fn putting_off_a_free()
     ensures { (m : Metadata) (e : FreeEntry) → IsSound m → ((c : ℕ) → referenced m c + waiting m c + covers c e ≤ counted m c)
         → ((c : ℕ) → 0 < covers_metadata c e → named_at_all m c ≡ 0)
@@ -320,8 +320,8 @@ pub fn putting_off_a_free()
         × IsQuiet (λ _. 0) (λ c. covers c e) m (record m { pending = m.pending ++ e ∷ [] }) }
 {}
 
-/// While blocks are written before tables, a cluster that isn't counted in memory is named nowhere, nothing waits to free it, and it isn't used.
-/// Flushes leave each count in memory, and name no cluster anew; where no block waits to be written the file counts what memory does.
+/// While blocks are written before tables, a cluster that isn't counted in memory is named nowhere, nothing waits to free it, and it isn't
+/// used. Flushes leave each count in memory, and name no cluster anew; where no block waits to be written the file counts what memory does.
 pub fn what_is_uncounted_is_free()
     ensures free { (m : Metadata) → IsSound m → m.order ≡ L2DependsOnRb → (c : ℕ) → counted m c ≡ 0 → (named_at_all m c ≡ 0)
         × (waiting m c ≡ 0) × (IsUsed m c → ⊥) }
@@ -339,8 +339,8 @@ pub fn what_is_written_quietly()
         → Quietly (result ≡ Ok tt) handed taken old m new m' → Quietly (WasNotCutOff result) handed taken old m new m' }
 {}
 
-/// Clusters c to c + k, which nothing names, in the file or in memory, may be written by any number of requests: the image is to the disk as
-/// it was, and counts and names what it did. What of them is used is taken for that.
+/// Clusters c to c + k, which nothing names, in the file or in memory, may be written by any number of requests: the image is to the disk
+/// as it was, and counts and names what it did. What of them is used is taken for that.
 pub fn writing_free_clusters()
     ensures quietly { (m : Metadata) (c k at : ℕ) (bytes : List ℕ) (taken : ℕ → ℕ) (old new : StorageState) → IsIn old m
         → c * cluster_size m.header.fields ≤ at → at + length bytes ≤ (c + k + 1) * cluster_size m.header.fields
@@ -370,8 +370,8 @@ pub fn writing_a_new_block()
         × (counters_in (bytes_of new.bytes) m.header.fields (d * cluster_size m.header.fields) ≡ block.counters) }
 {}
 
-/// The counters of such a block are those that `IsReadyBlock` asks for, where it has zeroes alone, or counts itself once; and what is cached of
-/// it is what is found there.
+/// The counters of such a block are those that `IsReadyBlock` asks for, where it has zeroes alone, or counts itself once; and what is
+/// cached of it is what is found there.
 pub fn what_a_new_block_counts()
     ensures each { (f : Bytes) (h : Fields) (place : ℕ) (counters : List ℕ) → counters_in f h place ≡ counters → (j : ℕ)
         → j < counters_of_block h → counter f h place j ≡ slice_index counters j }
@@ -391,9 +391,9 @@ pub fn what_a_new_block_counts()
         → AllByRecursion (λ e. e.0 ≡ key → e.1.value.counters ≡ block.counters) blocks }
 {}
 
-/// A word of the refcount table, which named no block, may come to name one in a cluster that is ready for it, by one request. Where another
-/// block counts that cluster, it was handed out before, and is taken; where it counts itself, it is counted by this alone. Nothing else is
-/// counted or named otherwise.
+/// A word of the refcount table, which named no block, may come to name one in a cluster that is ready for it, by one request. Where
+/// another block counts that cluster, it was handed out before, and is taken; where it counts itself, it is counted by this alone. Nothing
+/// else is counted or named otherwise.
 pub fn naming_a_block()
     ensures counted { (m : Metadata) (i d : ℕ) (modified : Bool) (old new : StorageState) → IsIn old m → (IsSound m → IsReadyBlock m i d)
         → d / counters_of_block m.header.fields ≢ i
@@ -412,9 +412,10 @@ pub fn naming_a_block()
         → result ≡ Ok tt → BlockNamed m (with_block m i d modified (bytes_of new.bytes)) i d }
 {}
 
-/// The header may come to name another refcount table that is ready for it, by one request of its first bytes, where these make a header that
-/// loads. The old table's clusters are handed out by that: nothing names them then, and they are counted still. What of the new table and the
-/// new blocks an old block counts was handed out before, and is taken. The new header loads where it keeps the limits, as the old one does.
+/// The header may come to name another refcount table that is ready for it, by one request of its first bytes, where these make a header
+/// that loads. The old table's clusters are handed out by that: nothing names them then, and they are counted still. What of the new table
+/// and the new blocks an old block counts was handed out before, and is taken. The new header loads where it keeps the limits, as the old
+/// one does.
 pub fn switching_the_table()
     ensures quietly { (m : Metadata) (table : TableValue) (t n : ℕ) (old new : StorageState) → IsIn old m
         → (IsSound m → IsReadyTable m table t n)
@@ -437,8 +438,8 @@ pub fn switching_the_table()
     ensures limits { (m : Metadata) → IsSound m → first_fault (rules_of_size m.header.fields) ≡ None }
 {}
 
-/// A table that has grown, with new blocks before it, is ready: it names the run of their clusters anew. Of these an old block counts all but
-/// those that the new blocks do.
+/// A table that has grown, with new blocks before it, is ready: it names the run of their clusters anew. Of these an old block counts all
+/// but those that the new blocks do.
 pub fn what_has_grown_is_ready()
     ensures ready { (m : Metadata) (table : TableValue) (s n : ℕ) (new : ℕ → Bool) → IsSound m → IsGrownTable m table s new n
         → IsReadyTable m table (s + rank new (length table.words)) n }
@@ -467,7 +468,8 @@ pub fn the_old_table_waits_to_be_freed()
         }) }
 {}
 
-/// Of two calls, the second may be shown to be quiet by what the first left, where the storage keeps what is written and the image was sound.
+/// Of two calls, the second may be shown to be quiet by what the first left, where the storage keeps what is written and the image was
+/// sound.
 pub fn what_is_done_quietly_may_use_what_was_done()
     ensures given { (result : Result Unit Fault) (handed taken : ℕ → ℕ) (s : StorageState) (m : Metadata) (s' : StorageState)
         (m' : Metadata) → s'.shape ≡ s.shape → Later s s'
@@ -480,8 +482,8 @@ pub fn what_is_done_quietly_may_use_what_was_done()
         → Quietly (second ≡ Ok tt) (λ c. h c + h' c) (λ c. t c + t' c) s m s'' m'' }
 {}
 
-/// While blocks are written before tables, a block that counts itself may be made in a cluster of which no block is cached, and that no block
-/// counts: it is written, and then named. Nothing is handed out by that, and nothing taken.
+/// While blocks are written before tables, a block that counts itself may be made in a cluster of which no block is cached, and that no
+/// block counts: it is written, and then named. Nothing is handed out by that, and nothing taken.
 pub fn making_a_block_that_counts_itself()
     ensures { (m : Metadata) (d : ℕ) (block : Block) (modified : Bool) (old mid new : StorageState) → IsIn old m
         → block.order ≡ m.header.fields.refcount_order
@@ -500,7 +502,8 @@ pub fn making_a_block_that_counts_itself()
         (with_block m (d / counters_of_block m.header.fields) d modified (bytes_of new.bytes)) }
 {}
 
-/// So may a block of zeroes, in a cluster that another block counts, while no block waits to be written: the cluster was handed out, and is taken.
+/// So may a block of zeroes, in a cluster that another block counts, while no block waits to be written: the cluster was handed out, and is
+/// taken.
 pub fn making_a_block_that_another_counts()
     ensures { (m : Metadata) (i d : ℕ) (block : Block) (modified : Bool) (old mid new : StorageState) → IsIn old m
         → block.order ≡ m.header.fields.refcount_order
@@ -515,8 +518,8 @@ pub fn making_a_block_that_another_counts()
         → Quietly (result ≡ Ok tt) (λ _. 0) (one_at d) old m new (with_block m i d modified (bytes_of new.bytes)) }
 {}
 
-/// A quarter of the space that is free in a row, from the mark on, is room for an allocation of no more than a sixteenth of it. So one that is
-/// refused with `Fault::Limit` asked for more, or there is no such quarter.
+/// A quarter of the space that is free in a row, from the mark on, is room for an allocation of no more than a sixteenth of it. So one that
+/// is refused with `Fault::Limit` asked for more, or there is no such quarter.
 pub fn a_quarter_is_room()
     ensures { (m : Metadata) (mark n first : ℕ) → mark ≤ first → first + space m.header.fields / 4 ≤ space m.header.fields
         → ((c : ℕ) → first ≤ c → c < first + space m.header.fields / 4 → counted m c ≡ 0) → n ≤ space m.header.fields / 16

@@ -99,10 +99,10 @@ impl Allocator {
     /// The answer is to be spent as that of `allocate_clusters`.
     ///
     /// It refuses with `Fault::Memory`; with `Fault::Storage`; with `Fault::CacheFull` only where a block is pinned, and of a sound image
-    /// whose refcount table names each that is only where as many are as there is room for; and with `Fault::Counter` and `Fault::DamagedTable`,
-    /// which no sound image has. Nothing is handed out then, and no room is held. A block may have been made, and the refcount table may
-    /// have grown and moved, whatever is answered: the old table's clusters wait on the list then. The file of a sound image shows the
-    /// same at each stop, where the storage tells its stops and has refused no change.
+    /// whose refcount table names each that is only where as many are as there is room for; and with `Fault::Counter` and
+    /// `Fault::DamagedTable`, which no sound image has. Nothing is handed out then, and no room is held. A block may have been made, and
+    /// the refcount table may have grown and moved, whatever is answered: the old table's clusters wait on the list then. The file of a
+    /// sound image shows the same at each stop, where the storage tells its stops and has refused no change.
     pub fn allocate_cluster_at<S: Storage>(
         &mut self,
         file: &mut ImageFile<S>,
@@ -133,15 +133,16 @@ impl Allocator {
     /// room from the mark on, or from where the clusters end that the old table can count, behind the blocks that are lacking there. The
     /// clusters of the old table are put on the list.
     ///
-    /// The grown copy of the table, and room for the old one's clusters on the list, are taken before anything else, so want of memory for these
-    /// leaves all as it was.
+    /// The grown copy of the table, and room for the old one's clusters on the list, are taken before anything else, so want of memory for
+    /// these leaves all as it was.
     ///
     /// It refuses with `Fault::Limit` where the table would have more than 2^20 words, and tells the first length past that which fills its
     /// clusters; or where its room ends out of reach of words or behind what the table could count, and tells the room's last cluster;
     /// with `Fault::Memory`; with `Fault::Storage`; with `Fault::CacheFull` only where a block is pinned, and of a sound image whose
-    /// refcount table names each that is only where as many are as there is room for; and with `Fault::Counter` and `Fault::DamagedTable`, which no sound
-    /// image has. The list stays then, and unless memory or the storage failed so do table and header; with `Fault::CacheFull` clusters
-    /// may leak. The file of a sound image shows the same at each stop, where the storage tells its stops and has refused no change.
+    /// refcount table names each that is only where as many are as there is room for; and with `Fault::Counter` and `Fault::DamagedTable`,
+    /// which no sound image has. The list stays then, and unless memory or the storage failed so do table and header; with
+    /// `Fault::CacheFull` clusters may leak. The file of a sound image shows the same at each stop, where the storage tells its stops and
+    /// has refused no change.
     pub fn grow_reftable<S: Storage>(
         &mut self,
         file: &mut ImageFile<S>,

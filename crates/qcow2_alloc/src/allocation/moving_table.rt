@@ -41,8 +41,8 @@ impl Allocator {
         self.move_table(file, table)
     }
 
-    // Counts a run of clusters that aren't counted, and writes the blocks that are lacking for that to its first ones. Those that old blocks
-    // count are counted in the file before new blocks are named.
+    // Counts a run of clusters that aren't counted, and writes the blocks that are lacking for that to its first ones. Those that old
+    // blocks count are counted in the file before new blocks are named.
     fn take_room<S: Storage>(
         &self,
         file: &mut ImageFile<S>,
