@@ -70,10 +70,7 @@ fn name_words(
 {
     for next in 0..count.0 {
         let word = index + next as usize;
-        match name_word(table, to_free, word, HostCluster(cluster.0 + next)) {
-            Ok(()) => {}
-            Err(fault) => return Err(fault),
-        }
+        name_word(table, to_free, word, HostCluster(cluster.0 + next))?;
     }
     Ok(())
 }
@@ -120,10 +117,8 @@ fn name_in_table<S: Storage>(
     ensures held { to_free.new.held ≡ to_free.old.held }
 {
     let cluster_bits = file.header.cluster_bits();
-    match caches.l2_get_or_insert(file, table) {
-        Ok(table) => name_in(table, to_free, guest, cluster, count, cluster_bits),
-        Err(fault) => Err(fault),
-    }
+    let table = caches.l2_get_or_insert(file, table)?;
+    name_in(table, to_free, guest, cluster, count, cluster_bits)
 }
 
 /// Has guest clusters in a row, of one L2 table, which is in this cluster, each name its own of host clusters in a row as its data, as

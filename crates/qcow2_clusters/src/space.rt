@@ -27,12 +27,10 @@ impl Space {
         ensures empty { MatchResult result (λ space. space.to_free ≡ record { entries = []; held = 0 }) (λ _. Unit) }
         ensures header { file.new.header ≡ file.old.header }
     {
-        match Allocator::new(alloc, file) {
-            Ok(allocator) => Ok(Space {
-                allocator,
-                to_free: ClustersToFreeList::new(alloc),
-            }),
-            Err(fault) => Err(fault),
-        }
+        let allocator = Allocator::new(alloc, file)?;
+        Ok(Space {
+            allocator,
+            to_free: ClustersToFreeList::new(alloc),
+        })
     }
 }

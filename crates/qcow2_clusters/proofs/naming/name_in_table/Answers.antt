@@ -5,12 +5,12 @@ use Rattle.qcow2_alloc.proofs.Caching.UsingTables.{table-used}
 use Rattle.qcow2_clusters.specs.Naming.{NamesIn, listing}
 use Rattle.qcow2_clusters.proofs.naming.name_in_table.Goals as goal
 
-pub returns-in-Ok-clause-named : goal.returns-in-Ok-clause-named
-returns-in-Ok-clause-named g c =
+pub returns-clause-named : goal.returns-clause-named
+returns-clause-named g c =
     let h = c.args.file.now.header.fields in
     let bits = c.cluster_bits-cluster_bits.ensures.value in
     table-used {T = Unit} g.S.Storage.state c.args.table
     (λ t r t'. NamesIn h.cluster_bits (c.args.guest % words_of_cluster h) c.args.cluster c.args.count (listing t c.args.to_free.now) r
     (listing t' c.name_in.new.to_free))
-    c.args.caches.now c.args.file.now _ c.l2_get_or_insert.new.file c.l2_get_or_insert.result c.in-Ok.table c.name_in.result c.name_in.new.table
-    c.in-Ok.is (c.l2_get_or_insert.follows.holds c.name_in.new.table) (rw (sym bits) c.name_in.ensures.named)
+    c.args.caches.now c.args.file.now _ c.l2_get_or_insert.new.file c.l2_get_or_insert.result c.in_ok-table.table c.name_in.result c.name_in.new.table
+    c.in_ok-table.was (c.l2_get_or_insert.follows.holds c.name_in.new.table) (rw (sym bits) c.name_in.ensures.named)

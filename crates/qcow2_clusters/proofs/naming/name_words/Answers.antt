@@ -35,6 +35,6 @@ loop-next-preserved c =
     let old = listing c.args.table.now c.args.to_free.now in (
       words-more c.args.index c.args.cluster l.next old (listing l.table l.to_free) (listing c.name_word.new.table c.name_word.new.to_free)
           l.invariant.0 (subst (λ (x : ℕ). NamesWord (c.args.index + l.next) (x + l.next) (listing l.table l.to_free)
-          (listing c.name_word.new.table c.name_word.new.to_free)) c.cluster.view_is c.in-Ok.ensures.ok),
-      c.in-Ok.ensures.held ∙ l.invariant.1,
+          (listing c.name_word.new.table c.name_word.new.to_free)) c.cluster.view_is c.in_ok-name_word.ensures.ok),
+      c.in_ok-name_word.ensures.held ∙ l.invariant.1,
     )
