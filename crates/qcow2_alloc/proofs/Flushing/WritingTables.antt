@@ -1,6 +1,6 @@
 -- A modified table is written to its cluster: the file stays consistent, and what is cached stays safe.
-use Rattle.std.proofs.Common.{◌≡◌, ◌≢◌, ℕ, ◌+◌, ◌-◌, ◌*◌, ◌/◌, ◌^◌, ◌<◌, ◌≤◌, refl, arith, ap, sym, subst, ◌∙◌, List, [], ◌∷◌, ◌++◌, length, true, false, inl, inr}
-use Rattle.std.specs.Prelude.{Some, ◌⊎◌, nat_eq, slice_index, IsFalse}
+use Rattle.std.proofs.Common.{◌≡◌, ◌≢◌, ℕ, ◌+◌, ◌*◌, ◌/◌, ◌^◌, ◌<◌, ◌≤◌, refl, arith, ap, sym, subst, ◌∙◌, List, [], ◌∷◌, ◌++◌, length, true, false, inl, inr}
+use Rattle.std.specs.Prelude.{Some, nat_eq, slice_index, IsFalse}
 use Rattle.std.specs.List.{AllByRecursion, IsDistinct}
 use Rattle.std.specs.Map.{keys_of}
 use Rattle.std.proofs.lemmas.Bool.{not-true}
