@@ -3,7 +3,7 @@ use Rattle.std.proofs.Common.{◌≡◌, ℕ, ◌+◌, ◌-◌, ◌*◌, ◌/◌
 use Rattle.std.specs.Prelude.{Bool, true, false, ◌&&◌, nat_lt, if◌then◌else◌}
 use Rattle.std.proofs.lemmas.Bool.{cases_lt, lt-ltb, le-ltb, le-leb, lt-leb}
 use Rattle.std.proofs.Math.Nat.{div-mul-le_self, lt-div-mul-add, pow-le-pow_right, mul-le-mul_left}
-use Rattle.std.proofs.lemmas.Nat.{pow_pos, mul-le}
+use Rattle.std.proofs.lemmas.Nat.{pow_pos, mul-le, div-mul-add}
 use Rattle.qcow2_types.specs.Header.{Fields, cluster_size}
 use Rattle.qcow2_types.specs.Words.{data_at}
 use Rattle.qcow2_types.specs.References.{Weight, meets, of_copied}
@@ -58,18 +58,27 @@ adds-range h old new first length low high times long at til adds = record {
     same c = meets-between h c first length long ∙ ap (λ a. is_between a ((first + (length - 1)) / cluster_size h + 1) c) (sym at) ∙ ap (λ b. is_between low (b + 1) c) (sym til)
 
 -- so a cluster that a word names, so often, is
-pub adds-data : (h : Fields) (old new : Tallies) (place size cluster times marked : ℕ) (copied : Bool) → place ≡ cluster * cluster_size h → size ≡ cluster_size h → marked ≡ (if copied then times else 0)
-    → AddsRange h old new place size (record { structure = 0; mapped = times; copied = marked }) → AddsMapping h times old new (data_at cluster copied)
-adds-data h old new place size cluster times marked copied at is marks adds = record {
+pub adds-data : (old new : Tallies) (cluster times marked : ℕ) (copied : Bool) → marked ≡ (if copied then times else 0)
+    → AddsClusters old new cluster (cluster + 1) (record { structure = 0; mapped = times; copied = marked }) → (h : Fields) → AddsMapping h times old new (data_at cluster copied)
+adds-data old new cluster times marked copied marks entered h = record {
   structure = λ c. none _ _ _ (adds.structure c);
-  mapped = λ c. adds.mapped c ∙ ap (λ n. named_by mapped_part c old + times * n) (here c);
-  copied = λ c. adds.copied c ∙ ap (λ n. named_by copied_part c old + n) (ap (λ n. n * meets h c place size) marks ∙ ap (λ n. (if copied then times else 0) * n) (here c) ∙ by-mark copied (meets h c));
+  mapped = adds.mapped;
+  copied = λ c. adds.copied c ∙ ap (λ n. named_by copied_part c old + n) (ap (λ n. n * meets h c (cluster * cluster_size h) (cluster_size h)) marks ∙ by-mark copied (meets h c));
   cells = adds.cells;
   spares = adds.spares;
 }
   where
-    here : (c : ℕ) → meets h c place size ≡ meets h c (cluster * cluster_size h) (cluster_size h)
-    here c = ap (λ p. meets h c p size) at ∙ ap (meets h c (cluster * cluster_size h)) is
+    some : 0 < cluster_size h
+    some = pow_pos h.cluster_bits
+
+    low : cluster ≡ cluster * cluster_size h / cluster_size h
+    low = sym (ap (λ n. n / cluster_size h) (let e : cluster * cluster_size h ≡ cluster * cluster_size h + 0 = omega arith in e) ∙ div-mul-add cluster (cluster_size h) 0 some)
+
+    high : cluster ≡ (cluster * cluster_size h + (cluster_size h - 1)) / cluster_size h
+    high = sym (div-mul-add cluster (cluster_size h) (cluster_size h - 1) (omega (arith, some)))
+
+    adds : AddsRange h old new (cluster * cluster_size h) (cluster_size h) (record { structure = 0; mapped = times; copied = marked })
+    adds = adds-range h old new (cluster * cluster_size h) (cluster_size h) cluster cluster (record { structure = 0; mapped = times; copied = marked }) some low high entered
 
     none : (a b x : ℕ) → a ≡ b + 0 * x → a ≡ b + 0
     none a b x p = omega (arith, p)
@@ -77,6 +86,13 @@ adds-data h old new place size cluster times marked copied at is marks adds = re
     by-mark : (mark : Bool) (w : Weight) → (if mark then times else 0) * w (cluster * cluster_size h) (cluster_size h) ≡ times * of_copied h w (data_at cluster mark)
     by-mark true w = refl
     by-mark false w = omega arith
+
+-- a cluster whose offset is below 2 to the 57 is too
+pub named-small : (cluster k : ℕ) → 9 ≤ k → cluster * 2 ^ k < 2 ^ 57 → cluster < 2 ^ 53
+named-small cluster k low lt =
+    let least : 2 ^ 9 ≤ 2 ^ k = pow-le-pow_right (omega arith) low in
+    let less : cluster * 2 ^ 9 ≤ cluster * 2 ^ k = mul-le-mul_left cluster least in
+    omega (arith, less, lt)
 
 -- the cluster of an offset below 2 to the 62 leaves room for a digit and its place
 pub cluster-small : (n k : ℕ) → 9 ≤ k → n < 2 ^ 62 → n / 2 ^ k + 1 ≤ 2 ^ 53

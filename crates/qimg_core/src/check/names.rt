@@ -78,6 +78,7 @@ pub fn no_names(alloc: Global, count: usize) -> Result<Tallies, CheckFault>
 }
 
 /// What a cell counts with more, if there is room.
+#[inline(always)]
 fn cell_with(cell: FewTimes, more: Times) -> Option<FewTimes>
     ensures sum { IfSome result (IsFewSum cell more) }
     ensures room { HasRoom cell more → IsSome result }
@@ -96,6 +97,7 @@ fn cell_with(cell: FewTimes, more: Times) -> Option<FewTimes>
 }
 
 /// What a cluster's cell says.
+#[inline(always)]
 pub fn cell_of(cells: &[FewTimes], cluster: u64) -> FewTimes
     ensures { result ≡ cell_at cells.now cluster }
 {
@@ -118,7 +120,8 @@ fn enter_other(others: &mut Others, cluster: u64, times: Times) -> Result<(), Ch
 }
 
 /// Enters one cluster: in its cell, if that has room.
-fn name_cluster(names: &mut Tallies, cluster: u64, times: Times) -> Result<(), CheckFault>
+#[inline(always)]
+pub fn name_cluster(names: &mut Tallies, cluster: u64, times: Times) -> Result<(), CheckFault>
     requires { cluster < 2 ^ 53 }
     ensures ok { OnOk result (AddsClusters names.old names.new cluster (cluster + 1) times) }
     ensures room { HasRoomAt names.old cluster times → IsOk result × (names.new.others ≡ names.old.others) }

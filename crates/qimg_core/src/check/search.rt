@@ -105,7 +105,7 @@ fn times_listed(names: &Tallies, cluster: u64, way: &mut Way) -> AllTimes
 }
 
 /// How often a cluster is named, where the way has come to it. The way goes on behind it.
-#[inline]
+#[inline(always)]
 pub fn times_along(names: &Tallies, cluster: u64, way: &mut Way) -> AllTimes
     requires rising { AreRising names.now.others }
     requires along { IsAlong names.now.others cluster way.old }

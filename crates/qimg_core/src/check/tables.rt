@@ -2,7 +2,7 @@
 ghost use Rattle.std.specs.Prelude.{◌≡◌, ℕ, ◌+◌, ◌*◌, ◌<◌, ◌≤◌, ◌^◌, length, slice_index, true, Ok, OnOk, IfOk, IfErr, IsOkUnless, IsTrue, All};
 ghost use Rattle.imago_storage.specs.Calls.{Kept};
 ghost use Rattle.qcow2_types.specs.Words.{max_offset, is_place, data_at};
-ghost use Rattle.qcow2_types.specs.Header.{cluster_size, words_of_cluster, layout_of, header_of};
+ghost use Rattle.qcow2_types.specs.Header.{Fields, cluster_size, words_of_cluster, layout_of, header_of};
 ghost use Rattle.qcow2_types.specs.Entries.{l1_table_sound, l2_table_sound};
 ghost use Rattle.qcow2_types.specs.Counts.{refcount_table_sound};
 ghost use Rattle.qcow2_metadata.specs.MappingView.{mapping_seen, IsNamed};
@@ -11,7 +11,7 @@ ghost use Rattle.qimg_core.specs.Entering.{AddsPlaces, AddsStart, AddsStructure,
 ghost use Rattle.qimg_core.specs.CheckParts.{tables_of, AreTables, IsBlocks, HoldsPlaces, IsUnsound, IsDamagedTable, IsOneDamaged};
 ghost use Rattle.qimg_core.specs.Check.{Found};
 
-use super::names::{Tallies, Times, name_range};
+use super::names::{Tallies, Times, name_cluster, name_range};
 use super::{CheckFault, blocks_end, load_fault};
 use crate::file_end::words_before;
 use imago_storage::Storage;
@@ -168,13 +168,15 @@ pub fn name_structure(
 }
 
 /// Enters what a word of an L2 table names, so often.
+#[inline(always)]
 fn name_mapping(
     names: &mut Tallies,
     header: &Header,
     mapping: L2Mapping,
     times: u64,
 ) -> Result<(), CheckFault>
-    requires { IsNamed header.now.fields.cluster_bits mapping }
+    requires wide { 9 ≤ header.now.fields.cluster_bits }
+    requires named { IsNamed header.now.fields.cluster_bits mapping }
     ensures ok { OnOk result (AddsMapping header.now.fields times names.old names.new (mapping_seen mapping)) }
     ensures err { IsOkUnless result CheckFault.Memory }
 {
@@ -182,12 +184,12 @@ fn name_mapping(
         L2Mapping::DataFile {
             host_cluster,
             copied,
-        } => name_data(names, header, host_cluster, copied, times),
+        } => name_data(names, host_cluster, copied, times),
         L2Mapping::Zero {
             host_cluster,
             copied,
         } => match host_cluster {
-            Some(cluster) => name_data(names, header, cluster, copied, times),
+            Some(cluster) => name_data(names, cluster, copied, times),
             None => Ok(()),
         },
         L2Mapping::Compressed {
@@ -206,24 +208,23 @@ fn name_mapping(
 }
 
 /// Enters a cluster that a word of an L2 table names, so often.
+#[inline(always)]
 fn name_data(
     names: &mut Tallies,
-    header: &Header,
     cluster: HostCluster,
     copied: bool,
     times: u64,
 ) -> Result<(), CheckFault>
-    requires { cluster * 2 ^ header.now.fields.cluster_bits ≤ max_offset }
-    ensures ok { OnOk result (AddsMapping header.now.fields times names.old names.new (data_at cluster copied)) }
+    requires { cluster < 2 ^ 53 }
+    ensures ok { (h : Fields) → OnOk result (AddsMapping h times names.old names.new (data_at cluster copied)) }
     ensures err { IsOkUnless result CheckFault.Memory }
 {
-    let HostOffset(place) = cluster.offset(header.cluster_bits());
     let times = Times {
         structure: 0,
         mapped: times,
         copied: if copied { times } else { 0 },
     };
-    name_range(names, header, place, header.cluster_size() as u64, times)
+    name_cluster(names, cluster.0, times)
 }
 
 /// Enters what the words of an L2 table name, so often.
