@@ -1,6 +1,7 @@
 -- Searches for the least cluster that passes a test.
-use Rattle.std.proofs.Common.{◌≡◌, ◌≢◌, ◌⊎◌, ℕ, List, suc, ◌+◌, ◌-◌, ◌^◌, ◌<◌, ◌≤◌, refl, true, false, arith, ap, sym, subst, ◌∙◌, length, inl, inr}
-use Rattle.std.specs.Prelude.{Bool, Option, Some, None, slice_index, IfSome, IsSomeAnd, MatchOption, max}
+use Rattle.std.proofs.Common.{◌≡◌, ◌≢◌, ◌⊎◌, ℕ, List, suc, ◌+◌, ◌-◌, ◌^◌, ◌<◌, ◌≤◌, refl, true, false, arith, ap, sym, subst, ◌∙◌, length, inl, inr, true≢false}
+use Rattle.std.specs.Prelude.{Bool, IsFalse, ◌&&◌, ◌||◌, not, ◌==◌, nat_lt, Option, Some, None, slice_index, IfSome, IsSomeAnd, MatchOption, max}
+use Rattle.std.specs.Option.{is_some}
 use Rattle.std.proofs.lemmas.Bool.{cases_lt, cases_order}
 use Rattle.std.proofs.lemmas.List.{get_or_past}
 use Rattle.std.proofs.lemmas.Option.{IfSome_then}
@@ -10,7 +11,7 @@ use Rattle.qimg_core.specs.declared.check.names.Tallies.{Tallies}
 use Rattle.qimg_core.specs.declared.check.names.Others.{Others}
 use Rattle.qimg_core.specs.declared.check.search.Question.{Question}
 use Rattle.qimg_core.specs.declared.check.search.Way.{Way}
-use Rattle.qimg_core.specs.declared.check.search.Question.TheVariants.{Shared, FalselyCopied, AtAll}
+use Rattle.qimg_core.specs.declared.check.search.Question.TheVariants.{Shared, FalselyCopied, Either, AtAll}
 use Rattle.qimg_core.specs.Names.{no_times, no_few_times, cell_at, cluster_of, other_at, together, times_at, weight_of}
 use Rattle.qimg_core.specs.Searches.{passes, is_such, IsBelow, NoneWithin, IsFirstWithin, IsListed, IsEntry, IsFrom, IsCut, IsAlong}
 use Rattle.qimg_core.proofs.NameLemmas.{as-times}
@@ -90,6 +91,7 @@ module _ (question : Question) (names : Tallies) where
   fails : (q : Question) → passes q no_times ≡ false
   fails Shared = refl
   fails FalselyCopied = refl
+  fails Either = refl
   fails AtAll = refl
 
   such-none : (c : ℕ) → length names.cells.items ≤ c → other_at names.others c ≡ no_times → is_such question names c ≡ false
@@ -174,3 +176,22 @@ module _ (test : ℕ → Bool) (low : ℕ) where
 pub over-all : (test : ℕ → Bool) (next : Option ℕ) → MatchOption next (NoneWithin test 0 None) (IsFirstWithin test 0 None) → MatchOption next (Nowhere test) (IsLeast test)
 over-all test None none = λ c. none.none c (omega arith) tt
 over-all test (Some c) first = (first.is, λ d lt. first.before d (omega arith) lt)
+
+-- where neither of two questions is so
+pub neither : (names : Tallies) (found : Option ℕ) → is_some found ≡ false → MatchOption found (Nowhere (is_such Either names)) (IsLeast (is_such Either names)) → Nowhere (is_such Shared names) × Nowhere (is_such FalselyCopied names)
+unfolding is_such
+neither names (Some c) empty least = absurd (true≢false empty)
+neither names None empty none = (λ c. (at c).0, λ c. (at c).1)
+  where
+    last : (a : Bool) → IsFalse (a && false)
+    last true = refl
+    last false = refl
+
+    both : (a b d : Bool) → IsFalse ((a || b) && d) → IsFalse (a && d) × IsFalse (b && d)
+    both a b false p = (last a, last b)
+    both true b true p = absurd (true≢false p)
+    both false true true p = absurd (true≢false p)
+    both false false true p = (refl, refl)
+
+    at : (c : ℕ) → IsFalse (is_such Shared names c) × IsFalse (is_such FalselyCopied names c)
+    at c = both (nat_lt 0 (times_at names c).structure) (nat_lt 0 (times_at names c).copied) (not ((times_at names c).structure + (times_at names c).mapped == 1)) (none c)

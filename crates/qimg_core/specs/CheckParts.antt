@@ -1,12 +1,12 @@
 -- What the parts of the checker read of an image, and what they find.
-use Rattle.std.specs.Prelude.{◌≡◌, ◌≢◌, ℕ, ◌+◌, ◌*◌, ◌<◌, ◌≤◌, ⊤, not, ◌==◌, min, IsTrue, IsFalse, List, map, length, slice_index, All, Any, Option, Some, None}
+use Rattle.std.specs.Prelude.{◌≡◌, ◌≢◌, ℕ, ◌+◌, ◌*◌, ◌<◌, ◌≤◌, ⊤, not, ◌==◌, min, true, IsTrue, IsFalse, Ok, List, map, length, slice_index, All, Any, Option, Some, None}
 use Rattle.std.specs.Int.{div_ceil}
 use Rattle.std.specs.List.{sum_by, filter, range_with_len}
 use Rattle.imago_storage.specs.declared.fault.Fault.{Fault}
 use Rattle.imago_storage.specs.declared.fault.Fault.TheVariants as fault
 use Rattle.qcow2_types.specs.Bytes.{Bytes}
 use Rattle.qcow2_types.specs.Words.{Mapping, mapping_of, is_place}
-use Rattle.qcow2_types.specs.Header.{Fields, cluster_size, layout_of, refcount_table_entries}
+use Rattle.qcow2_types.specs.Header.{Fields, Feature, Header, header_of, cluster_size, layout_of, refcount_table_entries}
 use Rattle.qcow2_types.specs.Entries.{l2_table, l1_table_sound, l2_table_sound}
 use Rattle.qcow2_types.specs.Counts.{block_at, count, counters_of_block, refcount_table_sound}
 use Rattle.qcow2_types.specs.References.{meets, of_cluster, of_mapping, of_copied, structure, contents}
@@ -18,6 +18,10 @@ use Rattle.qimg_core.specs.declared.check.names.Tallies.{Tallies}
 use Rattle.qimg_core.specs.declared.check.search.Question.TheVariants as question
 use Rattle.qimg_core.specs.declared.check.CheckFault.{CheckFault}
 use Rattle.qimg_core.specs.declared.check.CheckFault.TheVariants.{SharedTable, FalseCopied, UnderCounted, Memory, Storage}
+
+-- The header that loads for writing is this one, but for the names of feature bits.
+abbrev pub HasHeader : Bytes → Header → Type 0
+HasHeader f header = (names : List Feature) × (header_of true f ≡ Ok (record header { features = names }))
 
 -- this is what the image names, for each cluster
 pub record Tells (f : Bytes) (h : Fields) (names : Tallies) : Type 0 where

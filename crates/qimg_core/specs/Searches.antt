@@ -1,17 +1,19 @@
 -- Searches for the least cluster whose names are of some kind.
-use Rattle.std.specs.Prelude.{◌≡◌, ◌⊎◌, ℕ, ◌+◌, ◌<◌, ◌≤◌, ◌^◌, ⊤, Bool, ◌&&◌, not, ◌==◌, nat_lt, IsTrue, IsFalse, List, Any, length, slice_index, Option, Some, None, IfSome, IsSomeAnd}
+use Rattle.std.specs.Prelude.{◌≡◌, ◌⊎◌, ℕ, ◌+◌, ◌<◌, ◌≤◌, ◌^◌, ⊤, Bool, ◌&&◌, ◌||◌, not, ◌==◌, nat_lt, IsTrue, IsFalse, List, Any, length, slice_index, Option, Some, None, IfSome, IsSomeAnd}
 use Rattle.qimg_core.specs.declared.check.names.Times.{Times}
 use Rattle.qimg_core.specs.declared.check.names.Tallies.{Tallies}
 use Rattle.qimg_core.specs.declared.check.names.Others.{Others}
 use Rattle.qimg_core.specs.declared.check.search.Question.{Question}
 use Rattle.qimg_core.specs.declared.check.search.Way.{Way}
-use Rattle.qimg_core.specs.declared.check.search.Question.TheVariants.{Shared, FalselyCopied, AtAll}
+use Rattle.qimg_core.specs.declared.check.search.Question.TheVariants.{Shared, FalselyCopied, Either, AtAll}
 use Rattle.qimg_core.specs.Names.{cluster_of, times_at}
 
--- What is asked is so: a part of the structure is named more than once, one that is named as copied is, or something is named.
+-- What is asked is so: a part of the structure is named more than once, one that is named as copied is, one of these is, or something
+-- is named.
 abbrev pub passes : Question → Times → Bool
 passes Shared n = nat_lt 0 n.structure && not (n.structure + n.mapped == 1)
 passes FalselyCopied n = nat_lt 0 n.copied && not (n.structure + n.mapped == 1)
+passes Either n = (nat_lt 0 n.structure || nat_lt 0 n.copied) && not (n.structure + n.mapped == 1)
 passes AtAll n = nat_lt 0 (n.structure + n.mapped)
 
 -- of how often cluster c is named

@@ -1,7 +1,7 @@
 // Counters against what is named.
-ghost use Rattle.std.specs.Prelude.{◌≡◌, ℕ, true, Ok, ◌+◌, ◌*◌, ◌<◌, ◌≤◌, ◌^◌, OnOk, IfOk, IfErr};
+ghost use Rattle.std.specs.Prelude.{◌≡◌, ℕ, ◌+◌, ◌*◌, ◌<◌, ◌≤◌, ◌^◌, OnOk, IfOk, IfErr};
 ghost use Rattle.imago_storage.specs.Calls.{Kept};
-ghost use Rattle.qcow2_types.specs.Header.{header_of};
+ghost use Rattle.qcow2_types.specs.Header.{Limited, Shaped};
 ghost use Rattle.qcow2_types.specs.Counts.{counters_of_block};
 ghost use Rattle.qcow2_types.specs.Consistency.{Nowhere, is_under_counted, leaks};
 ghost use Rattle.qimg_core.specs.Files.{file};
@@ -12,7 +12,7 @@ ghost use Rattle.qimg_core.specs.declared.check.search.Question.TheVariants as q
 ghost use Rattle.qimg_core.specs.Check.{Found};
 
 use super::names::Tallies;
-use super::search::{Question, first_such, times_along, way_from};
+use super::search::{Question, first_such, references_along, way_from};
 use super::{CheckFault, load_fault};
 use imago_storage::Storage;
 use qcow2_metadata::{Header, RefBlock};
@@ -95,8 +95,7 @@ fn compare_block<S: Storage>(
     for place in 0..header.rb_entries() {
         let cluster = low + place as u64;
         let count = block.get(place) as u128;
-        let times = times_along(names, cluster, &mut way);
-        let references = times.structure + times.mapped;
+        let references = references_along(names, cluster, &mut way);
         if count < references {
             return Err(CheckFault::UnderCounted(cluster));
         }
@@ -116,7 +115,8 @@ pub fn compare<S: Storage>(
     blocks: &[u64],
     names: &Tallies,
 ) -> Result<Vec<(u64, u64)>, CheckFault>
-    requires loads { header_of true (file (S.state image.old)) ≡ Ok header.now }
+    requires limited { Limited header.now.fields }
+    requires shaped { Shaped header.now.fields }
     requires blocks { IsBlocks (file (S.state image.old)) header.now.fields blocks.now }
     requires told { Tells (file (S.state image.old)) header.now.fields names.now }
     requires rising { AreRising names.now.others }

@@ -14,6 +14,8 @@ pub enum Question {
     Shared,
     /// As copied, and more than once?
     FalselyCopied,
+    /// One of these two?
+    Either,
     /// At all?
     AtAll,
 }
@@ -27,6 +29,7 @@ fn passes(question: Question, times: AllTimes) -> bool
     match question {
         Question::Shared => times.structure > 0 && all != 1,
         Question::FalselyCopied => times.copied > 0 && all != 1,
+        Question::Either => (times.structure > 0 || times.copied > 0) && all != 1,
         Question::AtAll => all > 0,
     }
 }
@@ -106,7 +109,7 @@ fn times_listed(names: &Tallies, cluster: u64, way: &mut Way) -> AllTimes
 
 /// How often a cluster is named, where the way has come to it. The way goes on behind it.
 #[inline(always)]
-pub fn times_along(names: &Tallies, cluster: u64, way: &mut Way) -> AllTimes
+fn times_along(names: &Tallies, cluster: u64, way: &mut Way) -> AllTimes
     requires rising { AreRising names.now.others }
     requires along { IsAlong names.now.others cluster way.old }
     ensures value { all_times result ≡ times_at names.now cluster }
@@ -122,6 +125,22 @@ pub fn times_along(names: &Tallies, cluster: u64, way: &mut Way) -> AllTimes
         mapped: cell.mapped as u128,
         copied: cell.copied as u128,
     }
+}
+
+/// How often it is in all, as a part of the structure and by words. The way goes on behind it.
+#[inline(always)]
+pub fn references_along(names: &Tallies, cluster: u64, way: &mut Way) -> u128
+    requires rising { AreRising names.now.others }
+    requires along { IsAlong names.now.others cluster way.old }
+    ensures value { result ≡ (times_at names.now cluster).structure + (times_at names.now cluster).mapped }
+    ensures along { IsAlong names.now.others (cluster + 1) way.new }
+{
+    if way.next == Some(cluster) {
+        let times = times_listed(names, cluster, way);
+        return times.structure + times.mapped;
+    }
+    let cell = cell_of(&names.cells, cluster);
+    cell.structure as u128 + cell.mapped as u128
 }
 
 /// Whether a cluster isn't below the bound, if there is one.
@@ -165,6 +184,7 @@ fn first_entry(names: &Tallies, question: Question, low: u64, high: Option<u64>)
 }
 
 /// The least cluster from `low` up to `end`, which isn't one of them, that passes.
+#[inline(always)]
 fn first_cell(names: &Tallies, question: Question, low: u64, end: u64) -> Option<u64>
     requires { AreRising names.now.others }
     ensures { MatchOption result (NoneWithin (is_such question names.now) low (Some end))
@@ -180,6 +200,7 @@ fn first_cell(names: &Tallies, question: Question, low: u64, end: u64) -> Option
 }
 
 /// The least cluster from `low` on that passes, up to `high`, which isn't one of them, if that is given.
+#[inline(always)]
 pub fn first_such(names: &Tallies, question: Question, low: u64, high: Option<u64>) -> Option<u64>
     requires { AreRising names.now.others }
     ensures { MatchOption result (NoneWithin (is_such question names.now) low high) (IsFirstWithin (is_such question names.now) low high) }
@@ -192,6 +213,7 @@ pub fn first_such(names: &Tallies, question: Question, low: u64, high: Option<u6
 }
 
 /// The least cluster that passes.
+#[inline(always)]
 pub fn least_such(names: &Tallies, question: Question) -> Option<u64>
     requires { AreRising names.now.others }
     ensures { MatchOption result (Nowhere (is_such question names.now)) (IsLeast (is_such question names.now)) }

@@ -1,14 +1,14 @@
 // What the tables of an image name.
-ghost use Rattle.std.specs.Prelude.{◌≡◌, ℕ, ◌+◌, ◌*◌, ◌<◌, ◌≤◌, ◌^◌, length, slice_index, true, Ok, OnOk, IfOk, IfErr, IsOkUnless, IsTrue, All};
+ghost use Rattle.std.specs.Prelude.{◌≡◌, ℕ, ◌+◌, ◌*◌, ◌<◌, ◌≤◌, ◌^◌, length, slice_index, OnOk, IfOk, IfErr, IsOkUnless, IsTrue, All};
 ghost use Rattle.imago_storage.specs.Calls.{Kept};
 ghost use Rattle.qcow2_types.specs.Words.{max_offset, is_place, data_at};
-ghost use Rattle.qcow2_types.specs.Header.{Fields, cluster_size, words_of_cluster, layout_of, header_of};
+ghost use Rattle.qcow2_types.specs.Header.{Fields, cluster_size, words_of_cluster, layout_of};
 ghost use Rattle.qcow2_types.specs.Entries.{l1_table_sound, l2_table_sound};
 ghost use Rattle.qcow2_types.specs.Counts.{refcount_table_sound};
 ghost use Rattle.qcow2_metadata.specs.MappingView.{mapping_seen, IsNamed};
 ghost use Rattle.qimg_core.specs.Files.{file};
 ghost use Rattle.qimg_core.specs.Entering.{AddsPlaces, AddsStart, AddsStructure, AddsMapping, AddsWords, AddsTable, AddsTables};
-ghost use Rattle.qimg_core.specs.CheckParts.{tables_of, AreTables, IsBlocks, HoldsPlaces, IsUnsound, IsDamagedTable, IsOneDamaged};
+ghost use Rattle.qimg_core.specs.CheckParts.{HasHeader, tables_of, AreTables, IsBlocks, HoldsPlaces, IsUnsound, IsDamagedTable, IsOneDamaged};
 ghost use Rattle.qimg_core.specs.Check.{Found};
 
 use super::names::{Tallies, Times, name_cluster, name_range};
@@ -39,7 +39,7 @@ fn table_places<S: Storage>(
     image: &mut S,
     header: &Header,
 ) -> Result<Vec<u64>, CheckFault>
-    requires loads { header_of true (file (S.state image.old)) ≡ Ok header.now }
+    requires loads { HasHeader (file (S.state image.old)) header.now }
     ensures ok { IfOk result (λ places. places.items ≡ tables_of (file (S.state image.old)) header.now.fields) }
     ensures sound { OnOk result (IsTrue (l1_table_sound (file (S.state image.old)) header.now.fields)) }
     ensures err { IfErr result (Found (S.state image.old) (S.state image.new) (IsUnsound (file (S.state image.old)) header.now.fields)) }
@@ -68,7 +68,7 @@ fn block_places<S: Storage>(
     image: &mut S,
     header: &Header,
 ) -> Result<Vec<u64>, CheckFault>
-    requires loads { header_of true (file (S.state image.old)) ≡ Ok header.now }
+    requires loads { HasHeader (file (S.state image.old)) header.now }
     ensures ok { IfOk result (λ places. IsBlocks (file (S.state image.old)) header.now.fields places.items) }
     ensures sound { OnOk result (IsTrue (refcount_table_sound (file (S.state image.old)) header.now.fields)) }
     ensures err { IfErr result (Found (S.state image.old) (S.state image.new) (IsUnsound (file (S.state image.old)) header.now.fields)) }
@@ -99,7 +99,7 @@ pub fn places_of<S: Storage>(
     image: &mut S,
     header: &Header,
 ) -> Result<Places, CheckFault>
-    requires loads { header_of true (file (S.state image.old)) ≡ Ok header.now }
+    requires loads { HasHeader (file (S.state image.old)) header.now }
     ensures ok { IfOk result (λ places. HoldsPlaces (file (S.state image.old)) header.now.fields places.tables.items places.blocks.items) }
     ensures err { IfErr result (Found (S.state image.old) (S.state image.new) (IsUnsound (file (S.state image.old)) header.now.fields)) }
     ensures kept { Kept (S.state image.old) (S.state image.new) }

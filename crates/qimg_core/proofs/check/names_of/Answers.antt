@@ -1,10 +1,8 @@
 -- The start, the tables and the blocks, then what the L2 tables name.
-use Rattle.std.proofs.Common.{true, arith, ap, sym, subst, ◌∙◌}
+use Rattle.std.proofs.Common.{arith, ap, sym, subst, ◌∙◌}
 use Rattle.std.specs.Prelude.{IsTrue, All}
 use Rattle.std.proofs.lemmas.Result.{err_from_is_err_and}
-use Rattle.qcow2_types.specs.Header.{Limited}
 use Rattle.qcow2_types.specs.Entries.{l2_table_sound}
-use Rattle.qcow2_types.proofs.Fields.HeaderLimits.{header-limited, fields-shaped}
 use Rattle.qimg_core.specs.Files.{file}
 use Rattle.qimg_core.specs.CheckParts.{AreTables, IsBlocksEnd, counted_clusters}
 use Rattle.qcow2_types.proofs.Changes.WriteBack.{place-near}
@@ -15,13 +13,11 @@ use Rattle.qimg_core.proofs.check.names_of.Goals as goal
 
 pub name_structure-requires-clause-l1 : goal.name_structure-requires-clause-l1
 name_structure-requires-clause-l1 g c =
-    let limited : Limited c.args.header.now.fields = header-limited true _ c.args.header.now c.requires.loads in
-    omega (arith, limited.l1_entries, place-near c.args.header.now.fields.cluster_bits c.args.header.now.fields.l1_offset limited.l1_place)
+    omega (arith, c.requires.limited.l1_entries, place-near c.args.header.now.fields.cluster_bits c.args.header.now.fields.l1_offset c.requires.limited.l1_place)
 
 pub name_structure-requires-clause-refcounts : goal.name_structure-requires-clause-refcounts
 name_structure-requires-clause-refcounts g c =
-    let limited : Limited c.args.header.now.fields = header-limited true _ c.args.header.now c.requires.loads in
-    omega (arith, limited.refcount_entries, table-bytes c.args.header.now.fields (fields-shaped true _ c.args.header.now c.requires.loads), place-near c.args.header.now.fields.cluster_bits c.args.header.now.fields.refcount_table_offset limited.refcount_place)
+    omega (arith, c.requires.limited.refcount_entries, table-bytes c.args.header.now.fields c.requires.shaped, place-near c.args.header.now.fields.cluster_bits c.args.header.now.fields.refcount_table_offset c.requires.limited.refcount_place)
 
 pub name_structure-requires-clause-tables : goal.name_structure-requires-clause-tables
 name_structure-requires-clause-tables g c = places-bounded _ _ c.args.header.now.fields.cluster_bits c.requires.places.in_order (tables-placed (file (g.S.Storage.state c.args.image.now)) c.args.header.now.fields c.requires.places.l1_sound)

@@ -1,11 +1,10 @@
 -- One block after the other, and then the clusters that none counts.
-use Rattle.std.proofs.Common.{◌≡◌, ◌+◌, ◌*◌, ◌≤◌, true, refl, sym, ap, arith, subst, ◌∙◌, length}
+use Rattle.std.proofs.Common.{◌≡◌, ◌+◌, ◌*◌, ◌≤◌, refl, sym, ap, arith, subst, ◌∙◌, length}
 use Rattle.std.specs.Prelude.{None}
 use Rattle.std.proofs.lemmas.Result.{err_from_is_err_and}
-use Rattle.qcow2_types.specs.Header.{Limited, refcount_table_entries}
+use Rattle.qcow2_types.specs.Header.{refcount_table_entries}
 use Rattle.qcow2_types.specs.Counts.{counters_of_block}
 use Rattle.qcow2_types.proofs.Counting.Counters.{some-counters}
-use Rattle.qcow2_types.proofs.Fields.HeaderLimits.{fields-shaped, header-limited}
 use Rattle.qimg_core.specs.Files.{file}
 use Rattle.qimg_core.specs.CheckParts.{Tells, AreCompared}
 use Rattle.qimg_core.proofs.ScanLemmas.{kept-both, kept-none, kept-file}
@@ -20,18 +19,16 @@ compare_block-requires-clause-told g c = subst (λ f. Tells f c.args.header.now.
 
 pub compare_block-requires-clause-index : goal.compare_block-requires-clause-index
 compare_block-requires-clause-index g c =
-    let limited : Limited c.args.header.now.fields = header-limited _ _ c.args.header.now c.requires.loads in
     let few : length c.args.blocks.now ≤ refcount_table_entries c.args.header.now.fields = c.requires.blocks.few in
-    omega (arith, limited.refcount_entries, few, c.loop-index-test.true)
+    omega (arith, c.requires.limited.refcount_entries, few, c.loop-index-test.true)
 
 pub compare_block-requires-clause-before : goal.compare_block-requires-clause-before
 compare_block-requires-clause-before g c = subst (λ f. AreCompared f c.args.header.now.fields c.loop-index.leaks.items (c.loop-index.index * counters_of_block c.args.header.now.fields)) (sym (kept-file _ _ c.loop-index.invariant.0)) c.loop-index.invariant.2
 
 pub first_counted-end-requires : goal.first_counted-end-requires
 first_counted-end-requires g c =
-    let limited : Limited c.args.header.now.fields = header-limited _ _ c.args.header.now c.requires.loads in
     let few : length c.args.blocks.now ≤ refcount_table_entries c.args.header.now.fields = c.requires.blocks.few in
-    omega (arith, limited.refcount_entries, few)
+    omega (arith, c.requires.limited.refcount_entries, few)
 
 pub loop-index-preserved : goal.loop-index-preserved
 loop-index-preserved g c = (
@@ -50,14 +47,14 @@ returns-in_err-check_unnamed-clause-err g c =
     let p = err_from_is_err_and c.from_residual-in_err-check_unnamed.result c.from_residual-in_err-check_unnamed.ensures.1 in
     let all : c.loop-index.index ≡ length c.args.blocks.now = omega (arith, c.loop-index-test.false, c.loop-index.auto.index-end) in
     rw (p.1, p.2) (uncounted-finding (g.S.Storage.state c.args.image.now) (g.S.Storage.state c.loop-index.image) c.args.header.now.fields c.args.names.now c.first_counted-end.result None c.loop-index.invariant.1
-    (rest-under (file (g.S.Storage.state c.args.image.now)) c.args.header.now.fields c.args.names.now c.requires.told c.loop-index.leaks.items c.args.blocks.now c.loop-index.index c.first_counted-end.result c.requires.blocks (some-counters c.args.header.now.fields (fields-shaped true _ c.args.header.now c.requires.loads)) all (c.first_counted-end.ensures ∙ ap (λ n. n * counters_of_block c.args.header.now.fields) (sym all)) c.loop-index.invariant.2) c.in_err-check_unnamed.field-0.0 c.in_err-check_unnamed.ensures.err)
+    (rest-under (file (g.S.Storage.state c.args.image.now)) c.args.header.now.fields c.args.names.now c.requires.told c.loop-index.leaks.items c.args.blocks.now c.loop-index.index c.first_counted-end.result c.requires.blocks (some-counters c.args.header.now.fields c.requires.shaped) all (c.first_counted-end.ensures ∙ ap (λ n. n * counters_of_block c.args.header.now.fields) (sym all)) c.loop-index.invariant.2) c.in_err-check_unnamed.field-0.0 c.in_err-check_unnamed.ensures.err)
 
 pub returns-clause-ok : goal.returns-clause-ok
 returns-clause-ok g c =
     let all : c.loop-index.index ≡ length c.args.blocks.now = omega (arith, c.loop-index-test.false, c.loop-index.auto.index-end) in
-    rest-leaks (file (g.S.Storage.state c.args.image.now)) c.args.header.now.fields c.args.names.now c.requires.told c.loop-index.leaks.items c.args.blocks.now c.loop-index.index c.first_counted-end.result c.requires.blocks (some-counters c.args.header.now.fields (fields-shaped true _ c.args.header.now c.requires.loads)) all (c.first_counted-end.ensures ∙ ap (λ n. n * counters_of_block c.args.header.now.fields) (sym all)) c.loop-index.invariant.2
+    rest-leaks (file (g.S.Storage.state c.args.image.now)) c.args.header.now.fields c.args.names.now c.requires.told c.loop-index.leaks.items c.args.blocks.now c.loop-index.index c.first_counted-end.result c.requires.blocks (some-counters c.args.header.now.fields c.requires.shaped) all (c.first_counted-end.ensures ∙ ap (λ n. n * counters_of_block c.args.header.now.fields) (sym all)) c.loop-index.invariant.2
 
 pub returns-clause-counted : goal.returns-clause-counted
 returns-clause-counted g c =
     let all : c.loop-index.index ≡ length c.args.blocks.now = omega (arith, c.loop-index-test.false, c.loop-index.auto.index-end) in
-    rest-counted (file (g.S.Storage.state c.args.image.now)) c.args.header.now.fields c.args.names.now c.requires.told c.loop-index.leaks.items c.args.blocks.now c.loop-index.index c.first_counted-end.result c.requires.blocks (some-counters c.args.header.now.fields (fields-shaped true _ c.args.header.now c.requires.loads)) all (c.first_counted-end.ensures ∙ ap (λ n. n * counters_of_block c.args.header.now.fields) (sym all)) c.loop-index.invariant.2 c.in_ok-check_unnamed.ensures.ok
+    rest-counted (file (g.S.Storage.state c.args.image.now)) c.args.header.now.fields c.args.names.now c.requires.told c.loop-index.leaks.items c.args.blocks.now c.loop-index.index c.first_counted-end.result c.requires.blocks (some-counters c.args.header.now.fields c.requires.shaped) all (c.first_counted-end.ensures ∙ ap (λ n. n * counters_of_block c.args.header.now.fields) (sym all)) c.loop-index.invariant.2 c.in_ok-check_unnamed.ensures.ok

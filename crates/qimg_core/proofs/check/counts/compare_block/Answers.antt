@@ -1,10 +1,10 @@
 -- Each counter is compared, or the names where there is none.
-use Rattle.std.proofs.Common.{◌≡◌, ◌+◌, ◌*◌, ◌^◌, ◌≤◌, ℕ, arith, ap, sym, subst, ◌∙◌, Vec, Global}
+use Rattle.std.proofs.Common.{◌≡◌, ◌+◌, ◌-◌, ◌*◌, ◌^◌, ◌≤◌, ℕ, [], ◌∷◌, ◌++◌, refl, arith, ap, sym, subst, ◌∙◌, Vec, Global}
 use Rattle.std.specs.Prelude.{Some}
 use Rattle.std.proofs.lemmas.Nat.{mul-le}
 use Rattle.std.proofs.lemmas.Result.{on_ok_weaker, MatchResult-weaker}
 use Rattle.qcow2_types.specs.Counts.{counters_of_block}
-use Rattle.qimg_core.specs.Names.{all_times}
+use Rattle.qimg_core.specs.Names.{times_at}
 use Rattle.qimg_core.specs.Files.{file}
 use Rattle.qimg_core.specs.CheckParts.{HoldsCounters, AreCompared}
 use Rattle.qimg_core.specs.Searches.{IsAlong}
@@ -26,15 +26,15 @@ overflow_add-cluster g c =
     omega (arith, most, c.first_counted-low.ensures, c.loop-place-test.true, c.rb_entries-place-end.ensures.bounds.1)
 
 pub returns-then-count-references-clause-err : goal.returns-then-count-references-clause-err
-returns-then-count-references-clause-err g c = (counter-under (file (g.S.Storage.state c.args.image.now)) c.args.header.now.fields c.args.names.now c.requires.told c.loop-place.leaks.items c.args.index c.loop-place.place _ c.get-count.result (all_times c.times_along-times.result) c.in-Some.block (ap (λ n. n + c.loop-place.place) c.first_counted-low.ensures) (subst (HoldsCounters (file (g.S.Storage.state c.args.image.now)) c.args.header.now.fields c.args.index) c.in-Some.is c.in_ok-block.ensures.ok) (omega (arith, c.loop-place-test.true, c.rb_entries-place-end.ensures.value)) c.get-count.ensures c.times_along-times.ensures.value c.loop-place.invariant.0 c.if-count-references.true, c.in_ok-block.ensures.faults)
+returns-then-count-references-clause-err g c = (counter-under (file (g.S.Storage.state c.args.image.now)) c.args.header.now.fields c.args.names.now c.requires.told c.loop-place.leaks.items c.args.index c.loop-place.place _ c.get-count.result (times_at c.args.names.now (c.first_counted-low.result + c.loop-place.place)) c.in-Some.block (ap (λ n. n + c.loop-place.place) c.first_counted-low.ensures) (subst (HoldsCounters (file (g.S.Storage.state c.args.image.now)) c.args.header.now.fields c.args.index) c.in-Some.is c.in_ok-block.ensures.ok) (omega (arith, c.loop-place-test.true, c.rb_entries-place-end.ensures.value)) c.get-count.ensures refl c.loop-place.invariant.0 (omega (arith, c.references_along-references.ensures.value, c.if-count-references.true)), c.in_ok-block.ensures.faults)
 
 pub loop-place-preserved : goal.loop-place-preserved
 loop-place-preserved g c = (
   elim c.if-references-count.branch [
-    | then-references-count+in_ok-push w ↦ counter-leak (file (g.S.Storage.state c.args.image.now)) c.args.header.now.fields c.args.names.now c.requires.told c.loop-place.leaks.items c.args.index c.loop-place.place _ c.get-count.result (all_times c.times_along-times.result) c.in-Some.block (ap (λ n. n + c.loop-place.place) c.first_counted-low.ensures) (subst (HoldsCounters (file (g.S.Storage.state c.args.image.now)) c.args.header.now.fields c.args.index) c.in-Some.is c.in_ok-block.ensures.ok) (omega (arith, c.loop-place-test.true, c.rb_entries-place-end.ensures.value)) c.get-count.ensures c.times_along-times.ensures.value c.loop-place.invariant.0 c.if-references-count.leaks.items w.if-references-count.true (ap (λ (v : Vec (ℕ × ℕ) Global). v.items) w.leaks-is ∙ w.in_ok-push.ensures.items)
-    | else-references-count w ↦ subst (λ l. AreCompared (file (g.S.Storage.state c.args.image.now)) c.args.header.now.fields l (c.args.index * counters_of_block c.args.header.now.fields + (c.loop-place.place + 1))) (ap (λ (v : Vec (ℕ × ℕ) Global). v.items) (sym w.leaks-is)) (counter-equal (file (g.S.Storage.state c.args.image.now)) c.args.header.now.fields c.args.names.now c.requires.told c.loop-place.leaks.items c.args.index c.loop-place.place _ c.get-count.result (all_times c.times_along-times.result) c.in-Some.block (ap (λ n. n + c.loop-place.place) c.first_counted-low.ensures) (subst (HoldsCounters (file (g.S.Storage.state c.args.image.now)) c.args.header.now.fields c.args.index) c.in-Some.is c.in_ok-block.ensures.ok) (omega (arith, c.loop-place-test.true, c.rb_entries-place-end.ensures.value)) c.get-count.ensures c.times_along-times.ensures.value c.loop-place.invariant.0 c.if-count-references.false w.if-references-count.false)
+    | then-references-count+in_ok-push w ↦ counter-leak (file (g.S.Storage.state c.args.image.now)) c.args.header.now.fields c.args.names.now c.requires.told c.loop-place.leaks.items c.args.index c.loop-place.place _ c.get-count.result (times_at c.args.names.now (c.first_counted-low.result + c.loop-place.place)) c.in-Some.block (ap (λ n. n + c.loop-place.place) c.first_counted-low.ensures) (subst (HoldsCounters (file (g.S.Storage.state c.args.image.now)) c.args.header.now.fields c.args.index) c.in-Some.is c.in_ok-block.ensures.ok) (omega (arith, c.loop-place-test.true, c.rb_entries-place-end.ensures.value)) c.get-count.ensures refl c.loop-place.invariant.0 c.if-references-count.leaks.items (omega (arith, c.references_along-references.ensures.value, w.if-references-count.true)) (ap (λ (v : Vec (ℕ × ℕ) Global). v.items) w.leaks-is ∙ w.in_ok-push.ensures.items ∙ ap (λ r. c.loop-place.leaks.items ++ (c.first_counted-low.result + c.loop-place.place, c.get-count.result - r) ∷ []) c.references_along-references.ensures.value)
+    | else-references-count w ↦ subst (λ l. AreCompared (file (g.S.Storage.state c.args.image.now)) c.args.header.now.fields l (c.args.index * counters_of_block c.args.header.now.fields + (c.loop-place.place + 1))) (ap (λ (v : Vec (ℕ × ℕ) Global). v.items) (sym w.leaks-is)) (counter-equal (file (g.S.Storage.state c.args.image.now)) c.args.header.now.fields c.args.names.now c.requires.told c.loop-place.leaks.items c.args.index c.loop-place.place _ c.get-count.result (times_at c.args.names.now (c.first_counted-low.result + c.loop-place.place)) c.in-Some.block (ap (λ n. n + c.loop-place.place) c.first_counted-low.ensures) (subst (HoldsCounters (file (g.S.Storage.state c.args.image.now)) c.args.header.now.fields c.args.index) c.in-Some.is c.in_ok-block.ensures.ok) (omega (arith, c.loop-place-test.true, c.rb_entries-place-end.ensures.value)) c.get-count.ensures refl c.loop-place.invariant.0 (omega (arith, c.references_along-references.ensures.value, c.if-count-references.false)) (omega (arith, c.references_along-references.ensures.value, w.if-references-count.false)))
   ],
-  subst (λ low. IsAlong c.args.names.now.others low c.times_along-times.new.way) (let one : c.first_counted-low.result + c.loop-place.place + 1 ≡ c.first_counted-low.result + (c.loop-place.place + 1) = omega arith in one) c.times_along-times.ensures.along,
+  subst (λ low. IsAlong c.args.names.now.others low c.references_along-references.new.way) (let one : c.first_counted-low.result + c.loop-place.place + 1 ≡ c.first_counted-low.result + (c.loop-place.place + 1) = omega arith in one) c.references_along-references.ensures.along,
 )
 
 pub returns-clause-ok : goal.returns-clause-ok
