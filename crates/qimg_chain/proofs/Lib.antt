@@ -1,5 +1,6 @@
 -- Lemmas.
 mod ArgumentLemmas
+mod BothReads
 mod CallsThrough
 mod Copies
 mod Failing

@@ -34,7 +34,7 @@ module _ {S D St : Type 0} (g : Ghosts D St) (state : S → StorageState) where
   usable writable number (file ∷ files) [] are f bad = are
 
 -- past its size the disk of files shows 0
-past_size : (files : List FileBytes) (p : ℕ) → size_of files ≤ p → value_of files p ≡ byte 0
+pub past_size : (files : List FileBytes) (p : ℕ) → size_of files ≤ p → value_of files p ≡ byte 0
 past_size [] p past = refl
 past_size (file ∷ below) p past = rw (le-ltb p (size_of (file ∷ below)) past) refl
 

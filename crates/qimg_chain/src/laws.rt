@@ -1,5 +1,7 @@
-//! Laws of scripts and arguments, of why files don't form a chain, and of files that do.
-ghost use Rattle.std.specs.Prelude.{◌≡◌, ◌∷◌, [], ℕ, Bool, List, None, true, false};
+//! Laws of scripts and arguments, of why files don't form a chain, of files that do, and of both reads of them.
+ghost use Rattle.std.specs.Prelude.{◌≡◌, ◌∷◌, [], ℕ, Bool, List, None, length, true, false};
+ghost use Rattle.imago_access.specs.ChainLooks.{ChainReads};
+ghost use Rattle.imago_access.specs.Running.{chain_disk};
 ghost use Rattle.imago_access.specs.declared.format.Format.TheVariants.{Qcow2, Raw};
 ghost use Rattle.imago_storage.specs.MemStorage.{mem_state};
 ghost use Rattle.imago_storage.specs.declared.fault.Fault.{Fault};
@@ -10,10 +12,13 @@ ghost use Rattle.qcow2_types.specs.Header.{Header};
 ghost use Rattle.qimg_core.specs.declared.plain.ChainFile.{ChainFile};
 ghost use Rattle.qimg_chain.specs.Arguments.{Asked, AskFor};
 ghost use Rattle.qimg_chain.specs.Chains.{IsFit, OfTop};
+ghost use Rattle.qimg_chain.specs.FileMeanings.{IsDiskOf, files_bytes};
+ghost use Rattle.qimg_chain.specs.PlainReads.{IsPlainlyRead};
 ghost use Rattle.qimg_chain.specs.Refusals.{FirstCause, FormChain};
 ghost use Rattle.qimg_chain.specs.Script.{IsLine};
 ghost use Rattle.qimg_chain.specs.declared.script.line.Line.{Line};
 
+use imago_access::FormatDriverInstance;
 use imago_storage::Storage;
 
 /// A text is one line of a script at most: whatever spelling a line has, no other line has it too.
@@ -51,4 +56,16 @@ pub fn a_consistent_image_may_be_written()
     ensures { (writable : Bool) (file : ChainFile MemStorage) (h : Header) → file.format ≡ Qcow2
         → IsConsistent (bytes_of (mem_state file.image).bytes) h → h.backing_name ≡ None
         → FormChain mem_state writable (file ∷ []) × OfTop (IsFit mem_state) (file ∷ []) }
+{}
+
+/// A plain read of files and a read of a chain that was opened over files of the same bytes fill their buffers alike where both succeed,
+/// whatever stores the bytes: by what `plain_read`, `open_chain` and `FormatAccess::read` say. The read leaves the chain the disk of its
+/// files, so that the same holds of further ones.
+pub fn a_plain_read_and_a_read_agree<S: Storage, T: Storage, D: FormatDriverInstance>()
+    ensures agree { (files : List (ChainFile S)) (others : List (ChainFile T)) (old new : D × List D) (offset n : ℕ) (plain buf : List ℕ)
+        → files_bytes S.state files ≡ files_bytes T.state others → IsDiskOf (chain_disk D.layer old) (files_bytes T.state others)
+        → IsPlainlyRead S.state files offset n plain → length plain ≡ n → ChainReads D.Seen offset n buf old new → buf ≡ plain }
+    ensures again { (files : List (ChainFile T)) (old new : D × List D) (offset n : ℕ) (buf : List ℕ)
+        → IsDiskOf (chain_disk D.layer old) (files_bytes T.state files) → ChainReads D.Seen offset n buf old new
+        → IsDiskOf (chain_disk D.layer new) (files_bytes T.state files) }
 {}
