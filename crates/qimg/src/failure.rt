@@ -1,5 +1,7 @@
 // Why the program fails, and the status that says so.
 ghost use Rattle.std.specs.Prelude.{◌≡◌, Result, Ok, Err};
+ghost use Rattle.qimg.specs.declared.failure.Failure.TheVariants as failures;
+ghost use Rattle.qimg_chain.specs.declared.run.opened.ScriptFault.TheVariants as script_faults;
 
 use imago_storage::Fault;
 use qimg_chain::run::ScriptFault;
@@ -28,24 +30,35 @@ impl fmt::Display for Failure {
 }
 
 impl From<io::Error> for Failure {
+    ghost from_gives = { λ _ failure. failure ≡ failures.InputOutput };
+
     fn from(_: io::Error) -> Self {
         Failure::InputOutput
     }
 }
 
 impl From<AllocError> for Failure {
+    ghost from_gives = { λ _ failure. failure ≡ failures.InputOutput };
+
     fn from(_: AllocError) -> Self {
         Failure::InputOutput
     }
 }
 
 impl<T: Drop> From<AllocFailed<T>> for Failure {
+    ghost from_gives = { λ _ failure. failure ≡ failures.InputOutput };
+
     fn from(_: AllocFailed<T>) -> Self {
         Failure::InputOutput
     }
 }
 
 impl From<ScriptFault> for Failure {
+    ghost from_gives = { elim [
+      | script_faults.Opening fault ↦ λ failure. failure ≡ failures.Opening fault
+      | script_faults.Running fault ↦ λ failure. failure ≡ failures.InputOutput
+    ] };
+
     fn from(fault: ScriptFault) -> Self {
         match fault {
             ScriptFault::Opening(fault) => Failure::Opening(fault),
