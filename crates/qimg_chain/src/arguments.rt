@@ -112,10 +112,7 @@ fn parse_layers(alloc: Global, words: &[&str], from: usize) -> Result<Vec<LayerA
     let mut layers = Vec::new(alloc);
     let mut at = from;
     'layers: while at < words.len() {
-        let layer = match parse_layer(alloc, words, at) {
-            Ok(layer) => layer,
-            Err(fault) => return Err(fault),
-        };
+        let layer = parse_layer(alloc, words, at)?;
         at += 2 + 3 * layer.extras.len();
         layers.push(layer)?;
     }
@@ -140,8 +137,6 @@ pub fn parse(alloc: Global, words: &[&str]) -> Result<Option<Arguments>, Fault>
     }
     let read_only = is_choice(words[0]);
     let from = if read_only { 1 } else { 0 };
-    match parse_layers(alloc, words, from) {
-        Ok(layers) => Ok(Some(Arguments { read_only, layers })),
-        Err(fault) => Err(fault),
-    }
+    let layers = parse_layers(alloc, words, from)?;
+    Ok(Some(Arguments { read_only, layers }))
 }

@@ -43,10 +43,7 @@ fn lend_layer<'a, D: FormatDriverInstance<Storage = MemStorage> + NamesFiles>(
     let mut extras = Vec::new(alloc);
     for index in 0..driver.extra_count() {
         if let Some(file) = driver.extra_file(index) {
-            match lend_named(alloc, driver.extra_name(index), file) {
-                Ok(extra) => extras.push(extra)?,
-                Err(fault) => return Err(fault),
-            }
+            extras.push(lend_named(alloc, driver.extra_name(index), file)?)?;
         }
     }
     Ok(ChainFile {

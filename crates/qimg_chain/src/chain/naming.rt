@@ -41,7 +41,8 @@ impl<S: Storage> NamesFiles for ImageDriver<S> {
       | variant.Vmdk d ↦ λ safe. vmdk_named d.disk.extents.items (S.state d.image) (map S.state d.files.items) safe.2
       | variant.Qcow2 d ↦ λ safe.
           let bytes = (S.state d.tables.file.image).bytes in
-          record { size = sized d.mode.backing (bytes_of bytes) (header_of false (bytes_of bytes)); cell = qcow2_through d.mode.backing bytes }
+          let size = sized d.mode.backing (bytes_of bytes) (header_of false (bytes_of bytes)) in
+          record { size = size; cell = qcow2_through d.mode.backing bytes }
     ] };
 
     fn extra_count(&self) -> usize {

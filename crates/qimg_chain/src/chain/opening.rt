@@ -163,10 +163,8 @@ fn open_raw<S: Storage>(
     ensures err { IfErr result (λ _. ⊥) }
 {
     let builder = Raw::builder(image).write(writable);
-    match open_by(alloc, builder, extras) {
-        Ok(raw) => Ok(ImageDriver::Raw(raw)),
-        Err(fault) => Err(fault),
-    }
+    let raw = open_by(alloc, builder, extras)?;
+    Ok(ImageDriver::Raw(raw))
 }
 
 // Opens a VMDK image, with the files that it names.
@@ -185,10 +183,8 @@ fn open_vmdk<S: Storage>(
     ensures err { IfErr result (λ e. IsCutOff S.state e ⊎ WhyNotAs S.state format.Vmdk writable (S.state image) extras.old.files.items e) }
 {
     let builder = Vmdk::builder(image).write(writable);
-    match builder.open(alloc, extras) {
-        Ok(vmdk) => Ok(ImageDriver::Vmdk(vmdk)),
-        Err(fault) => Err(fault),
-    }
+    let vmdk = builder.open(alloc, extras)?;
+    Ok(ImageDriver::Vmdk(vmdk))
 }
 
 // Opens a qcow2 image, over the layer below where it names a backing file.
@@ -208,10 +204,8 @@ fn open_qcow2<S: Storage>(
     ensures err { IfErr result (λ e. IsCutOff S.state e ⊎ WhyNotAs S.state format.Qcow2 writable (S.state image) extras.old.files.items e) }
 {
     let builder = Qcow2::builder(image).number(number).write(writable);
-    match open_by(alloc, builder, extras) {
-        Ok(qcow2) => Ok(ImageDriver::Qcow2(qcow2)),
-        Err(fault) => Err(fault),
-    }
+    let qcow2 = open_by(alloc, builder, extras)?;
+    Ok(ImageDriver::Qcow2(qcow2))
 }
 
 // Opens what a builder is for.

@@ -31,10 +31,7 @@ pub fn plain_read<S: Storage>(
     ensures none { length files.items ≡ 0 → IsErrOf result Fault.MissingBelow }
     ensures many { 64 < length files.items → IsErrOf result (Fault.Limit (length files.items)) }
 {
-    let mut chain = match open_chain(alloc, files, false, 0) {
-        Ok(chain) => chain,
-        Err(fault) => return Err(fault),
-    };
+    let mut chain = open_chain(alloc, files, false, 0)?;
     if offset.checked_add(buf.len() as u64).is_none() {
         return Err(Fault::RangeOverflow);
     }

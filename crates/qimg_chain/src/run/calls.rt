@@ -53,12 +53,10 @@ pub fn make<D: FormatDriverInstance>(
     ensures made { MadeOne D.Seen call result chain.old chain.new }
 {
     let calls = [call];
-    match drive(alloc, chain, &calls) {
-        Ok(mut answers) => match answers.pop() {
-            Some(answer) => Ok(answer),
-            None => unreachable!(),
-        },
-        Err(fault) => Err(fault),
+    let mut answers = drive(alloc, chain, &calls)?;
+    match answers.pop() {
+        Some(answer) => Ok(answer),
+        None => unreachable!(),
     }
 }
 

@@ -56,14 +56,8 @@ pub fn read_plainly<D: FormatDriverInstance<Storage = MemStorage> + NamesFiles>(
 ) -> Result<Bytes, Fault>
     ensures { ReadsPlainly D.Seen D.names offset count result chain.now }
 {
-    let mut buf = match buffer(alloc, count) {
-        Ok(buf) => buf,
-        Err(fault) => return Err(fault),
-    };
-    let files = match lend(alloc, chain) {
-        Ok(files) => files,
-        Err(fault) => return Err(fault),
-    };
+    let mut buf = buffer(alloc, count)?;
+    let files = lend(alloc, chain)?;
     match plain_read(alloc, files, offset, &mut buf) {
         Ok(()) => Ok(Bytes::from(buf)),
         Err(fault) => Err(fault),

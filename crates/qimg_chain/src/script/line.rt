@@ -102,13 +102,11 @@ fn line_with_two(alloc: Global, name: &[u8], first: &[u8], second: &[u8]) -> Res
         return Err(Fault::BadCommand);
     };
     if name == b"write".as_slice() {
-        return match bytes(alloc, second) {
-            Ok(bytes) => Ok(Line::Write {
-                offset: start,
-                bytes,
-            }),
-            Err(fault) => Err(fault),
-        };
+        let bytes = bytes(alloc, second)?;
+        return Ok(Line::Write {
+            offset: start,
+            bytes,
+        });
     }
     match mode_or_range_line(name, start, second) {
         Some(line) => Ok(line),

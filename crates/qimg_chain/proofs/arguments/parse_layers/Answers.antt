@@ -7,10 +7,10 @@ use Rattle.qimg_chain.proofs.arguments.parse_layers.Goals as goal
 
 pub layers-preserved : goal.layers-preserved
 layers-preserved c =
-    let count : c.len.result ≡ length c.in-Ok.layer.extras.items = omega (arith, c.len.ensures, c.in-Ok.layer.extras.ok) in
+    let count : c.len.result ≡ length c.in_ok-layer.layer.extras.items = omega (arith, c.len.ensures, c.in_ok-layer.layer.extras.ok) in
     record {
-      inside = omega (arith, c.in-Ok.ensures.few);
-      taken = layer-more _ c.args.words.now c.layers.at c.len.result c.layers.layers.items c.push.new.self.items c.in-Ok.layer _ c.layers.invariant.taken c.in-Ok.ensures.ok count c.in_ok-push.ensures.items;
+      inside = omega (arith, c.in_ok-layer.ensures.few);
+      taken = layer-more _ c.args.words.now c.layers.at c.len.result c.layers.layers.items c.push.new.self.items c.in_ok-layer.layer _ c.layers.invariant.taken c.in_ok-layer.ensures.ok count c.in_ok-push.ensures.items;
     }
 
 pub returns-then-is_empty-clause-err : goal.returns-then-is_empty-clause-err

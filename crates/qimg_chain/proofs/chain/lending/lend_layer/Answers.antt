@@ -4,17 +4,17 @@ use Rattle.imago_storage.specs.State.{StorageState}
 use Rattle.imago_storage.specs.View.{view_state}
 use Rattle.qimg_chain.specs.FileMeanings.{extra_bytes}
 use Rattle.qimg_chain.proofs.Copies.{all_named, pushed, same_file}
-use Rattle.qimg_chain.proofs.chain.lending.lend_layer.Goals.{in-Some+in-Ok+in_ok-push-in-Ok, in_default}
+use Rattle.qimg_chain.proofs.chain.lending.lend_layer.Goals.{in-Some+in_ok-lend_named+in_ok-push, in_default}
 use Rattle.qimg_chain.proofs.chain.lending.lend_layer.Goals as goal
 
 pub loop-index-preserved : goal.loop-index-preserved
 loop-index-preserved g c = elim c.match-extra_file.branch [
-  | in-Some+in-Ok+in_ok-push-in-Ok w ↦
+  | in-Some+in_ok-lend_named+in_ok-push w ↦
       ap (λ v. map (extra_bytes view_state) v.items) w.extras-is
-      ∙ ap (λ items. map (extra_bytes view_state) items) w.in_ok-push-in-Ok.ensures.items
-      ∙ pushed view_state c.loop-index.extras.items w.in-Ok.extra (g.D.NamesFiles.names c.args.driver.now) (g.D.Seen.extras c.args.driver.now) c.loop-index.index _
+      ∙ ap (λ items. map (extra_bytes view_state) items) w.in_ok-push.ensures.items
+      ∙ pushed view_state c.loop-index.extras.items w.in_ok-lend_named.field-0 (g.D.NamesFiles.names c.args.driver.now) (g.D.Seen.extras c.args.driver.now) c.loop-index.index _
       c.loop-index.invariant w.in-Some.ensures
-      (w.in-Ok.ensures.ok ∙ ap (λ name. (name, (mem_state w.in-Some.file.now).bytes)) w.extra_name.ensures)
+      (w.in_ok-lend_named.ensures.ok ∙ ap (λ name. (name, (mem_state w.in-Some.file.now).bytes)) w.extra_name.ensures)
   | in_default w ↦ absurd (omega (arith, w.in_default.ensures, c.loop-index-test.true, c.extra_count-index-end.ensures))
 ]
 

@@ -9,19 +9,19 @@ use Rattle.qimg_chain.proofs.chain.plain_reads.plain_read.Goals as goal
 
 pub read_in_order-requires-clause-sees : goal.read_in_order-requires-clause-sees
 read_in_order-requires-clause-sees g c =
-    seen (image_seen.ghosts g.row.S g.S.Storage g.S.Storage-dict g.S.Destruct-dict) g.S.Storage.state false 0 c.args.files.items (c.in-Ok.chain.0 ∷ c.in-Ok.chain.1) c.in-Ok.ensures.layers
+    seen (image_seen.ghosts g.row.S g.S.Storage g.S.Storage-dict g.S.Destruct-dict) g.S.Storage.state false 0 c.args.files.items (c.in_ok-chain.chain.0 ∷ c.in_ok-chain.chain.1) c.in_ok-chain.ensures.layers
 
 pub read_in_order-requires-clause-usable : goal.read_in_order-requires-clause-usable
 read_in_order-requires-clause-usable g c =
-    usable (image_seen.ghosts g.row.S g.S.Storage g.S.Storage-dict g.S.Destruct-dict) g.S.Storage.state false 0 c.args.files.items (c.in-Ok.chain.0 ∷ c.in-Ok.chain.1) c.in-Ok.ensures.layers
+    usable (image_seen.ghosts g.row.S g.S.Storage g.S.Storage-dict g.S.Destruct-dict) g.S.Storage.state false 0 c.args.files.items (c.in_ok-chain.chain.0 ∷ c.in_ok-chain.chain.1) c.in_ok-chain.ensures.layers
 
 pub returns-clause-ok : goal.returns-clause-ok
 returns-clause-ok g c =
     let d = image_seen.ghosts g.row.S g.S.Storage g.S.Storage-dict g.S.Destruct-dict in
-    let opened = c.in-Ok.ensures in
+    let opened = c.in_ok-chain.ensures in
     let inside = c.min-inside.result in
     let long : length c.read_in_order.new.buf ≡ inside = omega (arith, c.read_in_order.auto.buf, length-take inside c.blank.new.buf, c.blank.auto.buf, c.min-inside.ensures) in
-    read_plainly g.S.Storage.state c.args.files.items c.args.offset c.read_in_order.result (chain_disk d.layer c.in-Ok.chain) inside (length c.args.buf.now) c.read_in_order.new.buf _
+    read_plainly g.S.Storage.state c.args.files.items c.args.offset c.read_in_order.result (chain_disk d.layer c.in_ok-chain.chain) inside (length c.args.buf.now) c.read_in_order.new.buf _
     opened.formed (grind (arith, common_steps)) (omega (arith, c.blank.auto.buf)) opened.means
     (omega (arith, c.min-inside.ensures, c.saturating_sub.ensures, c.size.ensures, opened.means.size))
     long (λ i lt. grind (arith, common_steps, long)) (λ i le. grind (arith, common_steps, c.blank.ensures i)) c.read_in_order.ensures.ok
@@ -29,9 +29,9 @@ returns-clause-ok g c =
 pub returns-clause-err : goal.returns-clause-err
 returns-clause-err g c =
     let d = image_seen.ghosts g.row.S g.S.Storage g.S.Storage-dict g.S.Destruct-dict in
-    let opened = c.in-Ok.ensures in
+    let opened = c.in_ok-chain.ensures in
     let inside = c.min-inside.result in
-    not_read g.S.Storage.state c.args.files.items c.args.offset d (fails g.row.S g.S.Storage g.S.Storage-dict g.S.Destruct-dict) c.read_in_order.result (chain_disk d.layer c.in-Ok.chain) _ (length c.args.buf.now)
+    not_read g.S.Storage.state c.args.files.items c.args.offset d (fails g.row.S g.S.Storage g.S.Storage-dict g.S.Destruct-dict) c.read_in_order.result (chain_disk d.layer c.in_ok-chain.chain) _ (length c.args.buf.now)
     opened.formed (grind (arith, common_steps)) opened.means
     (omega (arith, length-take inside c.blank.new.buf, c.blank.auto.buf, c.min-inside.ensures, c.saturating_sub.ensures, c.size.ensures, opened.means.size))
     c.read_in_order.ensures.err

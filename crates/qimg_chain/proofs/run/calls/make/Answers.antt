@@ -10,14 +10,14 @@ only-one all [] last len is = is
 only-one all (a ∷ []) last len is = absurd (cc (rw (is) at len))
 only-one all (a ∷ b ∷ rest) last len is = absurd (cc (rw (is) at len))
 
-pub returns-in-Some-clause-made : goal.returns-in-Some-clause-made
-returns-in-Some-clause-made g c =
+pub returns-clause-made : goal.returns-clause-made
+returns-clause-made g c =
     let d = g.D.Seen in
     let call = c.args.call in
     let answer = c.in-Some.answer in
     let old = c.args.chain.now in
     let new = c.drive.new.chain in
     let all : MadeAll d (call ∷ []) (answer ∷ []) old new =
-    subst (λ answers. MadeAll d (call ∷ []) answers old new) (only-one c.in-Ok.answers.items c.pop.new.self.items answer c.in-Ok.ensures.each c.in-Some.ensures.items) c.in-Ok.ensures.made in
+    subst (λ answers. MadeAll d (call ∷ []) answers old new) (only-one c.in_ok-answers.answers.items c.pop.new.self.items answer c.in_ok-answers.ensures.each c.in-Some.ensures.items) c.in_ok-answers.ensures.made in
     let made : AnswersAlone d (call ∷ []) (answer ∷ []) old new = alone-one d call answer old new c.requires.other all in
     (made, alone-fits d call answer old new made)
