@@ -16,6 +16,7 @@
 
 mod failure;
 mod files;
+mod streams;
 mod top_file;
 
 use failure::{Failure, status};
@@ -24,11 +25,13 @@ use imago_storage::{Fault, MemStorage};
 use qimg_chain::arguments::{Arguments, parse};
 use qimg_chain::run::run_files;
 use qimg_core::plain::ChainFile;
+use std::cell::RefCell;
 use std::env::Env;
 use std::fs::Files;
 use std::io::{BufReader, BufWriter, ErrorKind, Write};
 use std::process::ExitCode;
 use std::{env, io};
+use streams::{Answers, Script};
 use top_file::TopFile;
 
 /// The number of the chain that the program opens.
@@ -63,8 +66,13 @@ fn run_script<R: Input + Print + AllocGlobal>(
     files: Vec<ChainFile<MemStorage>>,
     writable: bool,
 ) -> Result<Option<Vec<u8>>, Failure> {
-    let input = BufReader::with_capacity(rt.alloc(), READ_AT_ONCE, rt.reader())?;
-    let mut output = BufWriter::new(rt.alloc(), io::writer(rt))?;
+    let buffer = RefCell::new(BufWriter::new(rt.alloc(), io::writer(rt))?);
+    let script = Script {
+        input: rt.reader(),
+        answers: Answers { buffer: &buffer },
+    };
+    let input = BufReader::with_capacity(rt.alloc(), READ_AT_ONCE, script)?;
+    let mut output = Answers { buffer: &buffer };
     let ended = run_files(rt.alloc(), files, writable, CHAIN, input, &mut output);
     let flushed = output.flush();
     // A chain that doesn't open is told as such, also where nobody takes the output.
