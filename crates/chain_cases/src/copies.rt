@@ -1,6 +1,8 @@
-// Copies of a disk's files, by words.
+// Copies of a disk's files, and of the disk, by words.
+use access_calls::{buffer, flatten, read};
 use cases::{Trouble, joined, number, runs, size};
-use imago_access::{Format, FormatAccess, ReadFiles};
+use imago_access::{Format, FormatAccess, FormatDriverInstance, ReadFiles};
+use imago_formats::Raw;
 use imago_storage::MemStorage;
 use qimg_chain::chain::{NamesFiles, snapshot};
 use qimg_core::plain::ChainFile;
@@ -87,4 +89,30 @@ pub fn copied<D: NamesFiles + ReadFiles>(
         },
         _ => Err(Trouble::NoCall),
     }
+}
+
+// A raw disk in memory of so many bytes, which are no zeroes.
+fn raw_disk(alloc: Global, n: u64) -> Result<FormatAccess<Raw<MemStorage>>, Trouble> {
+    let file = MemStorage::from_bytes(buffer(alloc, n)?)?;
+    Ok(FormatAccess::new(Raw::open_image(file, true)))
+}
+
+/// Copies a disk into a new raw one in memory: by the word `SIZE` it tells all bytes of that, or by `SIZE OFFSET N` a range.
+///
+/// # Errors
+///
+/// `Trouble::NoCall` where the words are no such words, or more than 16 MiB are asked for; `Trouble::Refused` as the copying or the read.
+pub fn flattened<D: FormatDriverInstance>(
+    alloc: Global,
+    disk: &mut FormatAccess<D>,
+    words: &[&str],
+) -> Result<String, Trouble> {
+    let (size, offset, n) = match words {
+        [size] => (number(size)?, 0, number(size)?),
+        [size, offset, n] => (number(size)?, number(offset)?, number(n)?),
+        _ => return Err(Trouble::NoCall),
+    };
+    let mut target = raw_disk(alloc, size)?;
+    flatten(alloc, disk, &mut target)?;
+    read(alloc, &mut target, offset, n)
 }

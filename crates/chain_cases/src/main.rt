@@ -31,6 +31,7 @@
 //!   for, since it was last told or `forget`.
 //! - `snapshot`: the files of the disk are copied as they stand. It tells of each layer, the highest first, the format and the length of
 //!   its file, and the names and lengths of the further ones, with `/` behind each. `snapshot LAYER FILE OFFSET N` tells bytes of a copy.
+//! - `flatten SIZE [OFFSET N]`: the disk is copied into a new raw one of so many bytes in memory. It tells all of these, or a range.
 //! - `if_open CALL`: the call where a disk is open, and else `closed`.
 //!
 //! # Stops

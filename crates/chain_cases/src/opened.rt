@@ -1,5 +1,5 @@
 // A disk over the files of a case, a prepared mapping beside it, and their calls.
-use crate::copies::copied;
+use crate::copies::{copied, flattened};
 use crate::files::NamedStorages;
 use crate::layers::{add, image_of};
 use crate::openings;
@@ -200,6 +200,7 @@ impl<S: Storage + Drop> Opened<S> {
             ["mapping"] => self.told_mapping(alloc),
             ["mapping", storage, offset, n] => self.make_mapping(alloc, [*storage, *offset, *n]),
             ["snapshot", rest @ ..] => copied(alloc, self.open()?, rest),
+            ["flatten", rest @ ..] => flattened(alloc, self.open()?, rest),
             _ => called(alloc, self.open()?, words),
         }
     }
