@@ -2,9 +2,9 @@
 
 use crate::failure::Failure;
 use std::alloc::Global;
-use std::fs::{self, File, Files, Metadata, OpenFile};
+use std::fs::{self, File, Files, Metadata, OpenFile, OpenOptions};
 use std::io::Write;
-use std::os::unix::fs::{MetadataExt, chown};
+use std::os::unix::fs::{MetadataExt, lchown};
 use std::path::PathBuf;
 
 /// Which file a path names, and what is known of when it changed.
@@ -36,13 +36,16 @@ pub struct TopFile {
 
 impl TopFile {
     /// The file that a path names. It is refused where it isn't a regular one: a file with new bytes in the place of a device, say, would
-    /// write nothing to that.
+    /// write nothing to that. So is one that may not be written, though its name could be taken where its folder may be.
     pub fn at<R: Files + AllocGlobal>(rt: &R, path: &str) -> Result<TopFile, Failure> {
         let path = fs::canonicalize(rt, path)?;
         let metadata = fs::metadata(rt, path.as_str())?;
         if !metadata.is_file() {
             return Err(Failure::InputOutput);
         }
+        let mut how = OpenOptions::new();
+        how.write(true);
+        let _writable = how.open(rt, path.as_str())?;
         Ok(TopFile {
             path,
             version: version_of(&metadata),
@@ -67,7 +70,7 @@ impl TopFile {
         bytes: &[u8],
     ) -> Result<(), Failure> {
         let old = fs::metadata(rt, self.path.as_str())?;
-        let _ = chown(rt, beside, Some(old.uid()), Some(old.gid()));
+        let _ = lchown(rt, beside, Some(old.uid()), Some(old.gid()));
         file.set_permissions(old.permissions())?;
         file.write_all(bytes)?;
         file.sync_all()?;
@@ -76,24 +79,26 @@ impl TopFile {
         Ok(())
     }
 
-    /// Has the storage keep the file's name.
-    fn sync_folder<R: Files + AllocGlobal>(&self, rt: &R) -> Result<(), Failure> {
-        if let Some(folder) = self.path.parent() {
-            File::open(rt, folder)?.sync_all()?;
+    /// The folder that the file lies in.
+    fn folder<R: Files + AllocGlobal>(&self, rt: &R) -> Result<R::File, Failure> {
+        match self.path.parent() {
+            Some(folder) => Ok(File::open(rt, folder)?),
+            None => Err(Failure::InputOutput),
         }
-        Ok(())
     }
 
     /// Puts bytes in the place of the file: they are written to a new file beside it, which takes its name then, and both are synced. So the
     /// path names the old bytes or the new ones all the time. Where that fails before, or the file has changed, the new one is removed.
+    /// Where the folder can't be synced behind it, the path names the new bytes.
     pub fn replace<R: Files + AllocGlobal>(&self, rt: &R, bytes: &[u8]) -> Result<(), Failure> {
         let beside = format!(in rt.alloc(); "{}.qimg-new", self.path.as_str())?;
+        let folder = self.folder(rt)?;
         let file = File::create_new(rt, beside.as_str())?;
         let taken = self.take_place(rt, file, beside.as_str(), bytes);
         if taken.is_err() {
             let _ = fs::remove_file(rt, beside.as_str());
             return taken;
         }
-        self.sync_folder(rt)
+        Ok(folder.sync_all()?)
     }
 }
