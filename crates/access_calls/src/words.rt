@@ -189,7 +189,8 @@ fn named<D: FormatDriverInstance + Display>(
 ///
 /// - `read`, `map`, `shallow`, `zeroes`, `to_zero`, `to_any`, `to_backing OFFSET N`; `write OFFSET BYTES`; `ensure OFFSET N [overwrite]`;
 ///   `write_mapped GUEST PLACE BYTES`.
-/// - `grow` and `resize SIZE MODE`, `shrink SIZE`, with `none`, `zero`, `format`, `full` or `data` as a mode; `flush`, `sync`, `invalidate`.
+/// - `grow` and `resize SIZE MODE`, `shrink SIZE`, with `none`, `zero`, `format`, `full` or `data` as a mode; `flush`, `sync`,
+///   `invalidate`.
 /// - `list CALL ; CALL ; ..`: these calls by one call, which keeps what is prepared between them: those above but for `resize` and
 ///   `invalidate`, and `prepare OFFSET N [overwrite]`, `commit` and `cancel`. It tells their answers, with `/` between them, or `none`.
 /// - `sizes` of the layers, the highest first, and `ready`, whether each can be used; `aligns` of requests and of memory; `named`,
@@ -197,8 +198,8 @@ fn named<D: FormatDriverInstance + Display>(
 /// - `file_size LAYER FILE` and `read_file LAYER FILE OFFSET N` of a layer's file as it stands: the top has the number 0, and so has its
 ///   image file.
 /// - `driver CALL` of the top layer's driver: `is`, `granularity`, `ready`; `file` and `extra INDEX`, how long its files are; `map`,
-///   `read_special`, `zero`, `to_zero`, `to_any` and `to_backing OFFSET N`, which tell the part that is done; `read STORAGE PLACE N`; `write
-///   GUEST PLACE BYTES`.
+///   `read_special`, `zero`, `to_zero`, `to_any` and `to_backing OFFSET N`, which tell the part that is done; `read STORAGE PLACE N`;
+///   `write GUEST PLACE BYTES`.
 ///
 /// # Errors
 ///

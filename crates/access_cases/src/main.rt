@@ -18,10 +18,10 @@
 //! # Calls
 //!
 //! - Those of a disk and of the driver of its top layer that `access_calls::called` has.
-//! - `prepare OFFSET N [overwrite]`, `commit`, `cancel`; `mapping` tells the one that is kept; `mapping STORAGE OFFSET N [IMAGE CLAIM]` makes
-//!   one; `other_mapping` exchanges it for the other one.
-//! - Of the top layer's storage: `storage` (its bytes), `write_storage OFFSET BYTES`, `count` (by its fuse), `asked` (what all storages were
-//!   asked for), `resized` (the mode of the last resize). Of images of words: `lookups` of each, `faults`.
+//! - `prepare OFFSET N [overwrite]`, `commit`, `cancel`; `mapping` tells the one that is kept; `mapping STORAGE OFFSET N [IMAGE CLAIM]`
+//!   makes one; `other_mapping` exchanges it for the other one.
+//! - Of the top layer's storage: `storage` (its bytes), `write_storage OFFSET BYTES`, `count` (by its fuse), `asked` (what all storages
+//!   were asked for), `resized` (the mode of the last resize). Of images of words: `lookups` of each, `faults`.
 //! - With no disk: `opening [WRITING DIRECT FILE]`, `creating` and `create_builder SIZE MODE`, `gate NAME`, `nothing_below OFFSET N`,
 //!   `check_range ACCESS UNIT SIZE OFFSET N`; at any time `probe STORAGE`.
 #![tactic(auto)]

@@ -165,6 +165,10 @@ pub fn header_call(alloc: Global, header: &mut Header, words: &[&str]) -> Result
             header.set_size(number(size)?);
             Ok(ok(alloc)?)
         }
+        ["forget_feature_names"] => {
+            header.forget_feature_names();
+            Ok(ok(alloc)?)
+        }
         ["require", version] => require(alloc, header, number(version)?),
         _ => getter(alloc, header, words),
     }

@@ -13,7 +13,8 @@
 //!
 //! - `header load reading | writing`; `header new CLUSTER_BITS REFCOUNT_ORDER BACKING_FILE BACKING_FORMAT DATA_FILE`, `-` for none and
 //!   `n*3` for `nnn`.
-//! - `header set_size N`; `header set_l1`, `header set_reftable`: it names the case's table; `header require VERSION`.
+//! - `header set_size N`; `header set_l1`, `header set_reftable`: it names the case's table; `header require VERSION`;
+//!   `header forget_feature_names`.
 //! - `header write`, `header write size | l1 | reftable`; `header update reading | writing`: takes over what the file's header says.
 //! - `header version`, `size`, `cluster_bits`, `cluster_size`, `l2_entries`, `refcount_order`, `rb_bits`, `rb_entries`, `l1_offset`,
 //!   `l1_entries`, `reftable_offset`, `reftable_clusters`, `reftable_entries`, `snapshots`, `backing_file`, `backing_format`, `data_file`,

@@ -43,7 +43,8 @@ fn allocate_and_write<S: Storage>(
     requires room { HasEntries caches.old }
     requires whole { length content.now ≡ cluster_size file.old.header.fields }
     requires any { 0 < count }
-    ensures { StoresRunUnsettled S.state count content.now (lent file.old caches.old space.old) result (lent file.new caches.new space.new) }
+    ensures { StoresRunUnsettled S.state count content.now (lent file.old caches.old space.old)
+        result (lent file.new caches.new space.new) }
 {
     match space
         .allocator
@@ -95,8 +96,9 @@ pub(crate) fn settle_stored<S: Storage>(
 /// cached before, and nothing is then.
 ///
 /// It refuses with `Fault::Limit` only where a sixteenth of the space and three times as many clusters weren't free in a row as the call
-/// began, and tells why the first such run that is free by then can't be taken, as `Allocator::allocate_clusters` does; with `Fault::Memory`
-/// and `Fault::Storage`; and with `Fault::Counter` and `Fault::DamagedTable`, which no sound image has. No room is held then.
+/// began, and tells why the first such run that is free by then can't be taken, as `Allocator::allocate_clusters` does; with
+/// `Fault::Memory` and `Fault::Storage`; and with `Fault::Counter` and `Fault::DamagedTable`, which no sound image has. No room is held
+/// then.
 pub fn store_run<S: Storage>(
     alloc: Global,
     file: &mut ImageFile<S>,

@@ -244,8 +244,8 @@ impl<S: Storage> FormatDriverInstance for Qcow2<S> {
         // It is refused with a limit only where the first place can't be written.
         ensures limit { let d = ⟦<Qcow2<S> as Seen>⟧ in
             d.sees self.old → IfErr result (λ e. (n : _) → e ≡ Limit n → (d.layer self.old).home offset ≡ None) }
-        // Then the L1 table would have more than 2^22 words, or no quarter of the space is free in a row for what the guest cluster lacks: a
-        // word of the L1 table, an L2 table of its own, or a host cluster. The limit tells of either.
+        // Then the L1 table would have more than 2^22 words, or no quarter of the space is free in a row for what the guest cluster
+        // lacks: a word of the L1 table, an L2 table of its own, or a host cluster. The limit tells of either.
         ensures full { let t = self.old.tables in
             ⟦<Qcow2<S> as Seen>⟧.safe self.old → B.SeenBelow.sees_under below.old → IfErr result (λ e. (n : _) → e ≡ Limit n
             → LacksPlace S.Storage (offset / cluster_size t.file.header.fields) t self.new.tables n) }

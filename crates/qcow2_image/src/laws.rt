@@ -25,9 +25,9 @@ pub fn layers_show_what_images_do()
         → through ((qcow2_meaning blank file).cell p) below ≡ in_qcow2 (bytes_of file) external (Ok H) p (through blank below) }
 {}
 
-/// Calls that keep the leaks of an image keep them together. Where nothing is pending before and behind them, each cluster is counted beyond
-/// what names it as often as it was: a safe image leaks what it did. Nothing is pending right after it was opened, and where nothing waits
-/// to be freed and nothing is prepared.
+/// Calls that keep the leaks of an image keep them together. Where nothing is pending before and behind them, each cluster is counted
+/// beyond what names it as often as it was: a safe image leaks what it did. Nothing is pending right after it was opened, and where
+/// nothing waits to be freed and nothing is prepared.
 pub fn leaks_add_up<S: Storage>()
     ensures both { (a b c : _) → KeepsLeaks S.Storage a b → KeepsLeaks S.Storage b c → KeepsLeaks S.Storage a c }
     ensures alike { (old new : _) → KeepsLeaks S.Storage old new → ((c : ℕ) → pending S.Storage old c ≡ 0)

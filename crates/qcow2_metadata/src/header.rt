@@ -204,7 +204,9 @@ impl Header {
         name_in(&self.feature_names, kind, bit)
     }
 
-    /// Lets the names of feature bits go, and the memory that they take. The file is not written.
+    /// Lets the names of feature bits go, and the memory that they take. The file is not written and keeps them. A header that is
+    /// written afterwards has no feature name table (the section "Feature name table"), and to `update` this one and a header with
+    /// names are different ones.
     pub fn forget_feature_names(&mut self)
         ensures { self.new ≡ record self.old { features = [] } }
     {

@@ -87,9 +87,9 @@ impl TopFile {
         }
     }
 
-    /// Puts bytes in the place of the file: they are written to a new file beside it, which takes its name then, and both are synced. So the
-    /// path names the old bytes or the new ones all the time. Where that fails before, or the file has changed, the new one is removed.
-    /// Where the folder can't be synced behind it, the path names the new bytes.
+    /// Puts bytes in the place of the file: they are written to a new file beside it, which takes its name then, and both are synced. So
+    /// the path names the old bytes or the new ones all the time. Where that fails before, or the file has changed, the new one is
+    /// removed. Where the folder can't be synced behind it, the path names the new bytes.
     pub fn replace<R: Files + AllocGlobal>(&self, rt: &R, bytes: &[u8]) -> Result<(), Failure> {
         let beside = format!(in rt.alloc(); "{}.qimg-new", self.path.as_str())?;
         let folder = self.folder(rt)?;

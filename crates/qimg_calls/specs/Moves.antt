@@ -38,8 +38,8 @@ pub record NamesOneThere {D St : Type 0} (g : Ghosts D St) (offset asked : ℕ) 
   pub writable : DeepNamesWritable (map g.layer (chain c)) offset asked mapping
 
 -- Which places an answer names: of storages that there are, what their bytes are and where the run can be written, and by the top layer
--- none of those that it has no room for. A lookup's zero is explicit exactly where the top layer states it. A look, a flush and a sync leave
--- the top as it was. A flush with nothing prepared is done where the top's file by itself means the disk, and a sync writes nothing.
+-- none of those that it has no room for. A lookup's zero is explicit exactly where the top layer states it. A look, a flush and a sync
+-- leave the top as it was. A flush with nothing prepared is done where the top's file by itself means the disk, and a sync writes nothing.
 abbrev pub Names : {D St : Type 0} → Ghosts D St → Call → Answer → D × List D → D × List D → Type 0
 Names g (calls.Read offset n) answer old new = TopStays g old new
 Names g (calls.GetMapping offset asked) (told.Mapped mapping n) old new =

@@ -32,8 +32,8 @@ const MOST_LAYERS: usize = 64;
 
 /// Opens image files as a chain of layers, the top first: that alone is opened for writing, where that is asked for, and bears the
 /// number, if it is a qcow2 image. Each file that a VMDK image names is the first of its further files with that name which isn't taken
-/// yet. That a backing file has the name and the format by which it is named isn't asked. Chains that are open at once want numbers of their
-/// own: a mapping that is prepared tells by its number which image it belongs to.
+/// yet. That a backing file has the name and the format by which it is named isn't asked. Chains that are open at once want numbers of
+/// their own: a mapping that is prepared tells by its number which image it belongs to.
 ///
 /// It refuses with `Fault::MissingBelow` where there is no file, and with `Fault::Limit` where there are more than 64. Then it goes from
 /// the top downward, and refuses for the first cause: as the builder of each file's format does, with `Fault::MissingData` for a further
