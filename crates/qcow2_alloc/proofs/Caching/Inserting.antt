@@ -16,7 +16,7 @@ use Rattle.qcow2_alloc.specs.Finding.{IsPinnedFull, PinsNothing, with_room, Coun
 use Rattle.qcow2_alloc.specs.Putting.{refusal_of, PutInto, MakesWay}
 use Rattle.qcow2_alloc.proofs.Flushing.Counting.{Counted}
 use Rattle.qcow2_alloc.proofs.Caching.Entries.{remove_written}
-use Rattle.qcow2_alloc.proofs.Caching.FindingTables.{kept-same}
+use Rattle.qcow2_alloc.proofs.Flushing.Going.{kept-same}
 use Rattle.qcow2_alloc.proofs.Caching.Pins.{pins-hit, pins-new, pins-set, pins-then}
 use Rattle.qcow2_alloc.proofs.Caching.Places.{Place, place-of-key, place-hit}
 use Rattle.qcow2_alloc.proofs.Caching.Readying.{is-there}

@@ -1,6 +1,6 @@
 -- What a search asks of the file: in a full cache, and where nothing is modified.
 use Rattle.std.proofs.Common.{◌≡◌, ℕ, ◌≤◌, refl, ap, sym, subst, ◌∙◌, List, [], ◌∷◌, length, Option, None, Some, Result, Ok, Err, Bool, true, false, inl, inr}
-use Rattle.std.specs.Prelude.{nat_eq, MatchResult}
+use Rattle.std.specs.Prelude.{◌⊎◌, nat_eq, MatchResult}
 use Rattle.std.specs.List.{AllByRecursion}
 use Rattle.std.specs.Map.{lookup}
 use Rattle.std.proofs.lemmas.Bool.{cases_Bool, cases_lt}
@@ -13,16 +13,13 @@ use Rattle.qcow2_alloc.specs.declared.async_lru_cache.Admission.TheVariants.{Gra
 use Rattle.qcow2_alloc.specs.declared.async_lru_cache.Slot.{Slot}
 use Rattle.qcow2_alloc.specs.declared.cache.CacheDependency.{CacheDependency}
 use Rattle.qcow2_alloc.specs.declared.cache.CacheDependency.TheVariants.{Unset, L2DependsOnRb, RbDependsOnL2}
-use Rattle.qcow2_alloc.specs.declared.cache.MetadataCaches.{MetadataCaches}
-use Rattle.qcow2_alloc.specs.declared.file.ImageFile.{ImageFile}
 use Rattle.qcow2_alloc.specs.Backends.{TableFlushed, BlockFlushed}
 use Rattle.qcow2_alloc.specs.Cache.{cache_kind, FlushedAt, Evicted, MadeRoom, Loaded, LoadedAfter, Readied, FlushedEach, fault_of, latest, with_value, victim}
-use Rattle.qcow2_alloc.specs.Caches.{cached_in}
 use Rattle.qcow2_alloc.specs.Finding.{LetsIn}
 use Rattle.qcow2_alloc.specs.Going.{WritesTables, WritesBlocks, Behind}
 use Rattle.qcow2_alloc.specs.Memory.{Cached}
 use Rattle.qcow2_alloc.specs.Safety.{AreTablesClean, AreBlocksClean}
-use Rattle.qcow2_alloc.proofs.Caching.FindingTables.{kept-same}
+use Rattle.qcow2_alloc.proofs.Flushing.Going.{kept-same}
 use Rattle.qcow2_alloc.proofs.Caching.Readying.{is-there}
 use Rattle.qcow2_alloc.proofs.Caching.Searching.{done_of, all-at, all-removed}
 
@@ -38,6 +35,12 @@ module _ {V : Type 0} (flushes : StorageState → ℕ → V → Result Unit Faul
         one.1 ∙ earlier.1,
         left ∙ ap (λ x. with_value e x ∷ rest) one.2 ∙ ap (λ xs. with_value e e.1.value ∷ xs) earlier.2,
       )
+
+is-order : (a b : CacheDependency) → (a ≡ b) ⊎ (a ≡ b → ⊥)
+is-order Unset Unset = inl refl
+is-order L2DependsOnRb L2DependsOnRb = inl refl
+is-order RbDependsOnL2 RbDependsOnL2 = inl refl
+is-order a b = inr (λ no. cc)
 
 answered : (r : Result Unit Fault) → fault_of r ≡ None → r ≡ Ok tt
 answered (Ok done) is = refl
@@ -151,24 +154,15 @@ module _ {V D : Type 0} (state : D → StorageState) (loads : D → ℕ → Resu
         by-room (Err fault) mid entries same clean later = asked-none mid entries same clean later.1 later.2
 
 -- What was written before a table was, and before a block: nothing where nothing of it is modified.
-module _ {S : Type 0} (state : S → StorageState) (old mid : MetadataCaches S) (before between : ImageFile S) (answer : Result Unit Fault) where
+module _ (order : CacheDependency) (a b : StorageState) (c c' : Cached) (answer : Result Unit Fault) where
   abbrev NothingDone : Type 0
-  NothingDone = (answer ≡ Ok tt) × (state between.image ≡ state before.image) × (cached_in mid ≡ cached_in old)
+  NothingDone = (answer ≡ Ok tt) × (b ≡ a) × (c' ≡ c)
 
-  idle-so : (answer ≡ Ok tt) × (mid ≡ old) × (between ≡ before) → NothingDone
-  idle-so idle = (idle.0, ap (λ (f : ImageFile S). state f.image) idle.2, ap (λ (m : MetadataCaches S). cached_in m) idle.1)
+  pub blocks-idle : ((order ≡ L2DependsOnRb → ⊥) → NothingDone) → (order ≡ L2DependsOnRb → WritesBlocks a c answer b c') → AreBlocksClean c → NothingDone
+  blocks-idle idle did clean = elim (is-order order L2DependsOnRb) [ inl is ↦ blocks-none a b c c' answer (did is) clean | inr other ↦ idle other ]
 
-  pub blocks-idle : (order : CacheDependency) → ((order ≡ L2DependsOnRb → ⊥) → (answer ≡ Ok tt) × (mid ≡ old) × (between ≡ before))
-      → (order ≡ L2DependsOnRb → WritesBlocks (state before.image) (cached_in old) answer (state between.image) (cached_in mid)) → AreBlocksClean (cached_in old) → NothingDone
-  blocks-idle Unset idle did clean = idle-so (idle (λ no. cc))
-  blocks-idle RbDependsOnL2 idle did clean = idle-so (idle (λ no. cc))
-  blocks-idle L2DependsOnRb idle did clean = blocks-none (state before.image) (state between.image) (cached_in old) (cached_in mid) answer (did refl) clean
-
-  pub tables-idle : (order : CacheDependency) → ((order ≡ RbDependsOnL2 → ⊥) → (answer ≡ Ok tt) × (mid ≡ old) × (between ≡ before))
-      → (order ≡ RbDependsOnL2 → WritesTables (state before.image) (cached_in old) answer (state between.image) (cached_in mid)) → AreTablesClean (cached_in old) → NothingDone
-  tables-idle Unset idle did clean = idle-so (idle (λ no. cc))
-  tables-idle L2DependsOnRb idle did clean = idle-so (idle (λ no. cc))
-  tables-idle RbDependsOnL2 idle did clean = tables-none (state before.image) (state between.image) (cached_in old) (cached_in mid) answer (did refl) clean
+  pub tables-idle : ((order ≡ RbDependsOnL2 → ⊥) → NothingDone) → (order ≡ RbDependsOnL2 → WritesTables a c answer b c') → AreTablesClean c → NothingDone
+  tables-idle idle did clean = elim (is-order order RbDependsOnL2) [ inl is ↦ tables-none a b c c' answer (did is) clean | inr other ↦ idle other ]
 
 -- Something is done behind what comes first, once that is;
 pub behind-done : (comes_first : Type 0) (First Done : StorageState → Cached → Result Unit Fault → StorageState → Cached → Type 0) (a b d : StorageState) (c e c' : Cached) (result : Result Unit Fault)

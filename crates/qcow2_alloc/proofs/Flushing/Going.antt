@@ -1,8 +1,8 @@
 -- Writes of cached tables and blocks, one behind the other.
-use Rattle.std.proofs.Common.{◌≡◌, ℕ, refl, sym, subst, ◌∙◌, List, [], ◌∷◌, ◌++◌, inl, inr, Option, None, Result, Ok, Err}
+use Rattle.std.proofs.Common.{◌≡◌, ℕ, ◌≤◌, refl, arith, ap, sym, subst, ◌∙◌, List, [], ◌∷◌, ◌++◌, inl, inr, Option, None, Result, Ok, Err}
 use Rattle.std.specs.Prelude.{IsTrue}
 use Rattle.imago_storage.specs.State.{StorageState, Rose, InStep, Shape}
-use Rattle.imago_storage.specs.Calls.{IsFaultless}
+use Rattle.imago_storage.specs.Calls.{Kept, IsFaultless}
 use Rattle.imago_storage.specs.Through.{Stops}
 use Rattle.imago_storage.proofs.Composing.{keeps_on, no_stops, stops_both, later_same, later_both, rose_before, rose_behind}
 use Rattle.qcow2_types.specs.Bytes.{Bytes, bytes_of}
@@ -182,6 +182,31 @@ going-now H order Ready ok a b A B ready h = record {
 pub going-ready : (H : Header) (order : CacheDependency) (Ready : Cached → Type 0) (ok ok' : Type 0) (a b c : StorageState) (A B C : Cached) → ok → Ready B → Going H order Always ok a A b B → Going H order Ready ok' b B c C → Going H order Always ok' a A c C
 going-ready H order Ready ok ok' a b c A B C done ready first second =
     going-weaker H order Always (ok × ok') ok' a c A C (λ d. (done, d)) (going-both H order Always ok ok' a b c A B C first (going-now H order Ready ok' b c B C ready second))
+
+pub kept-same : (s : StorageState) → Kept s s
+kept-same s = record { shape = refl; bytes = refl; refusals = refl; stop = refl; past = refl }
+
+-- A call that makes no request, and after which what is cached is as safe.
+pub going-quiet : (H : Header) (order : CacheDependency) (Ready : Cached → Type 0) (ok : Type 0) (a b : StorageState) (A B : Cached) → Kept a b → a.faults ≤ b.faults → (ok → b.faults ≡ a.faults) → (Ready A → Ready B)
+    → (Ready A → Safe (bytes_of a.bytes) H A order → Safe (bytes_of a.bytes) H B order) → (Ready A → memory (bytes_of a.bytes) H.fields B ≡ memory (bytes_of a.bytes) H.fields A) → Going H order Ready ok a A b B
+going-quiet H order Ready ok a b A B kept faults same-count ready safely same = record {
+  shape = kept.shape;
+  later = record { faults = faults; refusals = omega (arith, kept.refusals) };
+  faults = λ o. (same-count o, kept.refusals);
+  ready = ready;
+  passes = λ keeps safe r calm. (
+    λ was tells' keeps'. kept.stop ∙ was (back (λ s. IsTrue s.tells) tells') (back (λ s. IsTrue s.keeps) keeps') ∙ sym kept.bytes,
+    no_stops _ a b kept.stop kept.past,
+  );
+  holds = λ keeps safe r why. record {
+    safe = subst (λ (l : List ℕ). Safe (bytes_of l) H B order) (sym kept.bytes) (safely r safe);
+    memory_same = ap (λ (l : List ℕ). memory (bytes_of l) H.fields B) kept.bytes ∙ same r;
+    left = subst (λ (l : List ℕ). IsLeft (bytes_of a.bytes) (memory (bytes_of a.bytes) H.fields A) H (bytes_of l)) (sym kept.bytes) (left-same (bytes_of a.bytes) (memory (bytes_of a.bytes) H.fields A) H safe.consistent);
+  };
+}
+  where
+    back : (P : Shape → Type 0) → P b.shape → P a.shape
+    back P = subst P kept.shape
 
 -- What is done in turn, where the first succeeded, and where it didn't.
 module _ (First Second : StorageState → Cached → Result Unit Fault → StorageState → Cached → Type 0) (a b : StorageState) (A B : Cached) where

@@ -1,28 +1,32 @@
 use Rattle.std.proofs.Common.{Ok, Err, ap}
-use Rattle.qcow2_alloc.proofs.Caching.SearchingBlocks.{l2-alone, block-found-full, block-found-halted}
+use Rattle.qcow2_alloc.proofs.Caching.Finding.{found-full, found-halted}
+use Rattle.qcow2_alloc.proofs.Caching.BlockSide.{blocks, block-laws, rb_side, tables-first, block-found}
 use Rattle.qcow2_alloc.proofs.Faults.{handed-on}
 use Rattle.qcow2_alloc.proofs.cache.MetadataCaches.rb_load.Goals as goal
 
 pub returns : goal.returns
 returns g c =
-    let old = c.args.self.now in
+    let state = g.S.Storage.state in
     let mid = c.before_blocks.new.self in
     let done = c.in_ok-before_blocks.ensures in
-    block-found-full g.S.Storage.state c.args.cluster old mid c.args.file.now c.before_blocks.new.file c.requires.absent c.requires.full (l2-alone old mid done.others.0 done.others.1) done.others.2 done.kept done.room.tables (λ no. ((done.idle no).1, (done.idle no).2))
-    done.going done.ready done.cause done.written (Ok c.in_ok-ready.field-0) c.ready.new.device (record mid { rb = c.ready.new.self }) (ap (λ l. record mid { rb = l }) c.ready.ensures.others) c.in_ok-ready.ensures.readied
+    let first = tables-first state c.args.self.now c.args.file.now (Ok tt) mid c.before_blocks.new.file done.going done.kept done.ready done.idle done.others done.room done.cause done.faults done.written in
+    block-found state c.args.cluster _ _ _ _ _ (found-full (blocks state) (block-laws state) c.args.cluster (rb_side state c.args.self.now) c.args.file.now c.requires.absent c.requires.full c.before_blocks.new.file (rb_side state mid) first
+    (Ok c.in_ok-ready.field-0) c.ready.new.device (rb_side state (record mid { rb = c.ready.new.self })) (ap (λ l. record (rb_side state mid) { own = l }) c.ready.ensures.others) c.in_ok-ready.ensures.readied)
 
 pub returns-in_err-ready : goal.returns-in_err-ready
 returns-in_err-ready g c = rw (handed-on _ _ c.from_residual-in_err-ready.ensures.1) (
-    let old = c.args.self.now in
+    let state = g.S.Storage.state in
     let mid = c.before_blocks.new.self in
     let done = c.in_ok-before_blocks.ensures in
-    block-found-full g.S.Storage.state c.args.cluster old mid c.args.file.now c.before_blocks.new.file c.requires.absent c.requires.full (l2-alone old mid done.others.0 done.others.1) done.others.2 done.kept done.room.tables (λ no. ((done.idle no).1, (done.idle no).2))
-    done.going done.ready done.cause done.written (Err c.in_err-ready.field-0.0) c.ready.new.device (record mid { rb = c.ready.new.self }) (ap (λ l. record mid { rb = l }) c.ready.ensures.others) c.in_err-ready.ensures.readied)
+    let first = tables-first state c.args.self.now c.args.file.now (Ok tt) mid c.before_blocks.new.file done.going done.kept done.ready done.idle done.others done.room done.cause done.faults done.written in
+    block-found state c.args.cluster _ _ _ _ _ (found-full (blocks state) (block-laws state) c.args.cluster (rb_side state c.args.self.now) c.args.file.now c.requires.absent c.requires.full c.before_blocks.new.file (rb_side state mid) first
+    (Err c.in_err-ready.field-0.0) c.ready.new.device (rb_side state (record mid { rb = c.ready.new.self })) (ap (λ l. record (rb_side state mid) { own = l }) c.ready.ensures.others) c.in_err-ready.ensures.readied))
 
 pub returns-in_err-before_blocks : goal.returns-in_err-before_blocks
 returns-in_err-before_blocks g c = rw (handed-on _ _ c.from_residual.ensures.1) (
-    let old = c.args.self.now in
+    let state = g.S.Storage.state in
     let mid = c.before_blocks.new.self in
     let done = c.in_err-before_blocks.ensures in
-    block-found-halted g.S.Storage.state c.args.cluster old mid c.args.file.now c.before_blocks.new.file c.requires.absent c.requires.full (l2-alone old mid done.others.0 done.others.1) done.others.2 done.kept done.room.tables (λ no. ((done.idle no).1, (done.idle no).2))
-    c.in_err-before_blocks.field-0.0 done.going done.cause done.faults (λ no. let ok = (done.idle no).0 in cc) done.written)
+    let fault = c.in_err-before_blocks.field-0.0 in
+    let first = tables-first state c.args.self.now c.args.file.now (Err fault) mid c.before_blocks.new.file done.going done.kept done.ready done.idle done.others done.room done.cause done.faults done.written in
+    block-found state c.args.cluster _ _ _ _ _ (found-halted (blocks state) (block-laws state) c.args.cluster (rb_side state c.args.self.now) c.args.file.now c.requires.absent c.requires.full c.before_blocks.new.file (rb_side state mid) fault first))

@@ -1,0 +1,181 @@
+-- The cache of refcount blocks, beside that of L2 tables.
+use Rattle.std.proofs.Common.{◌≡◌, ℕ, ◌*◌, ◌^◌, ◌≤◌, refl, arith, ap, sym, subst, ◌∙◌, [], inl, inr, length, Result, Ok, Err}
+use Rattle.std.proofs.lemmas.Bool.{cases_lt}
+use Rattle.std.proofs.lemmas.List.FromFn.{length-map-range_with_len}
+use Rattle.std.specs.Prelude.{MatchResult, OnOk}
+use Rattle.imago_storage.specs.State.{StorageState}
+use Rattle.imago_storage.specs.Calls.{Cause, IsFaultless}
+use Rattle.imago_storage.specs.declared.fault.Fault.{Fault}
+use Rattle.imago_storage.specs.declared.fault.Fault.TheVariants.{DamagedTable, Memory, Storage}
+use Rattle.qcow2_types.specs.Bytes.{bytes_of}
+use Rattle.qcow2_types.specs.Counts.{counters_of_block}
+use Rattle.qcow2_types.specs.Words.{max_offset}
+use Rattle.qcow2_types.specs.Header.{Fields}
+use Rattle.qcow2_metadata.specs.Places.{IsInReach}
+use Rattle.qcow2_metadata.specs.Tables.{TableValue}
+use Rattle.qcow2_metadata.specs.Blocks.{Block, block_in}
+use Rattle.qcow2_alloc.specs.declared.cache.CacheDependency.TheVariants.{RbDependsOnL2}
+use Rattle.qcow2_alloc.specs.declared.cache.L2CacheBackend.{L2CacheBackend}
+use Rattle.qcow2_alloc.specs.declared.cache.MetadataCaches.{MetadataCaches}
+use Rattle.qcow2_alloc.specs.declared.cache.RefBlockCacheBackend.{RefBlockCacheBackend}
+use Rattle.qcow2_alloc.specs.declared.file.ImageFile.{ImageFile}
+use Rattle.qcow2_alloc.specs.Backends.{BlockLoaded, written_blocks}
+use Rattle.qcow2_alloc.specs.Caches.{HasRoomOf, cached_file, cached_in, order_of}
+use Rattle.qcow2_alloc.specs.Finding.{LetsBlockIn, BlockFound, WhyNotFound}
+use Rattle.qcow2_alloc.specs.Going.{Going, Always, ReadyBlocks, WasNotCutOff, AreTablesInReach, CountsWrites, WritesTables}
+use Rattle.qcow2_alloc.specs.Memory.{Cached, written, written_table, written_block}
+use Rattle.qcow2_alloc.specs.Putting.{BlockInserted, refusal_of}
+use Rattle.qcow2_alloc.specs.Safety.{IsCachedBlock, AreTablesClean}
+use Rattle.qcow2_alloc.proofs.Caching.Entering.{block-leaves, block-leaves-safe, block-comes, block-comes-safe}
+use Rattle.qcow2_alloc.proofs.Caching.Finding.{Found}
+use Rattle.qcow2_alloc.proofs.Caching.LettingIn.{tables-idle}
+use Rattle.qcow2_alloc.proofs.Caching.Putting.{PutSo}
+use Rattle.qcow2_alloc.proofs.Caching.Searching.{counts-wider}
+use Rattle.qcow2_alloc.proofs.Caching.Sides.{Beside, Side, SideLaws, WrittenFirst}
+use Rattle.qcow2_alloc.proofs.Caching.Staying.{block-stays}
+use Rattle.qcow2_alloc.proofs.Flushing.Counting.{block-counted}
+use Rattle.qcow2_alloc.proofs.Flushing.Faultless.{never-mild}
+use Rattle.qcow2_alloc.proofs.Flushing.FlushingBlocks.{block-flushed, flushed-clean}
+use Rattle.qcow2_alloc.proofs.Flushing.Kept.{block-kept}
+use Rattle.qcow2_alloc.proofs.Memory.SafeLaws.{safe-reach}
+
+-- A load that wasn't cut off leaves the count of faults as it was.
+block-load-counted : (h : Fields) (key : ℕ) (old : StorageState) (result : Result Block Fault) (new : StorageState) → BlockLoaded h key old result new → WasNotCutOff result → new.faults ≡ old.faults
+block-load-counted h key old (Ok block) new loaded whole = loaded.faults
+block-load-counted h key old (Err fault) new loaded mild = elim (cases_lt max_offset (key * 2 ^ h.cluster_bits)) [
+  | inl far ↦ ap (λ (s : StorageState). s.faults) (loaded.out (λ reach. omega (arith, far, reach))).1
+  | inr reach ↦ absurd (never-mild old.faults new.faults fault (loaded.err reach) mild)
+]
+
+-- what is known of a load's answer
+block-loading : (h : Fields) (key : ℕ) (old : StorageState) (answer : Result Block Fault) (new : StorageState) → BlockLoaded h key old answer new
+    → (old.faults ≤ new.faults) × MatchResult answer (λ _. new.faults ≡ old.faults) (WhyNotFound (IsInReach h.cluster_bits key) ⊥ old.faults new.faults)
+block-loading h key old (Ok block) new loaded = (loaded.later, loaded.faults)
+block-loading h key old (Err fault) new loaded = (
+  loaded.later,
+  elim (cases_lt max_offset (key * 2 ^ h.cluster_bits)) [
+    | inl far ↦
+        let out = loaded.out (λ reach. omega (arith, far, reach)) in
+        let is : fault ≡ DamagedTable = (let e = out.0 in cc) in
+        subst (λ (q : Fault). WhyNotFound (IsInReach h.cluster_bits key) ⊥ old.faults new.faults q) (sym is) (λ reach. omega (arith, far, reach))
+    | inr reach ↦ by-fault fault (loaded.err reach)
+  ],
+)
+  where
+    by-fault : (fault : Fault) → Cause old.faults new.faults fault → WhyNotFound (IsInReach h.cluster_bits key) ⊥ old.faults new.faults fault
+    by-fault Memory why = tt
+    by-fault Storage why = why
+    by-fault other why = absurd why
+
+-- A block of the file fits.
+loaded-fits : (h : Fields) (key : ℕ) (old : StorageState) (value : Block) (new : StorageState) → BlockLoaded h key old (Ok value) new → IsCachedBlock (bytes_of old.bytes) h key value
+loaded-fits h key old value new loaded = record {
+  placed = ap (λ (b : Block). b.cluster) loaded.ok.1;
+  cluster_bits = ap (λ (b : Block). b.cluster_bits) loaded.ok.1;
+  order = ap (λ (b : Block). b.order) loaded.ok.1;
+  long = ap (λ (b : Block). length b.counters) loaded.ok.1 ∙ length-map-range_with_len _ 0 (counters_of_block h);
+  fit = loaded.ok.2;
+  modified = λ m. absurd (let off = ap (λ (b : Block). b.modified) loaded.ok.1 in let both = sym off ∙ m in cc);
+  clean = λ m live. ap (λ (b : Block). b.counters) loaded.ok.1;
+}
+
+module _ {S : Type 0} (state : S → StorageState) where
+  abbrev pub blocks : Side S Block TableValue
+  blocks = record {
+    state = state;
+    writes = written_blocks;
+    Loads = BlockLoaded;
+    read = block_in;
+    written = written_block;
+    other_written = written_table;
+    put = λ tables es. record { tables = tables; blocks = es };
+    Fine = λ f h key. IsInReach h.cluster_bits key;
+    Fits = IsCachedBlock;
+    first = RbDependsOnL2;
+    Writes = WritesTables;
+    Lets = LetsBlockIn;
+    OtherClean = AreTablesClean;
+    OtherReach = AreTablesInReach;
+  }
+
+  pub block-laws : SideLaws blocks
+  block-laws = record {
+    kept = λ h key a answer b load. load.kept;
+    reads = λ h key a value b load. load.ok.1;
+    clean = λ f h key. refl;
+    fits = λ h key a value b load shaped. loaded-fits h key a value b load;
+    counts = block-loading;
+    still = block-load-counted;
+    keeps = block-kept;
+    counted = block-counted;
+    cleaned = flushed-clean;
+    flushed = λ H order tables front key slot back a b answer value flush. (block-flushed H order tables front key slot back a b answer value flush).1;
+    leaves = λ f H order tables front key slot back clean. (block-leaves f H order tables front key slot back clean, block-leaves-safe f H order tables front key slot back clean);
+    comes = λ f H order tables key slot es clean. (block-comes f H order tables [] key slot [] es clean, λ away fits. block-comes-safe f H order tables [] key slot [] es clean away fits);
+    apart = λ f H order tables es safe. safe.blocks_apart;
+    stays = λ f H order tables es safe x left key value free. block-stays f H order (record { tables = tables; blocks = es }) safe x left key value free;
+    same = λ tables A B clean. clean;
+    near = λ f H order cached safe. (safe-reach f H cached order safe).0;
+    lets = λ tables es es' a b result l. (refl, l);
+    idle = tables-idle;
+  }
+
+  -- the caches so seen
+  abbrev pub rb_side : MetadataCaches S → Beside S Block TableValue (RefBlockCacheBackend S) (L2CacheBackend S)
+  rb_side c = record { own = c.rb; other = c.l2; order = c.order }
+
+  abbrev pub back : Beside S Block TableValue (RefBlockCacheBackend S) (L2CacheBackend S) → MetadataCaches S
+  back c = record { l2 = c.other; rb = c.own; order = c.order }
+
+  module _ (old : MetadataCaches S) (before : ImageFile S) (answer : Result Unit Fault) (mid : MetadataCaches S) (between : ImageFile S) where
+    -- what tables are written for
+    pub tables-first : Going before.header (order_of old) Always (answer ≡ Ok tt) (state before.image) (cached_in old) (state between.image) (cached_in mid) → written (cached_in mid) ≡ written (cached_in old)
+        → OnOk answer (ReadyBlocks (order_of mid) (cached_in mid)) → ((order_of old ≡ RbDependsOnL2 → ⊥) → (answer ≡ Ok tt) × (mid ≡ old) × (between ≡ before))
+        → (mid.rb ≡ old.rb) × (mid.order ≡ old.order) × (between.header ≡ before.header) → HasRoomOf old mid
+        → CountsWrites (AreTablesInReach (cached_in old)) (state before.image).faults (state between.image).faults answer → (WasNotCutOff answer → IsFaultless (state before.image) (state between.image))
+        → (order_of old ≡ RbDependsOnL2 → WritesTables (state before.image) (cached_in old) answer (state between.image) (cached_in mid)) → WrittenFirst blocks (rb_side old) before answer (rb_side mid) between
+    tables-first going kept ready idle others room cause faults did = record {
+      going = going;
+      kept = ap (λ (c : Cached). c.tables) kept;
+      ready = ready;
+      idle = λ no. let i = idle no in (i.0, ap rb_side i.1, i.2);
+      same = ap (λ l. record (rb_side mid) { own = l }) others.0 ∙ ap (λ o. record (rb_side old) { other = mid.l2; order = o }) others.1;
+      header = others.2;
+      room = room.tables;
+      cause = cause;
+      faults = faults;
+      did = did;
+    }
+
+  module _ (cluster : ℕ) (old new : MetadataCaches S) (before after : ImageFile S) where
+    -- The search of a block,
+    pub block-found : (result : Result Unit Fault) → Found blocks cluster (rb_side old) before result (rb_side new) after → BlockFound state cluster old before result new after
+    block-found result f = record {
+      going = f.going;
+      hit = λ there. let h = f.hit there in (h.0, ap back h.1, h.2);
+      there = f.there;
+      sought = f.sought;
+      roomy = f.roomy;
+      tables = f.kept;
+      apart = f.apart;
+      behind = f.behind;
+      still = λ tables own. let s = f.still own tables in (s.0, s.2, s.1);
+      others = f.others;
+      room = record { tables = f.room.1; blocks = f.room.0 };
+      cause = counts-wider _ _ _ _ _ _ result (λ fine. (fine.0, fine.2, fine.1)) refl f.cause;
+    }
+
+    -- and its put.
+    pub block-put : (block : Block) (result : Result Unit (Fault × Block)) → PutSo blocks cluster block (rb_side old) before result (rb_side new) after → BlockInserted state cluster block (cached_file old before) result (cached_file new after)
+    block-put block result p = record {
+      going = p.going;
+      put = p.put;
+      flushed = p.flushed;
+      roomy = p.roomy;
+      tables = p.kept;
+      apart = p.apart;
+      behind = p.behind;
+      others = p.others;
+      room = record { tables = p.room.1; blocks = p.room.0 };
+      cause = counts-wider _ _ _ _ _ _ (refusal_of result) (λ near. (near.1, near.0)) refl p.cause;
+    }

@@ -1,0 +1,199 @@
+-- The cache of L2 tables, beside that of blocks.
+use Rattle.std.proofs.Common.{◌≡◌, ℕ, ◌*◌, ◌^◌, ◌≤◌, refl, arith, ap, sym, subst, ◌∙◌, List, [], inl, inr, length, Some, None, Result, Ok, Err}
+use Rattle.std.proofs.lemmas.Bool.{cases_lt}
+use Rattle.std.proofs.lemmas.Bool.Decides.{nat_tests}
+use Rattle.std.proofs.lemmas.List.FromFn.{length-map-range_with_len}
+use Rattle.std.proofs.lemmas.Nat.{le-div}
+use Rattle.std.proofs.Math.Nat.{pow-le-pow_right}
+use Rattle.std.specs.Prelude.{◌==◌, if◌then◌else◌, MatchResult, OnOk}
+use Rattle.imago_storage.specs.State.{StorageState}
+use Rattle.imago_storage.specs.Calls.{IsFaultless}
+use Rattle.imago_storage.specs.declared.fault.Fault.{Fault}
+use Rattle.imago_storage.specs.declared.fault.Fault.TheVariants.{Limit, DamagedTable, Memory, Storage}
+use Rattle.qcow2_types.specs.Bytes.{bytes_of}
+use Rattle.qcow2_types.specs.Words.{Layout, max_offset}
+use Rattle.qcow2_types.specs.Header.{Fields, Shaped, cluster_size, words_of_cluster, layout_of}
+use Rattle.qcow2_metadata.specs.Tables.{TableValue, Kind, WhyNotLoaded, HasUnsound, l2_words, table_in, words_in}
+use Rattle.qcow2_metadata.specs.Blocks.{Block}
+use Rattle.qcow2_alloc.specs.declared.cache.CacheDependency.TheVariants.{L2DependsOnRb}
+use Rattle.qcow2_alloc.specs.declared.cache.L2CacheBackend.{L2CacheBackend}
+use Rattle.qcow2_alloc.specs.declared.cache.MetadataCaches.{MetadataCaches}
+use Rattle.qcow2_alloc.specs.declared.cache.RefBlockCacheBackend.{RefBlockCacheBackend}
+use Rattle.qcow2_alloc.specs.declared.file.ImageFile.{ImageFile}
+use Rattle.qcow2_alloc.specs.Backends.{TableLoaded, l2_words_in, written_tables}
+use Rattle.qcow2_alloc.specs.Caches.{HasRoomOf, cached_file, cached_in, order_of}
+use Rattle.qcow2_alloc.specs.Finding.{IsTableFine, LetsTableIn, TableFound, WhyNotFound}
+use Rattle.qcow2_alloc.specs.Going.{Going, Always, ReadyTables, IsMild, WasNotCutOff, AreBlocksInReach, CountsWrites, WritesBlocks}
+use Rattle.qcow2_alloc.specs.Memory.{Cached, written, written_table, written_block}
+use Rattle.qcow2_alloc.specs.Putting.{TableInserted}
+use Rattle.qcow2_alloc.specs.Safety.{IsCachedTable, AreBlocksClean}
+use Rattle.qcow2_alloc.proofs.Caching.Entering.{table-leaves, table-leaves-safe, table-comes, table-comes-safe}
+use Rattle.qcow2_alloc.proofs.Caching.Finding.{Found}
+use Rattle.qcow2_alloc.proofs.Caching.LettingIn.{blocks-idle}
+use Rattle.qcow2_alloc.proofs.Caching.Putting.{PutSo}
+use Rattle.qcow2_alloc.proofs.Caching.Sides.{Beside, Side, SideLaws, WrittenFirst}
+use Rattle.qcow2_alloc.proofs.Caching.Staying.{table-stays}
+use Rattle.qcow2_alloc.proofs.Flushing.Counting.{table-counted}
+use Rattle.qcow2_alloc.proofs.Flushing.FlushingTables.{table-flushed, flushed-clean}
+use Rattle.qcow2_alloc.proofs.Flushing.Kept.{table-kept}
+use Rattle.qcow2_alloc.proofs.Memory.SafeLaws.{safe-reach}
+
+-- A load that wasn't cut off leaves the count of faults as it was.
+pub load-counted : (kind : Kind) (layout : Layout) (words : List ℕ) (old new : ℕ) (fault : Fault) → WhyNotLoaded kind layout words old new fault → IsMild fault → new ≡ old
+load-counted kind layout words old new (Limit n) why mild = why.2
+load-counted kind layout words old new DamagedTable why mild = why.1
+load-counted kind layout words old new Memory why mild = absurd mild
+load-counted kind layout words old new Storage why mild = absurd mild
+load-counted kind layout words old new fault why mild = absurd why
+
+table-load-counted : (h : Fields) (key : ℕ) (old : StorageState) (result : Result TableValue Fault) (new : StorageState) → TableLoaded h key old result new → WasNotCutOff result → new.faults ≡ old.faults
+table-load-counted h key old (Ok table) new loaded whole = loaded.faults
+table-load-counted h key old (Err fault) new loaded mild = elim (cases_lt max_offset (key * 2 ^ h.cluster_bits)) [
+  | inl far ↦ ap (λ (s : StorageState). s.faults) (loaded.out (λ reach. omega (arith, far, reach))).1
+  | inr reach ↦ load-counted l2_words (layout_of h) (l2_words_in old h key) old.faults new.faults fault (loaded.err reach) mild
+]
+
+-- what is known of a load's answer
+table-loading : (h : Fields) (key : ℕ) (old : StorageState) (answer : Result TableValue Fault) (new : StorageState) → TableLoaded h key old answer new
+    → (old.faults ≤ new.faults) × MatchResult answer (λ _. new.faults ≡ old.faults) (WhyNotFound (IsTableFine (bytes_of new.bytes) h key) ⊥ old.faults new.faults)
+table-loading h key old (Ok table) new loaded = (loaded.later, loaded.faults)
+table-loading h key old (Err fault) new loaded = (
+  loaded.later,
+  elim (cases_lt max_offset (key * 2 ^ h.cluster_bits)) [
+    | inl far ↦
+        let out = loaded.out (λ reach. omega (arith, far, reach)) in
+        let is : fault ≡ DamagedTable = (let e = out.0 in cc) in
+        subst (λ (q : Fault). WhyNotFound (IsTableFine (bytes_of new.bytes) h key) ⊥ old.faults new.faults q) (sym is) (λ fine. let reach = fine.reach in omega (arith, far, reach))
+    | inr reach ↦ by-fault fault (loaded.err reach)
+  ],
+)
+  where
+    by-fault : (fault : Fault) → WhyNotLoaded l2_words (layout_of h) (words_in (bytes_of old.bytes) (key * cluster_size h) (words_of_cluster h)) old.faults new.faults fault
+        → WhyNotFound (IsTableFine (bytes_of new.bytes) h key) ⊥ old.faults new.faults fault
+    by-fault Memory why = tt
+    by-fault Storage why = why
+    by-fault DamagedTable why = λ fine. fine.sound (subst (λ (l : List ℕ). HasUnsound l2_words (layout_of h) (words_in (bytes_of l) (key * cluster_size h) (words_of_cluster h))) (sym loaded.kept.bytes) why.0)
+    by-fault (Limit n) why =
+        let long : length (words_in (bytes_of old.bytes) (key * cluster_size h) (words_of_cluster h)) ≡ words_of_cluster h = length-map-range_with_len _ 0 (words_of_cluster h) in
+        let small : 2 ^ h.cluster_bits ≤ 2 ^ 21 = pow-le-pow_right (omega arith) loaded.narrow in
+        let is = why.0 in
+        let more = why.1 in
+        omega (arith, long, small, is, more)
+    by-fault other why = absurd why
+
+-- A table of the file fits.
+loaded-fits : (h : Fields) (key : ℕ) (old : StorageState) (value : TableValue) (new : StorageState) → TableLoaded h key old (Ok value) new → Shaped h → IsCachedTable (bytes_of old.bytes) h key value
+loaded-fits h key old value new loaded shaped = record {
+  fits = loaded.ok.2;
+  placed = ap (λ (t : TableValue). t.cluster) loaded.ok.1 ∙ some-words;
+  layout = ap (λ (t : TableValue). t.layout) loaded.ok.1;
+  modified = λ m. absurd (let off = ap (λ (t : TableValue). t.modified) loaded.ok.1 in let both = sym off ∙ m in cc);
+  clean = λ m live. ap (λ (t : TableValue). t.words) loaded.ok.1;
+}
+  where
+    some-words : (if words_of_cluster h == 0 then None else Some key) ≡ Some key
+    some-words =
+        let large : 2 ^ 9 ≤ 2 ^ h.cluster_bits = pow-le-pow_right (omega arith) shaped.low in
+        let some : 1 ≤ words_of_cluster h = le-div 1 (2 ^ h.cluster_bits) 8 (omega arith) (omega (arith, large)) in
+        grind (arith, nat_tests)
+
+module _ {S : Type 0} (state : S → StorageState) where
+  abbrev pub tables : Side S TableValue Block
+  tables = record {
+    state = state;
+    writes = written_tables;
+    Loads = TableLoaded;
+    read = λ f h key. table_in f h key (words_of_cluster h);
+    written = written_table;
+    other_written = written_block;
+    put = λ blocks es. record { tables = es; blocks = blocks };
+    Fine = IsTableFine;
+    Fits = IsCachedTable;
+    first = L2DependsOnRb;
+    Writes = WritesBlocks;
+    Lets = LetsTableIn;
+    OtherClean = AreBlocksClean;
+    OtherReach = AreBlocksInReach;
+  }
+
+  pub table-laws : SideLaws tables
+  table-laws = record {
+    kept = λ h key a answer b load. load.kept;
+    reads = λ h key a value b load. load.ok.1;
+    clean = λ f h key. refl;
+    fits = loaded-fits;
+    counts = table-loading;
+    still = table-load-counted;
+    keeps = table-kept;
+    counted = table-counted;
+    cleaned = flushed-clean;
+    flushed = λ H order blocks front key slot back a b answer value flush. (table-flushed H order front key slot back blocks a b answer value flush).1;
+    leaves = λ f H order blocks front key slot back clean. (table-leaves f H order front key slot back blocks clean, table-leaves-safe f H order front key slot back blocks clean);
+    comes = λ f H order blocks key slot es clean. (table-comes f H order [] key slot [] blocks es clean, λ away fits. table-comes-safe f H order [] key slot [] blocks es clean away fits);
+    apart = λ f H order blocks es safe. safe.tables_apart;
+    stays = λ f H order blocks es safe x left key value free. table-stays f H order (record { tables = es; blocks = blocks }) safe x left key value free;
+    same = λ blocks A B clean. clean;
+    near = λ f H order cached safe. (safe-reach f H cached order safe).1;
+    lets = λ blocks es es' a b result l. (refl, l);
+    idle = blocks-idle;
+  }
+
+  -- the caches so seen
+  abbrev pub l2_side : MetadataCaches S → Beside S TableValue Block (L2CacheBackend S) (RefBlockCacheBackend S)
+  l2_side c = record { own = c.l2; other = c.rb; order = c.order }
+
+  abbrev pub back : Beside S TableValue Block (L2CacheBackend S) (RefBlockCacheBackend S) → MetadataCaches S
+  back c = record { l2 = c.own; rb = c.other; order = c.order }
+
+  module _ (old : MetadataCaches S) (before : ImageFile S) (answer : Result Unit Fault) (mid : MetadataCaches S) (between : ImageFile S) where
+    -- what blocks are written for
+    pub blocks-first : Going before.header (order_of old) Always (answer ≡ Ok tt) (state before.image) (cached_in old) (state between.image) (cached_in mid) → written (cached_in mid) ≡ written (cached_in old)
+        → OnOk answer (ReadyTables (order_of mid) (cached_in mid)) → ((order_of old ≡ L2DependsOnRb → ⊥) → (answer ≡ Ok tt) × (mid ≡ old) × (between ≡ before))
+        → (mid.l2 ≡ old.l2) × (mid.order ≡ old.order) × (between.header ≡ before.header) → HasRoomOf old mid
+        → CountsWrites (AreBlocksInReach (cached_in old)) (state before.image).faults (state between.image).faults answer → (WasNotCutOff answer → IsFaultless (state before.image) (state between.image))
+        → (order_of old ≡ L2DependsOnRb → WritesBlocks (state before.image) (cached_in old) answer (state between.image) (cached_in mid)) → WrittenFirst tables (l2_side old) before answer (l2_side mid) between
+    blocks-first going kept ready idle others room cause faults did = record {
+      going = going;
+      kept = ap (λ (c : Cached). c.blocks) kept;
+      ready = ready;
+      idle = λ no. let i = idle no in (i.0, ap l2_side i.1, i.2);
+      same = ap (λ l. record (l2_side mid) { own = l }) others.0 ∙ ap (λ o. record (l2_side old) { other = mid.rb; order = o }) others.1;
+      header = others.2;
+      room = room.blocks;
+      cause = cause;
+      faults = faults;
+      did = did;
+    }
+
+  module _ (cluster : ℕ) (old new : MetadataCaches S) (before after : ImageFile S) where
+    -- The search of a table,
+    pub table-found : (result : Result Unit Fault) → Found tables cluster (l2_side old) before result (l2_side new) after → TableFound state cluster old before result new after
+    table-found result f = record {
+      going = f.going;
+      hit = λ there. let h = f.hit there in (h.0, ap back h.1, h.2);
+      there = f.there;
+      sought = f.sought;
+      roomy = f.roomy;
+      blocks = f.kept;
+      apart = f.apart;
+      behind = f.behind;
+      still = f.still;
+      others = f.others;
+      room = record { tables = f.room.0; blocks = f.room.1 };
+      cause = f.cause;
+    }
+
+    -- and its put.
+    pub table-put : (table : TableValue) (result : Result Unit (Fault × TableValue)) → PutSo tables cluster table (l2_side old) before result (l2_side new) after → TableInserted state cluster table (cached_file old before) result (cached_file new after)
+    table-put table result p = record {
+      going = p.going;
+      put = p.put;
+      flushed = p.flushed;
+      roomy = p.roomy;
+      blocks = p.kept;
+      apart = p.apart;
+      behind = p.behind;
+      others = p.others;
+      room = record { tables = p.room.0; blocks = p.room.1 };
+      cause = p.cause;
+    }
