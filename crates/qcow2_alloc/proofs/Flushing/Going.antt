@@ -183,6 +183,13 @@ pub going-ready : (H : Header) (order : CacheDependency) (Ready : Cached → Typ
 going-ready H order Ready ok ok' a b c A B C done ready first second =
     going-weaker H order Always (ok × ok') ok' a c A C (λ d. (done, d)) (going-both H order Always ok ok' a b c A B C first (going-now H order Ready ok' b c B C ready second))
 
+-- So it goes on where the header and the order are what they were.
+pub going-next : (Ready : CacheDependency → Cached → Type 0) (H H' : Header) (order order' : CacheDependency) (ok ok' : Type 0) (a b c : StorageState) (A B C : Cached) → H' ≡ H → order' ≡ order → ok → Ready order' B
+    → Going H order Always ok a A b B → Going H' order' (Ready order') ok' b B c C → Going H order Always ok' a A c C
+going-next Ready H H' order order' ok ok' a b c A B C header same done ready first second =
+    going-ready H order (Ready order) ok ok' a b c A B C done (subst (λ (o : CacheDependency). Ready o B) same ready) first
+    (subst (λ (h : Header). Going h order (Ready order) ok' b B c C) header (subst (λ (o : CacheDependency). Going H' o (Ready o) ok' b B c C) same second))
+
 pub kept-same : (s : StorageState) → Kept s s
 kept-same s = record { shape = refl; bytes = refl; refusals = refl; stop = refl; past = refl }
 

@@ -1,36 +1,19 @@
-use Rattle.std.proofs.Common.{◌≡◌, refl, sym, ◌∙◌, subst, Ok}
-use Rattle.qcow2_types.specs.Header.{Header}
-use Rattle.qcow2_alloc.specs.declared.cache.CacheDependency.{CacheDependency}
-use Rattle.qcow2_alloc.specs.Caches.{cached_in, order_of}
-use Rattle.qcow2_alloc.specs.Going.{Going, ReadyTables, ReadyBlocks, WritesTables, WritesBlocks}
+use Rattle.std.proofs.Common.{◌≡◌, refl, sym, ◌∙◌, Ok}
+use Rattle.qcow2_alloc.specs.Going.{ReadyTables, ReadyBlocks, WritesTables, WritesBlocks}
 use Rattle.qcow2_alloc.proofs.Flushing.Faultless.{faultless-then}
-use Rattle.qcow2_alloc.proofs.Flushing.Going.{going-ready, in-turn-both, in-turn-halted}
+use Rattle.qcow2_alloc.proofs.Flushing.Going.{going-next, in-turn-both, in-turn-halted}
 use Rattle.qcow2_alloc.proofs.Faults.{handed-on}
 use Rattle.qcow2_alloc.proofs.cache.MetadataCaches.flush_all.Goals as goal
 
 pub returns-then-eq-clause-going : goal.returns-then-eq-clause-going
 returns-then-eq-clause-going g c =
-    let H = c.args.file.now.header in
-    let order = order_of c.args.self.now in
-    let state = g.S.Storage.state in
-    let mid = c.flush_rb.new.self in
-    let same : order_of mid ≡ order = c.in_ok-flush_rb.ensures.others.0 in
-    let header : c.flush_rb.new.file.header ≡ H = c.in_ok-flush_rb.ensures.others.1 in
-    going-ready H order (ReadyTables order) (Ok tt ≡ Ok tt) (c.flush_l2.result ≡ Ok tt) _ _ _ _ _ _ refl (λ first. c.in_ok-flush_rb.ensures.clean) c.in_ok-flush_rb.ensures.going
-    (subst (λ (h : Header). Going h order (ReadyTables order) (c.flush_l2.result ≡ Ok tt) (state c.flush_rb.new.file.image) (cached_in mid) (state c.flush_l2.new.file.image) (cached_in c.flush_l2.new.self)) header
-    (subst (λ (o : CacheDependency). Going c.flush_rb.new.file.header o (ReadyTables o) (c.flush_l2.result ≡ Ok tt) (state c.flush_rb.new.file.image) (cached_in mid) (state c.flush_l2.new.file.image) (cached_in c.flush_l2.new.self)) same c.flush_l2.ensures.going))
+    going-next ReadyTables c.args.file.now.header _ _ _ (Ok tt ≡ Ok tt) (c.flush_l2.result ≡ Ok tt) _ _ _ _ _ _ c.in_ok-flush_rb.ensures.others.1 c.in_ok-flush_rb.ensures.others.0 refl (λ first. c.in_ok-flush_rb.ensures.clean)
+    c.in_ok-flush_rb.ensures.going c.flush_l2.ensures.going
 
 pub returns-clause-going : goal.returns-clause-going
 returns-clause-going g c =
-    let H = c.args.file.now.header in
-    let order = order_of c.args.self.now in
-    let state = g.S.Storage.state in
-    let mid = c.flush_tables.new.self in
-    let same : order_of mid ≡ order = c.in_ok-flush_tables.ensures.others.0 in
-    let header : c.flush_tables.new.file.header ≡ H = c.in_ok-flush_tables.ensures.others.1 in
-    going-ready H order (ReadyBlocks order) (Ok tt ≡ Ok tt) (c.flush_blocks.result ≡ Ok tt) _ _ _ _ _ _ refl (λ first. c.in_ok-flush_tables.ensures.clean) c.in_ok-flush_tables.ensures.going
-    (subst (λ (h : Header). Going h order (ReadyBlocks order) (c.flush_blocks.result ≡ Ok tt) (state c.flush_tables.new.file.image) (cached_in mid) (state c.flush_blocks.new.file.image) (cached_in c.flush_blocks.new.self)) header
-    (subst (λ (o : CacheDependency). Going c.flush_tables.new.file.header o (ReadyBlocks o) (c.flush_blocks.result ≡ Ok tt) (state c.flush_tables.new.file.image) (cached_in mid) (state c.flush_blocks.new.file.image) (cached_in c.flush_blocks.new.self)) same c.flush_blocks.ensures.going))
+    going-next ReadyBlocks c.args.file.now.header _ _ _ (Ok tt ≡ Ok tt) (c.flush_blocks.result ≡ Ok tt) _ _ _ _ _ _ c.in_ok-flush_tables.ensures.others.1 c.in_ok-flush_tables.ensures.others.0 refl (λ first. c.in_ok-flush_tables.ensures.clean)
+    c.in_ok-flush_tables.ensures.going c.flush_blocks.ensures.going
 
 pub returns-then-eq-clause-blocks_first : goal.returns-then-eq-clause-blocks_first
 returns-then-eq-clause-blocks_first g c = λ order. in-turn-both WritesBlocks WritesTables _ _ _ _ _ _ _ (c.in_ok-flush_rb.ensures.alone (λ other. let both = sym order ∙ other in cc)) c.flush_l2.ensures.written
