@@ -6,9 +6,9 @@ pub mod Empty
 pub mod Entering
 pub mod Pins
 pub mod Places
-pub mod Kinds
-pub mod Readying
+pub mod Rooms
 pub mod Sides
+pub mod Readying
 pub mod Searching
 pub mod LettingIn
 pub mod Staying

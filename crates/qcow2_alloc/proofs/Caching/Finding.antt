@@ -21,7 +21,7 @@ use Rattle.qcow2_alloc.proofs.Caching.LettingIn.{never-now, lets-in, readied-sti
 use Rattle.qcow2_alloc.proofs.Caching.Pins.{pins-none}
 use Rattle.qcow2_alloc.proofs.Caching.Readying.{readied, readied-quietly, never-full}
 use Rattle.qcow2_alloc.proofs.Caching.Searching.{done_of, sought, readied-related, readied-counted, full-stays, roomy-kept, counts-wider, found-written, never-refused, whole-done, found-there}
-use Rattle.qcow2_alloc.proofs.Caching.Sides.{Beside, Side, SideLaws, WrittenFirst, cached_of, loads_of, flushes_of, Reach, AreInReach, AreClean, loaded, flushed_behind, first-idle, first-some}
+use Rattle.qcow2_alloc.proofs.Caching.Sides.{Beside, Side, SideLaws, WrittenFirst, cached_of, loads_of, flushes_of, Reach, AreInReach, AreClean, Ready as Before, first-idle, first-some}
 
 -- What the search does.
 pub record Found {S V W A B : Type 0} (side : Side S V W) (cluster : ℕ) (old : Beside S V W A B) (before : ImageFile S) (result : Result Unit Fault) (new : Beside S V W A B) (after : ImageFile S) : Type 0 where
@@ -92,7 +92,7 @@ module _ {S V W : Type 0} (side : Side S V W) (laws : SideLaws side) (cluster : 
         let header = header-stays false cap before es result after es' r in
         record {
           going = going-weaker before.header old.order Always (WasNotCutOff result) (WasNotCutOff (done_of result)) _ _ _ _ (whole-done result)
-              (readied-quietly (loaded side laws before.header old.order old.other.slots.entries Always (λ A B r. r)) (flushes_of side) cap cluster before es result after es' refl r);
+              (readied-quietly side laws before.header old.order old.other.slots.entries Always (λ A B r. r) cap cluster before es result after es' refl r);
           hit = λ there. let f = r.found there in (ap done_of f.0, ap (λ (l : List (ℕ × Slot V)). record old { own = with_entries old.own l }) f.2, f.1);
           there = found-there result _ not r.there;
           sought = side-sought false cap before es result after es' r before.header header not;
@@ -149,9 +149,9 @@ module _ {S V W : Type 0} (side : Side S V W) (laws : SideLaws side) (cluster : 
           let header = header-stays true cap between es result after es' r ∙ w.header in
           record {
             going = going-weaker before.header old.order Always (WasNotCutOff result) (WasNotCutOff (done_of result)) _ _ _ _ (whole-done result)
-                (going-ready before.header old.order (flushed_behind side laws before.header old.order other.slots.entries).loading.Ready (Ok tt ≡ Ok tt) (WasNotCutOff result) (side.state before.image) (side.state between.image) (side.state after.image)
+                (going-ready before.header old.order (Before side old.order) (Ok tt ≡ Ok tt) (WasNotCutOff result) (side.state before.image) (side.state between.image) (side.state after.image)
                 (cached_of side old) (cached_of side mid) _ refl w.ready w.going
-                (readied (flushed_behind side laws before.header old.order other.slots.entries) cap true cluster between es result after es' w.header r));
+                (readied side laws before.header old.order other.slots.entries cap true cluster between es result after es' w.header r));
             hit = not-there;
             there = found-there result _ not r.there;
             sought = side-sought true cap between es result after es' r before.header header not;

@@ -20,6 +20,7 @@ use Rattle.qcow2_alloc.proofs.Flushing.Going.{kept-same}
 use Rattle.qcow2_alloc.proofs.Caching.Pins.{pins-hit, pins-new, pins-set, pins-then}
 use Rattle.qcow2_alloc.proofs.Caching.Places.{Place, place-of-key, place-hit}
 use Rattle.qcow2_alloc.proofs.Caching.Readying.{is-there}
+use Rattle.qcow2_alloc.proofs.Caching.Rooms.{room-related, never-denied}
 use Rattle.qcow2_alloc.proofs.Caching.Searching.{all-at, found-written, mapped-same, pins-room, room-counted, room-list, room-refused, done_of}
 
 -- the answer of a put that had leave to flush
@@ -149,20 +150,10 @@ module _ {V D : Type 0} (state : D → StorageState) (loads : D → ℕ → Resu
 
 -- With leave to flush it is never given back without a fault.
 module _ {V D : Type 0} (loads : D → ℕ → Result V Fault → D → Type 0) (flushes : D → ℕ → V → Result Unit Fault → D → V → Type 0) (cap key : ℕ) (value : V) (before : D) (es : List (ℕ × Slot V)) (after : D) (es' : List (ℕ × Slot V)) where
-  room-not-denied : (entries : List (ℕ × Slot V)) → MadeRoom (cache_kind nat_eq loads flushes cap) true before es (Ok Denied) after entries → ⊥
-  room-not-denied entries made = elim (cases_lt (length es) cap) [
-    | inl roomy ↦ let is = (made.roomy roomy).0 in cc
-    | inr full ↦ by-victim (victim es) refl full
-  ]
-    where
-      by-victim : (v : Option ℕ) → victim es ≡ v → cap ≤ length es → ⊥
-      by-victim None is full = let no = (made.pinned full refl is).0 in cc
-      by-victim (Some k) is full = let no = (made.evicted full refl k is).0 in cc
-
   put-not-barred : (room : Result Admission Fault) (entries : List (ℕ × Slot V)) → MadeRoom (cache_kind nat_eq loads flushes cap) true before es room after entries → (result : Result (Option V) (Fault × V)) → PutAfter (key, value) entries room result es' → IsBarred result → ⊥
   put-not-barred (Ok Granted) entries made result (inl now) barred = subst (λ (q : Result (Option V) (Fault × V)). IsBarred q) now.0 barred
   put-not-barred (Ok Granted) entries made result (inr short) barred = subst (λ (q : Result (Option V) (Fault × V)). IsBarred q) short.0 barred
-  put-not-barred (Ok Denied) entries made result put barred = room-not-denied entries made
+  put-not-barred (Ok Denied) entries made result put barred = never-denied (cache_kind nat_eq loads flushes cap) before es after entries made
   put-not-barred (Err fault) entries made result put barred = subst (λ (q : Result (Option V) (Fault × V)). IsBarred q) put.0 barred
 
   over-not-barred : (result : Result (Option V) (Fault × V)) → Overwritten nat_eq flushes (key, value) before es result after es' → IsBarred result → ⊥
@@ -183,30 +174,13 @@ module _ {V D : Type 0} (loads : D → ℕ → Result V Fault → D → Type 0) 
   unmoved : after ≡ before → R before after
   unmoved is = subst (λ (d : D). R before d) (sym is) (R-refl before)
 
-  evicted-related : (k : ℕ) (room : Result Admission Fault) (entries : List (ℕ × Slot V)) → Evicted nat_eq flushes k before es room after entries → R before after
-  evicted-related k (Ok made) entries (is, between, at, removed) = flushing before after k at.slot.value at.value (Ok tt) at.flush
-  evicted-related k (Err fault) entries at = flushing before after k at.slot.value at.value (Err fault) at.flush
-
-  room-moved : (room : Result Admission Fault) (entries : List (ℕ × Slot V)) → MadeRoom (cache_kind nat_eq loads flushes cap) may_flush before es room after entries → R before after
-  room-moved room entries made = elim (cases_lt (length es) cap) [
-    | inl roomy ↦ unmoved (made.roomy roomy).1
-    | inr full ↦ elim (cases_Bool may_flush) [
-      | inr not ↦ unmoved (made.full full not).1
-      | inl may ↦ by-victim (victim es) refl full may
-    ]
-  ]
-    where
-      by-victim : (v : Option ℕ) → victim es ≡ v → cap ≤ length es → may_flush ≡ true → R before after
-      by-victim None is full may = unmoved (made.pinned full may is).1
-      by-victim (Some k) is full may = evicted-related k room entries (made.evicted full may k is)
-
   over-moved : (result : Result (Option V) (Fault × V)) → Overwritten nat_eq flushes (key, value) before es result after es' → R before after
   over-moved (Ok back) (none, mid, at, list) = flushing before after key at.slot.value at.value (Ok tt) at.flush
   over-moved (Err refused) (back, at) = flushing before after key at.slot.value at.value (Err refused.0) at.flush
 
   pub inserted-related : (result : Result (Option V) (Fault × V)) → Inserted (cache_kind nat_eq loads flushes cap) may_flush (key, value) before es result after es' → R before after
   inserted-related result i = elim (is-there (lookup (nat_eq key) es)) [
-    | inr none ↦ let a = i.fresh none in room-moved a.room a.entries a.made
+    | inr none ↦ let a = i.fresh none in room-related (cache_kind nat_eq loads flushes cap) R R-refl flushing may_flush before es a.room after a.entries a.made
     | inl there ↦ elim (cases_Bool may_flush) [
       | inl may ↦ over-moved result (i.over there may)
       | inr off ↦ unmoved (i.barred there off).1

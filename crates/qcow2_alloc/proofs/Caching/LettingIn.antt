@@ -1,9 +1,8 @@
 -- What a search asks of the file: in a full cache, and where nothing is modified.
-use Rattle.std.proofs.Common.{◌≡◌, ℕ, ◌≤◌, refl, ap, sym, subst, ◌∙◌, List, [], ◌∷◌, length, Option, None, Some, Result, Ok, Err, Bool, true, false, inl, inr}
+use Rattle.std.proofs.Common.{◌≡◌, ℕ, ◌≤◌, refl, ap, sym, subst, ◌∙◌, List, [], ◌∷◌, length, Option, None, Result, Ok, Err, Bool, true, false, inl, inr}
 use Rattle.std.specs.Prelude.{◌⊎◌, nat_eq, MatchResult}
 use Rattle.std.specs.List.{AllByRecursion}
 use Rattle.std.specs.Map.{lookup}
-use Rattle.std.proofs.lemmas.Bool.{cases_Bool, cases_lt}
 use Rattle.imago_storage.specs.State.{StorageState}
 use Rattle.imago_storage.specs.Calls.{Kept}
 use Rattle.imago_storage.specs.declared.fault.Fault.{Fault}
@@ -14,13 +13,14 @@ use Rattle.qcow2_alloc.specs.declared.async_lru_cache.Slot.{Slot}
 use Rattle.qcow2_alloc.specs.declared.cache.CacheDependency.{CacheDependency}
 use Rattle.qcow2_alloc.specs.declared.cache.CacheDependency.TheVariants.{Unset, L2DependsOnRb, RbDependsOnL2}
 use Rattle.qcow2_alloc.specs.Backends.{TableFlushed, BlockFlushed}
-use Rattle.qcow2_alloc.specs.Cache.{cache_kind, FlushedAt, Evicted, MadeRoom, Loaded, LoadedAfter, Readied, FlushedEach, fault_of, latest, with_value, victim}
+use Rattle.qcow2_alloc.specs.Cache.{cache_kind, FlushedAt, Evicted, MadeRoom, Loaded, LoadedAfter, Readied, FlushedEach, fault_of, latest, with_value}
 use Rattle.qcow2_alloc.specs.Finding.{LetsIn}
 use Rattle.qcow2_alloc.specs.Going.{WritesTables, WritesBlocks, Behind}
 use Rattle.qcow2_alloc.specs.Memory.{Cached}
 use Rattle.qcow2_alloc.specs.Safety.{AreTablesClean, AreBlocksClean}
 use Rattle.qcow2_alloc.proofs.Flushing.Going.{kept-same}
 use Rattle.qcow2_alloc.proofs.Caching.Readying.{is-there}
+use Rattle.qcow2_alloc.proofs.Caching.Rooms.{room-way}
 use Rattle.qcow2_alloc.proofs.Caching.Searching.{done_of, all-at, all-removed}
 
 -- Flushes of what isn't modified ask nothing of the file.
@@ -122,20 +122,10 @@ module _ {V D : Type 0} (state : D → StorageState) (loads : D → ℕ → Resu
 
     room-still : (cap : ℕ) (may_flush : Bool) (before : D) (es : List (ℕ × Slot V)) (room : Result Admission Fault) (mid : D) (entries : List (ℕ × Slot V)) → MadeRoom (cache_kind nat_eq loads flushes cap) may_flush before es room mid entries → AreClean es
         → (state mid ≡ state before) × AreClean entries
-    room-still cap may_flush before es room mid entries made all = elim (cases_lt (length es) cap) [
-      | inl roomy ↦ same (made.roomy roomy).1 (made.roomy roomy).2
-      | inr full ↦ elim (cases_Bool may_flush) [
-        | inr not ↦ same (made.full full not).1 (made.full full not).2
-        | inl may ↦ by-victim (victim es) refl full may
-      ]
+    room-still cap may_flush before es room mid entries made all = elim (room-way (cache_kind nat_eq loads flushes cap) may_flush before es room mid entries made) [
+      | inl same ↦ (ap state same.device, subst AreClean (sym same.entries) all)
+      | inr gone ↦ evicted-still gone.key before es room mid entries gone.evicted all
     ]
-      where
-        same : mid ≡ before → entries ≡ es → (state mid ≡ state before) × AreClean entries
-        same is list = (ap state is, subst AreClean (sym list) all)
-
-        by-victim : (v : Option ℕ) → victim es ≡ v → cap ≤ length es → may_flush ≡ true → (state mid ≡ state before) × AreClean entries
-        by-victim None is full may = same (made.pinned full may is).1 (made.pinned full may is).2
-        by-victim (Some k) is full may = evicted-still k before es room mid entries (made.evicted full may k is) all
 
     pub readied-still : (cap : ℕ) (may_flush : Bool) (key : ℕ) (before : D) (es : List (ℕ × Slot V)) (result : Result Admission Fault) (after : D) (es' : List (ℕ × Slot V)) → Readied (cache_kind nat_eq loads flushes cap) may_flush key before es result after es'
         → AreClean es → Kept (state before) (state after) × AreClean es'

@@ -22,7 +22,7 @@ use Rattle.qcow2_alloc.proofs.Caching.PuttingEntries.{put-going, put-quietly}
 use Rattle.qcow2_alloc.proofs.Caching.LettingIn.{behind-done, behind-refused}
 use Rattle.qcow2_alloc.proofs.Caching.Pins.{pins-none}
 use Rattle.qcow2_alloc.proofs.Caching.Searching.{counts-wider, found-written, never-refused}
-use Rattle.qcow2_alloc.proofs.Caching.Sides.{Beside, Side, SideLaws, WrittenFirst, cached_of, loads_of, flushes_of, Reach, AreInReach, FitsIn, new_entry, first-some}
+use Rattle.qcow2_alloc.proofs.Caching.Sides.{Beside, Side, SideLaws, WrittenFirst, cached_of, loads_of, flushes_of, Reach, AreInReach, FitsIn, first-some}
 
 -- a value that is new there
 abbrev pub IsNewIn : {S V W A B : Type 0} → Side S V W → ℕ → V → Beside S V W A B → ImageFile S → Type 0
@@ -75,7 +75,7 @@ module _ {S V W A B : Type 0} (side : Side S V W) (laws : SideLaws side) (cluste
         let kept : Kept (side.state before.image) (side.state after.image) = subst (λ (d : ImageFile S). Kept (side.state before.image) (side.state d.image)) (sym q.file) (kept-same (side.state before.image)) in
         record {
           going = subst (λ (d : ImageFile S). Going before.header old.order (λ _. IsNewIn side cluster value old before) ok (side.state before.image) (cached_of side old) (side.state d.image) (side.put old.other.slots.entries es')) (sym q.file)
-              (put-quietly (new_entry side laws before.header old.order old.other.slots.entries cluster value) (side.state before.image) (cached_of side old) _ fresh-stays
+              (put-quietly side laws before.header old.order old.other.slots.entries cluster value (side.state before.image) (cached_of side old) _ fresh-stays
               ok (side.state before.image) es es' _ (going-none before.header old.order Always ok (side.state before.image) (cached_of side old)) q.absent q.way);
           put = inserted-put (loads_of side) (flushes_of side) side.written kept-by cap false cluster value before es after es' result not i;
           flushed = λ k slot way there. absurd (way-barred (loads_of side) (flushes_of side) cap cluster value before es after es' result not i k slot way there);
@@ -124,7 +124,7 @@ module _ {S V W A B : Type 0} (side : Side S V W) (laws : SideLaws side) (cluste
         let mid = record old { other = other } in
         let alone : (old.order ≡ side.first → ⊥) → side.state between.image ≡ side.state before.image = (λ no. ap (λ (d : ImageFile S). side.state d.image) (w.idle no).2) in
         record {
-          going = put-going (new_entry side laws before.header old.order other.slots.entries cluster value) (side.state before.image) (cached_of side old) (IsNewIn side cluster value old before) fresh-stays
+          going = put-going side laws before.header old.order other.slots.entries cluster value (side.state before.image) (cached_of side old) (IsNewIn side cluster value old before) fresh-stays
               cap between es after es' (Ok tt ≡ Ok tt) refl w.going w.ready result i;
           put = inserted-put (loads_of side) (flushes_of side) side.written kept-by cap true cluster value between es after es' result not i;
           flushed = λ k slot way there. put-then result (λ x. record { mid = side.state between.image; between = cached_of side mid; alone = alone; first = w.did; flush = (x.0, x.1.1) })

@@ -1,6 +1,6 @@
 -- What the search of an entry leaves of a cache, and why it is refused.
-use Rattle.std.proofs.Common.{◌≡◌, ℕ, ◌<◌, ◌≤◌, refl, arith, ap, sym, subst, ◌∙◌, List, [], ◌∷◌, ◌++◌, length, Option, Some, None, Result, Ok, Err, Bool, true, false, inl, inr, zero, suc}
-use Rattle.std.specs.Prelude.{◌⊎◌, ◌==◌, map, nat_eq, MatchResult, OnOk, OnErr}
+use Rattle.std.proofs.Common.{◌≡◌, ℕ, ◌<◌, ◌≤◌, refl, arith, ap, sym, subst, ◌∙◌, List, [], ◌∷◌, ◌++◌, length, Option, Some, None, Result, Ok, Err, Bool, true, false, inl, inr}
+use Rattle.std.specs.Prelude.{◌⊎◌, map, nat_eq, MatchResult, OnOk, OnErr}
 use Rattle.std.specs.Option.{option_map_or}
 use Rattle.std.specs.List.{AllByRecursion}
 use Rattle.std.specs.Map.{lookup, remove_entry, set_value}
@@ -13,13 +13,14 @@ use Rattle.imago_storage.proofs.Composing.{rose_before, rose_behind}
 use Rattle.qcow2_alloc.specs.declared.async_lru_cache.Admission.{Admission}
 use Rattle.qcow2_alloc.specs.declared.async_lru_cache.Admission.TheVariants.{Granted, Denied}
 use Rattle.qcow2_alloc.specs.declared.async_lru_cache.Slot.{Slot}
-use Rattle.qcow2_alloc.specs.Cache.{cache_kind, Evicted, MadeRoom, Loaded, LoadedAfter, Readied, victim, victim_from}
+use Rattle.qcow2_alloc.specs.Cache.{cache_kind, Evicted, MadeRoom, Loaded, LoadedAfter, Readied, victim}
 use Rattle.qcow2_alloc.specs.Finding.{with_room, IsPinnedFull, PinsNothing, Sought, WhyNotFound, CountsSearch}
 use Rattle.qcow2_alloc.specs.Going.{IsMild, WhyNotWritten, WasNotCutOff}
 use Rattle.qcow2_alloc.proofs.Flushing.Counting.{Counted}
 use Rattle.qcow2_alloc.proofs.Caching.Pins.{pins-none, pins-then, pins-removed, pins-set, pins-new}
 use Rattle.qcow2_alloc.proofs.Caching.Places.{place-of-key}
 use Rattle.qcow2_alloc.proofs.Caching.Readying.{is-there}
+use Rattle.qcow2_alloc.proofs.Caching.Rooms.{room-way, room-related}
 
 -- the answer of a search that had leave to flush
 abbrev pub done_of : Result Admission Fault → Result Unit Fault
@@ -72,18 +73,6 @@ module _ {X : Type 0} (P : ℕ × X → Type 0) where
 pub mapped-same : {X Y : Type 0} (f : X → Y) (front : List X) (a b : X) (back : List X) → f a ≡ f b → map f (front ++ a ∷ back) ≡ map f (front ++ b ∷ back)
 mapped-same f [] a b back same = ap (λ y. y ∷ map f back) same
 mapped-same f (x ∷ front) a b back same = ap (λ l. f x ∷ l) (mapped-same f front a b back same)
-
--- Where there is no victim each entry is pinned.
-victim-none : {V : Type 0} (es : List (ℕ × Slot V)) (found : Option ℕ) → victim_from found es ≡ None → (found ≡ None) × AllByRecursion (λ (e : ℕ × Slot V). 0 < e.1.pins) es
-victim-none [] found none = (none, tt)
-victim-none (e ∷ es) found none = elim (cases_Bool (e.1.pins == 0)) [
-  | inl t ↦ absurd (let k = (victim-none es (Some e.0) (rw t at none)).0 in cc)
-  | inr t ↦ let rest = victim-none es found (rw t at none) in (rest.0, (pins-some e.1.pins t, rest.1))
-]
-  where
-    pins-some : (n : ℕ) → (n == 0) ≡ false → 0 < n
-    pins-some zero t = absurd (cc)
-    pins-some (suc n) t = omega arith
 
 -- A cause stays one over more calls.
 pub found-wider : (fine fine' full full' : Type 0) (a b c d : ℕ) → (fine' → fine) → (full → full') → a ≤ b → c ≤ d → (fault : Fault) → WhyNotFound fine full b c fault → WhyNotFound fine' full' a d fault
@@ -154,23 +143,17 @@ module _ {V D : Type 0} (loads : D → ℕ → Result V Fault → D → Type 0) 
       (kept : (key : ℕ) (slot : Slot V) (old new : D) (result : Result Unit Fault) (value : V) → flushes old key slot.value result new value → written (key, record slot { value = value }) ≡ written (key, slot))
       (cap : ℕ) (may_flush : Bool) (before : D) (es : List (ℕ × Slot V)) (fault : Fault) (after : D) (es' : List (ℕ × Slot V)) → MadeRoom (cache_kind nat_eq loads flushes cap) may_flush before es (Err fault) after es'
       → (map written es' ≡ map written es) × PinsNothing es es'
-  room-refused written kept cap may_flush before es fault after es' made = elim (cases_lt (length es) cap) [
-    | inl roomy ↦ absurd (let r = (made.roomy roomy).0 in cc)
-    | inr full ↦ elim (cases_Bool may_flush) [
-      | inr not ↦ absurd (let r = (made.full full not).0 in cc)
-      | inl may ↦ by-victim (victim es) refl full may
-    ]
+  room-refused written kept cap may_flush before es fault after es' made = elim (room-way (cache_kind nat_eq loads flushes cap) may_flush before es (Err fault) after es' made) [
+    | inl same ↦ (ap (λ l. map written l) same.entries, pins-none es es' same.entries)
+    | inr gone ↦
+        let k = gone.key in
+        let at = gone.evicted in
+        let p = place-of-key k es at.slot at.there in
+        let w = record at.slot { value = at.value } in (
+          ap (λ l. map written l) (at.entries ∙ p.set w) ∙ mapped-same written p.front (k, w) (k, at.slot) p.back (kept k at.slot before after (Err fault) at.value at.flush) ∙ ap (λ l. map written l) (sym p.is),
+          subst (λ l. PinsNothing es l) (sym at.entries) (pins-set k es at.slot w at.there refl),
+        )
   ]
-    where
-      by-victim : (v : Option ℕ) → victim es ≡ v → cap ≤ length es → may_flush ≡ true → (map written es' ≡ map written es) × PinsNothing es es'
-      by-victim None is full may = let same = (made.pinned full may is).2 in (ap (λ l. map written l) same, pins-none es es' same)
-      by-victim (Some k) is full may =
-          let at = made.evicted full may k is in
-          let p = place-of-key k es at.slot at.there in
-          let w = record at.slot { value = at.value } in (
-            ap (λ l. map written l) (at.entries ∙ p.set w) ∙ mapped-same written p.front (k, w) (k, at.slot) p.back (kept k at.slot before after (Err fault) at.value at.flush) ∙ ap (λ l. map written l) (sym p.is),
-            subst (λ l. PinsNothing es l) (sym at.entries) (pins-set k es at.slot w at.there refl),
-          )
 
   pub pins-room : (cap : ℕ) (es : List (ℕ × Slot V)) → PinsNothing es (with_room cap es)
   pins-room cap es = elim (cases_lt (length es) cap) [
@@ -235,28 +218,11 @@ module _ {V D : Type 0} (loads : D → ℕ → Result V Fault → D → Type 0) 
       → (cap : ℕ) (may_flush : Bool) (key : ℕ) (before : D) (es : List (ℕ × Slot V)) (result : Result Admission Fault) (after : D) (es' : List (ℕ × Slot V)) → Readied (cache_kind nat_eq loads flushes cap) may_flush key before es result after es' → R before after
   readied-related R R-refl R-trans loading flushing cap may_flush key before es result after es' r = elim (is-there (lookup (nat_eq key) es)) [
     | inl there ↦ same before after (r.found there).1
-    | inr none ↦ let m = r.missed none in R-trans before m.mid after (room-related m.room m.mid m.entries m.made) (by-room m.room m.mid m.entries m.loaded)
+    | inr none ↦ let m = r.missed none in R-trans before m.mid after (room-related (cache_kind nat_eq loads flushes cap) R R-refl flushing may_flush before es m.room m.mid m.entries m.made) (by-room m.room m.mid m.entries m.loaded)
   ]
     where
       same : (a b : D) → b ≡ a → R a b
       same a b is = subst (λ (d : D). R a d) (sym is) (R-refl a)
-
-      by-eviction : (k : ℕ) (room : Result Admission Fault) (mid : D) (entries : List (ℕ × Slot V)) → Evicted nat_eq flushes k before es room mid entries → R before mid
-      by-eviction k (Ok made) mid entries (is, between, at, removed) = flushing before mid k at.slot.value at.value (Ok tt) at.flush
-      by-eviction k (Err fault) mid entries at = flushing before mid k at.slot.value at.value (Err fault) at.flush
-
-      room-related : (room : Result Admission Fault) (mid : D) (entries : List (ℕ × Slot V)) → MadeRoom (cache_kind nat_eq loads flushes cap) may_flush before es room mid entries → R before mid
-      room-related room mid entries made = elim (cases_lt (length es) cap) [
-        | inl roomy ↦ same before mid (made.roomy roomy).1
-        | inr full ↦ elim (cases_Bool may_flush) [
-          | inr not ↦ same before mid (made.full full not).1
-          | inl may ↦ by-victim (victim es) refl full may
-        ]
-      ]
-        where
-          by-victim : (v : Option ℕ) → victim es ≡ v → cap ≤ length es → may_flush ≡ true → R before mid
-          by-victim None is full may = same before mid (made.pinned full may is).1
-          by-victim (Some k) is full may = by-eviction k room mid entries (made.evicted full may k is)
 
       by-answer : (mid : D) (entries : List (ℕ × Slot V)) (result : Result Admission Fault) → Loaded loads key mid entries result after es' → R mid after
       by-answer mid entries (Ok made) (is, value, load, list) = loading mid after key (Ok value) load
@@ -287,43 +253,27 @@ module _ {V D : Type 0} (loads : D → ℕ → Result V Fault → D → Type 0) 
 -- Why it is refused.
 module _ {V D : Type 0} (state : D → StorageState) (loads : D → ℕ → Result V Fault → D → Type 0) (flushes : D → ℕ → V → Result Unit Fault → D → V → Type 0) (Reach : ℕ → V → Type 0)
     (step : (old : D) (key : ℕ) (value : V) (result : Result Unit Fault) (new : D) (value' : V) → flushes old key value result new value' → Counted (Reach key value) (state old) (state new) result) where
+  abbrev RoomCounts : ℕ → D → List (ℕ × Slot V) → D → Result Admission Fault → Type 0
+  RoomCounts cap before es after r = CountsSearch (AllByRecursion (λ (e : ℕ × Slot V). Reach e.0 e.1.value) es) (IsPinnedFull cap es) (state before).faults (state after).faults (done_of r)
+
   pub room-counted : (cap : ℕ) (may_flush : Bool) (before : D) (es : List (ℕ × Slot V)) (result : Result Admission Fault) (after : D) (es' : List (ℕ × Slot V)) → MadeRoom (cache_kind nat_eq loads flushes cap) may_flush before es result after es'
       → ((state before).faults ≤ (state after).faults) × CountsSearch (AllByRecursion (λ (e : ℕ × Slot V). Reach e.0 e.1.value) es) (IsPinnedFull cap es) (state before).faults (state after).faults (done_of result)
-  room-counted cap may_flush before es result after es' made = elim (cases_lt (length es) cap) [
-    | inl roomy ↦ let r = made.roomy roomy in same-counted Granted r.0 r.1
-    | inr full ↦ elim (cases_Bool may_flush) [
-      | inr not ↦ let r = made.full full not in same-counted Denied r.0 r.1
-      | inl may ↦ by-victim (victim es) refl full may
-    ]
+  room-counted cap may_flush before es result after es' made = elim (room-way (cache_kind nat_eq loads flushes cap) may_flush before es result after es' made) [
+    | inl same ↦ let n = ap (λ (d : D). (state d).faults) same.device in (omega (arith, n), by-answer n same.answer)
+    | inr gone ↦ by-eviction gone.key result gone.evicted
   ]
     where
-      same-counted : (made : Admission) → result ≡ Ok made → after ≡ before
-          → ((state before).faults ≤ (state after).faults) × CountsSearch (AllByRecursion (λ (e : ℕ × Slot V). Reach e.0 e.1.value) es) (IsPinnedFull cap es) (state before).faults (state after).faults (done_of result)
-      same-counted made is same =
-          let n = ap (λ (d : D). (state d).faults) same in (
-            omega (arith, n),
-            subst (λ (q : Result Admission Fault). CountsSearch (AllByRecursion (λ (e : ℕ × Slot V). Reach e.0 e.1.value) es) (IsPinnedFull cap es) (state before).faults (state after).faults (done_of q)) (sym is) n,
-          )
+      by-answer : (state after).faults ≡ (state before).faults → ((made : Admission) × (result ≡ Ok made)) ⊎ ((result ≡ Err CacheFull) × IsPinnedFull cap es) → RoomCounts cap before es after result
+      by-answer n (inl answered) = subst (RoomCounts cap before es after) (sym answered.1) n
+      by-answer n (inr pinned) = subst (RoomCounts cap before es after) (sym pinned.0) pinned.1
 
-      by-eviction : (key : ℕ) (result : Result Admission Fault) → Evicted nat_eq flushes key before es result after es'
-          → ((state before).faults ≤ (state after).faults) × CountsSearch (AllByRecursion (λ (e : ℕ × Slot V). Reach e.0 e.1.value) es) (IsPinnedFull cap es) (state before).faults (state after).faults (done_of result)
+      by-eviction : (key : ℕ) (result : Result Admission Fault) → Evicted nat_eq flushes key before es result after es' → ((state before).faults ≤ (state after).faults) × RoomCounts cap before es after result
       by-eviction key (Ok made) (is, mid, at, removed) = let c = step before key at.slot.value (Ok tt) after at.value at.flush in (c.rising, c.counts)
       by-eviction key (Err fault) at =
           let c = step before key at.slot.value (Err fault) after at.value at.flush in (
             c.rising,
             found-written (Reach key at.slot.value) _ _ _ _ fault (λ all. all-at (λ (e : ℕ × Slot V). Reach e.0 e.1.value) key es at.slot at.there all) c.counts,
           )
-
-      by-victim : (v : Option ℕ) → victim es ≡ v → cap ≤ length es → may_flush ≡ true
-          → ((state before).faults ≤ (state after).faults) × CountsSearch (AllByRecursion (λ (e : ℕ × Slot V). Reach e.0 e.1.value) es) (IsPinnedFull cap es) (state before).faults (state after).faults (done_of result)
-      by-victim None is full may =
-          let r = made.pinned full may is in
-          let n = ap (λ (d : D). (state d).faults) r.1 in (
-            omega (arith, n),
-            subst (λ (q : Result Admission Fault). CountsSearch (AllByRecursion (λ (e : ℕ × Slot V). Reach e.0 e.1.value) es) (IsPinnedFull cap es) (state before).faults (state after).faults (done_of q)) (sym r.0)
-                (record { full = full; pinned = (victim-none es None is).1 }),
-          )
-      by-victim (Some key) is full may = by-eviction key result (made.evicted full may key is)
 
   -- how the load of the key counts
   module _ (fine : D → ℕ → Type 0)

@@ -1,5 +1,5 @@
 -- One of the two caches beside the other: what is proved of the search and the put of an entry is said once, of L2 tables and refcount blocks alike.
-use Rattle.std.proofs.Common.{◌≡◌, ℕ, ◌≤◌, refl, arith, ap, subst, ◌∙◌, List, ◌∷◌, ◌++◌, None, Result, Ok, Err, false, true}
+use Rattle.std.proofs.Common.{◌≡◌, ℕ, ◌≤◌, refl, arith, ap, ◌∙◌, List, ◌∷◌, ◌++◌, None, Result, Ok, Err, false, true}
 use Rattle.std.specs.Prelude.{nat_eq, map, ⊤, MatchResult, OnOk}
 use Rattle.std.specs.List.{AllByRecursion, IsDistinct}
 use Rattle.std.specs.Map.{lookup, keys_of}
@@ -19,7 +19,6 @@ use Rattle.qcow2_alloc.specs.Going.{Going, Always, WasNotCutOff, CountsWrites}
 use Rattle.qcow2_alloc.specs.Memory.{Cached, memory}
 use Rattle.qcow2_alloc.specs.Safety.{Safe, IsLeft}
 use Rattle.qcow2_alloc.proofs.Caching.Entering.{away-of}
-use Rattle.qcow2_alloc.proofs.Caching.Kinds.{LoadedKind, EntryKind, NewEntry}
 use Rattle.qcow2_alloc.proofs.Caching.Places.{away-of-all}
 use Rattle.qcow2_alloc.proofs.Flushing.Counting.{Counted}
 use Rattle.qcow2_alloc.proofs.Flushing.Going.{kept-same, going-quiet}
@@ -139,38 +138,10 @@ module _ {S V W : Type 0} (side : Side S V W) where
       asked-quietly key answer es a b load =
           going-quiet H order Ready (WasNotCutOff answer) a b (put es) (put es) (laws.kept H.fields key a answer b load) (laws.counts H.fields key a answer b load).0 (laws.still H.fields key a answer b load) (λ r. r) (λ r safe. safe) (λ r. refl)
 
-      -- So are they loaded,
-      abbrev pub loaded : LoadedKind V (ImageFile S)
-      loaded = record {
-        state = λ d. side.state d.image;
-        header = H;
-        order = order;
-        Ready = Ready;
-        put = put;
-        Fits = λ d. d.header ≡ H;
-        loads = loads_of;
-        comes = λ key value es old new same load none. comes-quietly key value es (side.state old.image) (side.state new.image)
-            (subst (λ (h : Header). side.Loads h.fields key (side.state old.image) (Ok value) (side.state new.image)) same load.1) none;
-        asked = λ key answer es old new same load. asked-quietly key answer es (side.state old.image) (side.state new.image)
-            (subst (λ (h : Header). side.Loads h.fields key (side.state old.image) answer (side.state new.image)) same load.1);
-      }
-
     pub ready-same : (A B : List (ℕ × Slot V)) → Ready order (put A) → Ready order (put B)
     ready-same A B r is = laws.same rest A B (r is)
 
-    -- and flushed, where what has to be written before is;
-    abbrev pub flushed_behind : EntryKind V (ImageFile S)
-    flushed_behind = record {
-      loading = loaded (Ready order) ready-same;
-      flushes = flushes_of;
-      clean = λ v. side.writes.modified v ≡ false;
-      cleaned = λ old new key v v' flush. laws.cleaned key v (side.state old.image) (side.state new.image) v' flush.1;
-      flushed = λ front key slot back old new answer value flush. laws.flushed H order rest front key slot back (side.state old.image) (side.state new.image) answer value flush.1;
-      leaves = λ front key slot back s clean. leaves-quietly (Ready order) ready-same front key slot back s clean;
-      fits = λ old new key v v' answer flush same. flush.0 ∙ same;
-    }
-
-    -- and so a new one comes, or goes over another.
+    -- A new one comes, or goes over another.
     module _ (key : ℕ) (value : V) where
       pub new-comes : (s : StorageState) (es : List (ℕ × Slot V)) → lookup (nat_eq key) es ≡ None → Going H order (λ _. FitsIn H key value s) ⊤ s (put es) s (put ((key, record { value = value; pins = 0 }) ∷ es))
       new-comes s es none =
@@ -187,9 +158,6 @@ module _ {S V W : Type 0} (side : Side S V W) where
           (λ fits safe. (laws.comes f H order rest key (record slot { value = value }) (front ++ back) fits.0).1
           (away-of front key slot back (laws.apart f H order rest (front ++ (key, slot) ∷ back) safe)) fits.1 (left.1 safe))
           (λ fits. (laws.comes f H order rest key (record slot { value = value }) (front ++ back) fits.0).0 ∙ left.0)
-
-      abbrev pub new_entry : NewEntry V (ImageFile S)
-      new_entry = record { kind = flushed_behind; key = key; value = value; Fits = FitsIn H key value; comes = new-comes; replaces = new-replaces }
 
 -- what is cached
 abbrev pub cached_of : {S V W A B : Type 0} → Side S V W → Beside S V W A B → Cached
