@@ -14,6 +14,7 @@ pub mod LettingIn
 pub mod Staying
 pub mod Inserting
 pub mod PuttingEntries
+pub mod FlushingAll
 pub mod Finding
 pub mod Putting
 pub mod TableSide

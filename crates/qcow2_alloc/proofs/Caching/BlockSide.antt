@@ -109,7 +109,7 @@ module _ {S : Type 0} (state : S → StorageState) where
     keeps = block-kept;
     counted = block-counted;
     cleaned = flushed-clean;
-    flushed = λ H order tables front key slot back a b answer value flush. (block-flushed H order tables front key slot back a b answer value flush).1;
+    flushed = block-flushed;
     leaves = λ f H order tables front key slot back clean. (block-leaves f H order tables front key slot back clean, block-leaves-safe f H order tables front key slot back clean);
     comes = λ f H order tables key slot es clean. (block-comes f H order tables [] key slot [] es clean, λ away fits. block-comes-safe f H order tables [] key slot [] es clean away fits);
     apart = λ f H order tables es safe. safe.blocks_apart;

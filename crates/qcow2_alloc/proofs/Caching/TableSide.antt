@@ -127,7 +127,7 @@ module _ {S : Type 0} (state : S → StorageState) where
     keeps = table-kept;
     counted = table-counted;
     cleaned = flushed-clean;
-    flushed = λ H order blocks front key slot back a b answer value flush. (table-flushed H order front key slot back blocks a b answer value flush).1;
+    flushed = λ H order blocks front key slot back a b answer value flush. table-flushed H order front key slot back blocks a b answer value flush;
     leaves = λ f H order blocks front key slot back clean. (table-leaves f H order front key slot back blocks clean, table-leaves-safe f H order front key slot back blocks clean);
     comes = λ f H order blocks key slot es clean. (table-comes f H order [] key slot [] blocks es clean, λ away fits. table-comes-safe f H order [] key slot [] blocks es clean away fits);
     apart = λ f H order blocks es safe. safe.tables_apart;

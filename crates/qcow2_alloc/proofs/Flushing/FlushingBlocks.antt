@@ -67,10 +67,9 @@ module _ (H : Header) (order : CacheDependency) (tables : List (ℕ × Slot Tabl
             (block-left (bytes_of old.bytes) H tables front key here back order safe modified ready);
       }
 
-  -- Whatever it is, and was answered; and where it wasn't cut off.
+  -- Whatever it is, where it wasn't cut off.
   pub block-flushed : (result : Result Unit Fault) (value : Block) → BlockFlushed key here.value old result new value
-      → Going H order (ReadyBlocks order) (result ≡ done_so) old before new (blocks_with tables front key (record here { value = value }) back)
-      × Going H order (ReadyBlocks order) (WasNotCutOff result) old before new (blocks_with tables front key (record here { value = value }) back)
+      → Going H order (ReadyBlocks order) (WasNotCutOff result) old before new (blocks_with tables front key (record here { value = value }) back)
   block-flushed =
       entry-flushed written_blocks H order (ReadyBlocks order) (λ slot. blocks_with tables front key slot back) key here old new (λ slot r. r)
       (λ modified safe. noted here.value key (this modified safe).placed modified) (λ result done. (done.bytes, done.put, some result done)) there

@@ -120,13 +120,13 @@ module _ {V : Type 0} (kind : WrittenKind V) (H : Header) (order : CacheDependen
       going-weaker H order Ready (Err fault ≡ done_so) (IsMild fault) old new (put here) (now value)
       (λ mild. absurd (never-mild old.faults new.faults fault (puts (Err fault) (flushed.written modified reach)).1.put.answer.cause mild)) (by-answer (Err fault) value modified reach flushed)
 
-  -- Whatever it is, and was answered; and where it wasn't cut off.
-  pub entry-flushed : (result : Result Unit Fault) (value : V) → Flushed kind key here.value old result new value → Goes (result ≡ done_so) value × Goes (WasNotCutOff result) value
+  -- Whatever it is, where it wasn't cut off.
+  pub entry-flushed : (result : Result Unit Fault) (value : V) → Flushed kind key here.value old result new value → Goes (WasNotCutOff result) value
   entry-flushed result value flushed = elim (cases_Bool (kind.modified here.value)) [
-    | inr clean ↦ let none = flushed.clean clean in (entry-stays (result ≡ done_so) value none.1 none.2, entry-stays (WasNotCutOff result) value none.1 none.2)
+    | inr clean ↦ let none = flushed.clean clean in entry-stays (WasNotCutOff result) value none.1 none.2
     | inl modified ↦ elim (cases_lt max_offset (key * 2 ^ kind.cluster_bits here.value)) [
-      | inl far ↦ let none = flushed.out modified (λ reach. omega (arith, far, reach)) in (entry-stays (result ≡ done_so) value none.1 none.2, entry-stays (WasNotCutOff result) value none.1 none.2)
-      | inr reach ↦ (by-answer result value modified reach flushed, whole-answer result value modified reach flushed)
+      | inl far ↦ let none = flushed.out modified (λ reach. omega (arith, far, reach)) in entry-stays (WasNotCutOff result) value none.1 none.2
+      | inr reach ↦ whole-answer result value modified reach flushed
     ]
   ]
 

@@ -54,10 +54,9 @@ module _ (H : Header) (order : CacheDependency) (front : List (ℕ × Slot Table
             (table-left (bytes_of old.bytes) H front key here back blocks order safe modified ready);
       }
 
-  -- Whatever it is, and was answered; and where it wasn't cut off.
+  -- Whatever it is, where it wasn't cut off.
   pub table-flushed : (result : Result Unit Fault) (value : TableValue) → TableFlushed key here.value old result new value
-      → Going H order (ReadyTables order) (result ≡ done_so) old before new (tables_with front key (record here { value = value }) back blocks)
-      × Going H order (ReadyTables order) (WasNotCutOff result) old before new (tables_with front key (record here { value = value }) back blocks)
+      → Going H order (ReadyTables order) (WasNotCutOff result) old before new (tables_with front key (record here { value = value }) back blocks)
   table-flushed =
       entry-flushed written_tables H order (ReadyTables order) (λ slot. tables_with front key slot back blocks) key here old new (λ slot r. r)
       (λ modified safe. noted here.value key (this-table (bytes_of old.bytes) H safe.consistent front key here back blocks safe.tables_apart modified safe.tables safe.blocks).placed modified)

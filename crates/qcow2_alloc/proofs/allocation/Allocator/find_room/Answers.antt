@@ -30,8 +30,7 @@ overflow_add-needed g c =
     let run : Run = record { first = c.in_ok-first.first; len = c.args.clusters } in
     let is = as-needed table c.rb_bits-rb_bits.result k c.args.clusters c.lacking_for.result run bits.entries c.lacking_for.ensures in
     let few = needed-few table k (wide c.rb_bits-rb_bits.result k bits.entries bits.bounds.0) c.args.clusters run (omega arith) in
-    let most = c.requires.few in
-    omega (arith, is, few, most)
+    omega (arith, is, few, c.requires.few)
 
 pub loop-needed-init : goal.loop-needed-init
 loop-needed-init g c =
@@ -61,16 +60,10 @@ lacking_for-requires-in-loop-needed-clause-fits g c =
     let bits = c.rb_bits-rb_bits.ensures in
     let l = c.loop-needed in
     let now = c.in_ok-room.room in
-    let len = c.len.ensures in
-    let test = c.loop-needed-test.true in
-    let is = l.invariant.1 in
     let searched = rooms-then g.S.Storage.state table c.args.from c.args.clusters c.args.caches.now c.args.file.now l.room l.caches l.file l.invariant.0 (wide c.rb_bits-rb_bits.result k bits.entries bits.bounds.0) now c.grow_room.new.caches c.grow_room.new.file
-    (omega (arith, len, test, is)) c.in_ok-room.ensures in
-    let within = searched.within in
-    let few = searched.few in
-    let most = c.requires.few in
+    (omega (arith, c.len.ensures, c.loop-needed-test.true, l.invariant.1)) c.in_ok-room.ensures in
     let far = near (length table.words) c.rb_bits-rb_bits.result k bits.entries bits.bounds.1 c.entries-words.ensures.table.long in
-    omega (arith, within, few, most, far)
+    omega (arith, searched.within, searched.few, c.requires.few, far)
 
 pub overflow_add-needed-in-loop-needed : goal.overflow_add-needed-in-loop-needed
 overflow_add-needed-in-loop-needed g c =
@@ -79,15 +72,11 @@ overflow_add-needed-in-loop-needed g c =
     let bits = c.rb_bits-rb_bits.ensures in
     let l = c.loop-needed in
     let now = c.in_ok-room.room in
-    let len = c.len.ensures in
-    let test = c.loop-needed-test.true in
-    let at = l.invariant.1 in
     let searched = rooms-then g.S.Storage.state table c.args.from c.args.clusters c.args.caches.now c.args.file.now l.room l.caches l.file l.invariant.0 (wide c.rb_bits-rb_bits.result k bits.entries bits.bounds.0) now c.grow_room.new.caches c.grow_room.new.file
-    (omega (arith, len, test, at)) c.in_ok-room.ensures in
+    (omega (arith, c.len.ensures, c.loop-needed-test.true, l.invariant.1)) c.in_ok-room.ensures in
     let is = as-needed table c.rb_bits-rb_bits.result k c.args.clusters c.lacking_for-in-loop-needed.result now bits.entries c.lacking_for-in-loop-needed.ensures in
     let few = needed-few table k (wide c.rb_bits-rb_bits.result k bits.entries bits.bounds.0) c.args.clusters now searched.few in
-    let most = c.requires.few in
-    omega (arith, is, few, most)
+    omega (arith, is, few, c.requires.few)
 
 pub loop-needed-smaller : goal.loop-needed-smaller
 loop-needed-smaller g c =
@@ -96,11 +85,8 @@ loop-needed-smaller g c =
     let bits = c.rb_bits-rb_bits.ensures in
     let l = c.loop-needed in
     let now = c.in_ok-room.room in
-    let len = c.len.ensures in
-    let test = c.loop-needed-test.true in
-    let is = l.invariant.1 in
     rooms-fewer g.S.Storage.state table c.args.from c.args.clusters c.args.caches.now c.args.file.now l.room l.caches l.file l.invariant.0 (wide c.rb_bits-rb_bits.result k bits.entries bits.bounds.0) now c.grow_room.new.caches c.grow_room.new.file
-    (omega (arith, len, test, is)) c.in_ok-room.ensures
+    (omega (arith, c.len.ensures, c.loop-needed-test.true, l.invariant.1)) c.in_ok-room.ensures
 
 pub loop-needed-preserved : goal.loop-needed-preserved
 loop-needed-preserved g c =
@@ -108,12 +94,9 @@ loop-needed-preserved g c =
     let k = counters_of_block c.args.file.now.header.fields in
     let bits = c.rb_bits-rb_bits.ensures in
     let l = c.loop-needed in
-    let now = c.in_ok-room.room in
-    let len = c.len.ensures in
-    let test = c.loop-needed-test.true in
-    let is = l.invariant.1 in (
+    let now = c.in_ok-room.room in (
       rooms-then g.S.Storage.state table c.args.from c.args.clusters c.args.caches.now c.args.file.now l.room l.caches l.file l.invariant.0 (wide c.rb_bits-rb_bits.result k bits.entries bits.bounds.0) now c.grow_room.new.caches c.grow_room.new.file
-          (omega (arith, len, test, is)) c.in_ok-room.ensures,
+          (omega (arith, c.len.ensures, c.loop-needed-test.true, l.invariant.1)) c.in_ok-room.ensures,
       as-needed table c.rb_bits-rb_bits.result k c.args.clusters c.lacking_for-in-loop-needed.result now bits.entries c.lacking_for-in-loop-needed.ensures,
     )
 
@@ -121,18 +104,11 @@ pub returns-clause-looks : goal.returns-clause-looks
 returns-clause-looks g c =
     let table = table_of c.args.self.now in
     let l = c.loop-needed in
-    let len = c.len.ensures in
-    let test = c.loop-needed-test.false in
-    let is = l.invariant.1 in
-    rooms-found g.S.Storage.state table c.args.from c.args.clusters c.args.caches.now c.args.file.now l.room l.caches l.file l.invariant.0 (omega (arith, len, test, is))
+    rooms-found g.S.Storage.state table c.args.from c.args.clusters c.args.caches.now c.args.file.now l.room l.caches l.file l.invariant.0 (omega (arith, c.len.ensures, c.loop-needed-test.false, l.invariant.1))
 
 pub returns-clause-within : goal.returns-clause-within
 returns-clause-within g c = let searched = c.loop-needed.invariant.0 in (searched.within, searched.few)
 
 pub returns-clause-enough : goal.returns-clause-enough
 returns-clause-enough g c =
-    let len = c.len.ensures in
-    let test = c.loop-needed-test.false in
-    let is = c.loop-needed.invariant.1 in
-    let short = c.loop-needed.invariant.0.short in
-    omega (arith, len, test, is, short)
+    omega (arith, c.len.ensures, c.loop-needed-test.false, c.loop-needed.invariant.1, c.loop-needed.invariant.0.short)
