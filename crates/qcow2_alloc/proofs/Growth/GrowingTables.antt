@@ -6,20 +6,18 @@ use Rattle.imago_storage.specs.State.{StorageState}
 use Rattle.imago_storage.specs.declared.fault.Fault.{Fault}
 use Rattle.imago_storage.specs.declared.fault.Fault.TheVariants.{Memory, DamagedTable, Limit}
 use Rattle.imago_storage.proofs.Composing.{keeps_on, later_both}
-use Rattle.qcow2_types.specs.Bytes.{bytes_of}
 use Rattle.qcow2_types.specs.Counts.{counters_of_block}
 use Rattle.qcow2_types.specs.Header.{Fields, Header, words_of_cluster}
 use Rattle.qcow2_types.specs.Words.{Layout, block_offset}
 use Rattle.qcow2_metadata.specs.Growth.{IsGrownLength}
 use Rattle.qcow2_metadata.specs.Tables.{TableValue}
 use Rattle.qcow2_alloc.specs.declared.allocation.searching.Run.{Run}
-use Rattle.qcow2_alloc.specs.declared.cache.CacheDependency.{CacheDependency}
 use Rattle.qcow2_alloc.specs.declared.cache.CacheDependency.TheVariants.{L2DependsOnRb}
 use Rattle.qcow2_alloc.specs.declared.cache.MetadataCaches.{MetadataCaches}
 use Rattle.qcow2_alloc.specs.declared.file.ImageFile.{ImageFile}
 use Rattle.qcow2_alloc.specs.Allocating.{Allocating, MovedTable, WhyNotAllocated}
 use Rattle.qcow2_alloc.specs.Allocators.{metadata_of}
-use Rattle.qcow2_alloc.specs.Caches.{cached_in, order_of, cached_file}
+use Rattle.qcow2_alloc.specs.Caches.{order_of, cached_file}
 use Rattle.qcow2_alloc.specs.FreeList.{covers}
 use Rattle.qcow2_alloc.specs.Freeing.{IsLoose, WhyNotCounted}
 use Rattle.qcow2_alloc.specs.Going.{WasNotCutOff, IsMild}
@@ -27,48 +25,17 @@ use Rattle.qcow2_alloc.specs.Growing.{lacks, IsFirstRoom, LooksForRoom}
 use Rattle.qcow2_alloc.specs.GrowingTables.{GrowsTable, TableGrown, IsRoomToGrow, IsRoomInReach, NoPlaceToGrow, room_from, table_run}
 use Rattle.qcow2_alloc.specs.MakingRoom.{run_of}
 use Rattle.qcow2_alloc.specs.MovingTables.{clusters_of, IsPlan, WhyNotGrown, WhyNotPlaced, IsFreeIn, WasSound, FillsRoom, EntersFree}
-use Rattle.qcow2_alloc.specs.Quiet.{Metadata, counted, IsSound, Quietly}
+use Rattle.qcow2_alloc.specs.Quiet.{Metadata, counted, IsSound}
 use Rattle.qcow2_alloc.specs.SearchingClusters.{IsSafeWith, Looked}
 use Rattle.qcow2_alloc.specs.State.{ImageState, lent, metadata}
-use Rattle.qcow2_alloc.proofs.Handing.Allocating.{moved-none, allocating-none, allocating-as}
+use Rattle.qcow2_alloc.proofs.Handing.Allocating.{allocating-none, allocating-as}
 use Rattle.qcow2_alloc.proofs.Flushing.Faultless.{faultless-then}
-use Rattle.qcow2_alloc.proofs.Searching.FreeClusters.{flushes-count}
+use Rattle.qcow2_alloc.proofs.Searching.LookingAt.{counts-looked, looked-allocates}
 use Rattle.qcow2_alloc.proofs.Freeing.FreeingEntries.{failed}
 use Rattle.qcow2_alloc.proofs.Caching.Loose.{loose-all}
 use Rattle.qcow2_alloc.proofs.Blocks.MadeBlocks.{first-counted, can-name, allocated-wider, counted-wider}
-use Rattle.qcow2_alloc.proofs.Quiet.QuietFlushes.{going-quietly}
 use Rattle.qcow2_alloc.proofs.Quiet.QuietGiven.{quietly-given, quietly-then-given}
 use Rattle.qcow2_alloc.proofs.Quiet.QuietThen.{quietly-otherwise}
-
--- What a search does is what a call does that counts nothing.
-module _ {S T : Type 0} (state : S → StorageState) (s : ImageState S) (C : MetadataCaches S) (fC : ImageFile S) (result : Result T Fault) (looked : Looked state s.table (cached_file s.caches s.file) result (cached_file C fC)) where
-  abbrev m0 : Metadata
-  m0 = metadata state s
-
-  abbrev mC : Metadata
-  mC = metadata_of state fC C s.table s.pending
-
-  moved : (P : Metadata → Type 0) → P (record m0 { file = bytes_of (state fC.image).bytes; cached = cached_in C }) → P mC
-  moved P p =
-      subst (λ (h : Header). P (record m0 { file = bytes_of (state fC.image).bytes; cached = cached_in C; header = h; order = order_of C })) (sym looked.header)
-      (subst (λ (o : CacheDependency). P (record m0 { file = bytes_of (state fC.image).bytes; cached = cached_in C; order = o })) (sym looked.order) p)
-
-  pub looked-counts : IsTrue (state s.file.image).shape.keeps → IsSound m0 → WasNotCutOff result → (c : ℕ) → counted mC c ≡ counted m0 c
-  looked-counts keeps sound whole c =
-      moved (λ m. counted m c ≡ counted m0 c) (flushes-count m0 (state s.file.image).bytes (state fC.image).bytes (cached_in C) refl (looked.going.holds keeps sound.safe tt (inl whole)) c).0
-
-  pub looked-allocates : Allocating state (WasNotCutOff result) (λ _. 0) s (lent s.table C fC s.pending)
-  looked-allocates = record {
-    faults = looked.going.faults;
-    quiet = λ order. moved (λ m. Quietly (WasNotCutOff result) (λ _. 0) (λ _. 0) (state s.file.image) m0 (state fC.image) m)
-        (going-quietly m0 (WasNotCutOff result) (state s.file.image) (state fC.image) (cached_in C) refl looked.going);
-    raised = λ order keeps sound whole c. inl (looked-counts keeps sound whole c);
-    order = looked.order;
-    moved = moved-none s.file.header fC.header looked.header;
-    longer = omega arith;
-    loose = looked.loose;
-    room = looked.room;
-  }
 
 module _ {S : Type 0} (state : S → StorageState) (mark at : ℕ) (image : ImageState S) where
   abbrev start : Metadata
@@ -116,8 +83,8 @@ module _ {S : Type 0} (state : S → StorageState) (mark at : ℕ) (image : Imag
   -- or the search for a room was refused,
   pub no-room : (fault : Fault) (C : MetadataCaches S) (fC : ImageFile S) → Looked state {T = Run} image.table (cached_file image.caches image.file) (Err fault) (cached_file C fC) → GrowsTable state mark at image (failed fault) (lent image.table C fC image.pending)
   no-room fault C fC looked =
-      not-grown fault C fC (looked-allocates {T = Run} state image C fC (Err fault) looked) looked.header
-      (λ keeps sound number is. looked-counts {T = Run} state image C fC (Err fault) looked keeps sound (subst (λ (f : Fault). WasNotCutOff {T = Run} (Err f)) (sym is) tt))
+      not-grown fault C fC (looked-allocates state image Run (Err fault) C fC looked) looked.header
+      (λ keeps sound number is. counts-looked state image Run (Err fault) C fC looked keeps sound (subst (λ (f : Fault). WasNotCutOff {T = Run} (Err f)) (sym is) tt))
       (allocated-wider _ _ _ _ _ _ _ _ (λ known. safe-with known.0 known.2) (loose-all image.table image.caches) refl fault looked.cause)
 
   -- A room was found for a copy.
@@ -144,8 +111,8 @@ module _ {S : Type 0} (state : S → StorageState) (mark at : ℕ) (image : Imag
     -- It can't take it.
     pub no-place : (fault : Fault) → 1 ≤ room.len → WhyNotPlaced fC.header.fields image.table room copy fault → GrowsTable state mark at image (failed fault) (lent image.table C fC image.pending)
     no-place fault some why =
-        not-grown fault C fC (allocating-as state ⊤ (IsMild fault) (λ _. 0) (λ _. 0) image (lent image.table C fC image.pending) (λ mild. tt) (λ c. refl) (looked-allocates {T = Run} state image C fC (Ok room) looks.looked)) looks.looked.header
-        (λ keeps sound number is. looked-counts {T = Run} state image C fC (Ok room) looks.looked keeps sound tt)
+        not-grown fault C fC (allocating-as state ⊤ (IsMild fault) (λ _. 0) (λ _. 0) image (lent image.table C fC image.pending) (λ mild. tt) (λ c. refl) (looked-allocates state image Run (Ok room) C fC looks.looked)) looks.looked.header
+        (λ keeps sound number is. counts-looked state image Run (Ok room) C fC looks.looked keeps sound tt)
         (by-fault fault (subst (λ (H : Header). WhyNotPlaced H.fields image.table room copy fault) looks.looked.header why))
       where
         behind : Sound → room.first ≢ 0
@@ -193,14 +160,14 @@ module _ {S : Type 0} (state : S → StorageState) (mark at : ℕ) (image : Imag
       free : Was → IsFreeIn state room (lent image.table C fC image.pending)
       free known = (
         looked.order ∙ known.0,
-        λ c above below. looked-counts {T = Run} state image C fC (Ok room) looked known.1 known.2 tt c ∙ (found (known.1, known.0, known.2)).room.free c above below,
+        λ c above below. counts-looked state image Run (Ok room) C fC looked known.1 known.2 tt c ∙ (found (known.1, known.0, known.2)).room.free c above below,
       )
 
       abbrev filled : FillsRoom state Was room placed (lent image.table C fC image.pending) result sD
       filled = fills image.caches image.file free
 
       abbrev one : Allocating state ⊤ (λ _. 0) image (lent image.table C fC image.pending)
-      one = looked-allocates {T = Run} state image C fC (Ok room) looked
+      one = looked-allocates state image Run (Ok room) C fC looked
 
       on : Keeps → IsTrue (state fC.image).shape.keeps
       on keeps = keeps_on (state image.file.image) (state fC.image) looked.going.shape keeps
@@ -209,7 +176,7 @@ module _ {S : Type 0} (state : S → StorageState) (mark at : ℕ) (image : Imag
       mid-sound order keeps sound = ((one.quiet order).holds keeps sound tt).0
 
       mid-counts : Keeps → IsSound start → (c : ℕ) → counted mid c ≡ counted start c
-      mid-counts keeps sound = looked-counts {T = Run} state image C fC (Ok room) looked keeps sound tt
+      mid-counts keeps sound = counts-looked state image Run (Ok room) C fC looked keeps sound tt
 
       from-ok : (r : Result Unit Fault) {X : Type 0} → r ≡ Ok tt → OnOk r X → X
       from-ok (Ok done) is x = x
