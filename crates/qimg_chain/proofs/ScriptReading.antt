@@ -200,8 +200,13 @@ read_as text (Ok line) short e = is_line text line short e
 read_as text (Err fault) short e = e
 
 -- why one isn't read
-pub unread : (text : List ℕ) (r : Result Line Fault) → IfErr r (NotSaid (words_of text)) → IfErr r (NotLine text)
-unread text (Ok line) h = h
-unread text (Err Memory) h = (words_of text, sym (join_with_byte-slice_split 32 text), h)
-unread text (Err BadCommand) h = no_line text h
-unread text (Err fault) h = h
+pub unread : (text : List ℕ) (r : Result Line Fault) → length text ≤ 65536 → IfErr r (NotSaid (words_of text)) → IfErr r (NotLine text)
+unread text (Ok line) short h = h
+unread text (Err Memory) short h = record {
+  short = short;
+  words = words_of text;
+  joined = sym (join_with_byte-slice_split 32 text);
+  write = h;
+}
+unread text (Err BadCommand) short h = no_line text h
+unread text (Err fault) short h = h

@@ -1,10 +1,10 @@
 -- What a line of a script is: words with one space between each two, by which a command and its arguments are written.
-use Rattle.std.specs.Prelude.{◌≡◌, ℕ, ◌≤◌, ⊤, List, [], ◌∷◌, length, Some, codes}
+use Rattle.std.specs.Prelude.{◌≡◌, ℕ, ◌≤◌, List, [], ◌∷◌, length, Some, IsSome, codes}
 use Rattle.std.specs.List.{join_with_byte}
 use Rattle.imago_storage.specs.declared.fault.Fault.{Fault}
 use Rattle.imago_storage.specs.declared.fault.Fault.TheVariants.{Memory, BadCommand}
 use Rattle.imago_access.specs.declared.format.PreallocateMode.{PreallocateMode}
-use Rattle.qimg_chain.specs.ScriptWords.{number_of, bytes_of, mode_word}
+use Rattle.qimg_chain.specs.ScriptWords.{ArePairs, number_of, bytes_of, mode_word}
 use Rattle.qimg_chain.specs.declared.script.line.Line.{Line}
 use Rattle.qimg_chain.specs.declared.script.line.Line.TheVariants.{Size, Read, Write, Zero, Discard, DiscardAny, DiscardBacking, Grow, Shrink, Flush, Check, Plain, Save}
 
@@ -57,12 +57,19 @@ pub record IsLine (text : List ℕ) (line : Line) : Type 0 where
   pub joined : text ≡ join_with_byte 32 words
   pub written : IsWritten line words
 
--- Words are a write with two arguments, whatever these are.
+-- Words are a write to a number, of bytes by pairs, be these of digits or not.
 abbrev pub IsWrite : List (List ℕ) → Type 0
-IsWrite words = HasTwo (codes "write") (λ _. ⊤) (λ _. ⊤) words
+IsWrite words = HasTwo (codes "write") (λ first. IsSome (number_of first)) ArePairs words
+
+-- Memory may be wanting for a text: it is a write that isn't longer than a line.
+pub record MayWant (text : List ℕ) : Type 0 where
+  pub short : length text ≤ 65536
+  pub words : List (List ℕ)
+  pub joined : text ≡ join_with_byte 32 words
+  pub write : IsWrite words
 
 -- Why a text isn't taken as a line: it is none, or want of memory for the bytes of a write.
 abbrev pub NotLine : List ℕ → Fault → Type 0
-NotLine text Memory = (words : List (List ℕ)) × (text ≡ join_with_byte 32 words) × IsWrite words
+NotLine text Memory = MayWant text
 NotLine text BadCommand = (line : Line) → ¬ (IsLine text line)
 NotLine text fault = ⊥

@@ -1,5 +1,5 @@
 -- The words of a line of a script: what they write, and how they stand in it.
-use Rattle.std.specs.Prelude.{◌≡◌, ℕ, ◌^◌, ◌&&◌, ◌==◌, nat_lt, nat_le, ⊤, Bool, if◌then◌else◌, List, length, Option, Some, None, codes}
+use Rattle.std.specs.Prelude.{◌≡◌, ℕ, ◌<◌, ◌%◌, ◌^◌, ◌&&◌, ◌==◌, nat_lt, nat_le, Bool, if◌then◌else◌, List, length, Option, Some, None, codes}
 use Rattle.std.specs.List.{list_all, slice_split}
 use Rattle.std.specs.Char.{is_ascii_digit}
 use Rattle.std.specs.Result.{result_ok}
@@ -32,9 +32,13 @@ number_of word = if is_number word then Some (digits_value 10 word) else None
 unfoldable pub bytes_of : List ℕ → Option (List ℕ)
 bytes_of word = if nat_lt 0 (length word) then result_ok (decode_of word) else None
 
--- why a word gives no bytes: want of memory, or it writes none
+-- A word has pairs of characters and nothing else, at least one.
+abbrev pub ArePairs : List ℕ → Type 0
+ArePairs word = (0 < length word) × (length word % 2 ≡ 0)
+
+-- why a word gives no bytes: want of memory for those of its pairs, or it writes none
 abbrev pub NoBytes : List ℕ → Fault → Type 0
-NoBytes word Memory = ⊤
+NoBytes word Memory = ArePairs word
 NoBytes word BadCommand = bytes_of word ≡ None
 NoBytes word fault = ⊥
 

@@ -47,8 +47,9 @@ pub enum Line {
 
 /// Reads a line, which comes without its end.
 ///
-/// It is refused with `Fault::BadCommand` exactly where it is none: where it isn't a command with its arguments, or has more than
-/// `LONGEST_LINE` bytes. `Fault::Memory` comes for the bytes of a `write` alone.
+/// It is refused with `Fault::BadCommand` where it is none: where it isn't a command with its arguments, or has more than
+/// `LONGEST_LINE` bytes. `Fault::Memory` comes for the bytes of a `write` alone, where these are pairs, behind a number and in a line
+/// that isn't too long. Their room is taken before their digits are read, so that it may come for pairs that aren't all of digits.
 pub fn parse_line(alloc: Global, text: &[u8]) -> Result<Line, Fault>
     ensures ok { IfOk result (λ line. IsLine text.now line) }
     ensures err { IfErr result (NotLine text.now) }

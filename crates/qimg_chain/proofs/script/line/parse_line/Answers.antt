@@ -5,4 +5,4 @@ pub returns-clause-ok : goal.returns-clause-ok
 returns-clause-ok c = read_as c.args.text.now c.line_of.result c.if-text-gt-LONGEST_LINE.false c.line_of.ensures.ok
 
 pub returns-clause-err : goal.returns-clause-err
-returns-clause-err c = unread c.args.text.now c.line_of.result c.line_of.ensures.err
+returns-clause-err c = unread c.args.text.now c.line_of.result c.if-text-gt-LONGEST_LINE.false c.line_of.ensures.err
