@@ -1,8 +1,10 @@
--- Files in memory that form a chain by themselves, and are fit to be its top.
-use Rattle.std.proofs.Common.{◌≡◌, ◌∙◌, Bool, true, false, [], ◌∷◌, Ok, None, refl, ap, arith}
+-- Files that form a chain by themselves, and are fit to be its top.
+use Rattle.std.proofs.Common.{◌≡◌, ◌∙◌, Bool, true, false, List, ℕ, [], ◌∷◌, Ok, None, refl, sym, subst, ap, arith}
 use Rattle.std.specs.Prelude.{◌&&◌, IsTrue, is_some}
 use Rattle.std.proofs.lemmas.Bool.{and_parts}
+use Rattle.std.proofs.lemmas.List.Elements.{All-nil}
 use Rattle.imago_storage.specs.MemStorage.{mem_state}
+use Rattle.imago_storage.specs.State.{InStep, StorageState}
 use Rattle.imago_storage.specs.declared.memory.MemStorage.{MemStorage}
 use Rattle.imago_access.specs.declared.format.Format.TheVariants.{Qcow2, Raw}
 use Rattle.qcow2_types.specs.Bytes.{Bytes, bytes_of}
@@ -17,20 +19,7 @@ use Rattle.qimg_core.specs.declared.plain.ChainFile.{ChainFile}
 use Rattle.qimg_chain.specs.Chains.{IsFit, IsSoundAs, OfTop}
 use Rattle.qimg_chain.specs.FileLayers.{IsLayer, asked_of}
 use Rattle.qimg_chain.specs.Refusals.{FormChain}
-
-keeps : (m : MemStorage) → IsTrue (mem_state m).shape.keeps
-unfolding mem_state
-keeps m = refl
-
-fit : (file : ChainFile MemStorage) → IsSoundAs file.format (mem_state file.image).bytes → OfTop (IsFit mem_state) (file ∷ [])
-fit file sound = record { sound = sound; keeps = keeps file.image; others = λ k d inside. keeps _ }
-
--- one file that names no layer below is a chain
-alone : (writable : Bool) (file : ChainFile MemStorage) → IsLayer mem_state writable file false [] → FormChain mem_state writable (file ∷ [])
-alone writable file layer = (omega arith, omega arith, ((false, [], layer, refl), tt))
-
-pub raw-fits : (file : ChainFile MemStorage) → file.format ≡ Raw → FormChain mem_state true (file ∷ []) × OfTop (IsFit mem_state) (file ∷ [])
-raw-fits file is = (alone true file (record { says = rw (is) refl; has = rw (is) refl }), fit file (rw (is) tt))
+use Rattle.qimg_chain.specs.ToldStops.{IsLoggedImage}
 
 -- a consistent image loads, for reading and for writing,
 loads : (writable : Bool) (f : Bytes) (h : Header) → IsConsistent f h → header_of writable f ≡ Ok h
@@ -45,10 +34,50 @@ opens writable f h sound =
     let both = and_parts (l1_table_sound f h.fields) (refcount_table_sound f h.fields) tables.0 in
     none-refused writable f h (loads writable f h sound) sound.readable.data_inside both.0 (λ w. both.1)
 
+module _ {S : Type 0} (state : S → StorageState) where
+  -- one file that names no layer below is a chain
+  alone : (writable : Bool) (file : ChainFile S) → IsLayer state writable file false [] → FormChain state writable (file ∷ [])
+  alone writable file layer = (omega arith, omega arith, ((false, [], layer, refl), tt))
+
+  -- an image without a backing file is one
+  image-alone : (writable : Bool) (file : ChainFile S) (h : Header) → file.format ≡ Qcow2 → IsConsistent (bytes_of (state file.image).bytes) h → h.backing_name ≡ None
+      → FormChain state writable (file ∷ [])
+  image-alone writable file h is sound none =
+      let said = opens writable (bytes_of (state file.image).bytes) h sound in
+      alone writable file (record { says = rw (is) (ap (asked_of (λ H. is_some H.backing_name)) said ∙ ap (λ name. Ok (is_some name)) none); has = rw (is) refl })
+
+  -- ---- An image in a storage that begins to tell its stops.
+
+  pub logged-alone : (writable : Bool) (file : ChainFile S) → IsLoggedImage state file → FormChain state writable (file ∷ [])
+  logged-alone writable file is =
+      let same = ap (λ (s : StorageState). s.bytes) is.logged in
+      image-alone writable file is.header is.format (subst (λ (f : List ℕ). IsConsistent (bytes_of f) is.header) (sym same) is.sound) is.alone
+
+  pub logged-fits : (file : ChainFile S) → IsLoggedImage state file → OfTop (IsFit state) (file ∷ [])
+  logged-fits file is =
+      let same = ap (λ (s : StorageState). s.bytes) is.logged in
+      let sound = subst (λ (f : List ℕ). IsConsistent (bytes_of f) is.header) (sym same) is.sound in
+      record {
+        sound = rw (is.format) (is.header, sound);
+        keeps = subst (λ (s : StorageState). IsTrue s.shape.keeps) (sym is.logged) refl;
+        others = rw (is.none) (All-nil (λ other. IsTrue (state other.1).shape.keeps));
+      }
+
+  pub logged-step : (file : ChainFile S) → IsLoggedImage state file → OfTop (λ f. InStep (state f.image)) (file ∷ [])
+  logged-step file is = subst InStep (sym is.logged) (λ tells keeps. refl)
+
+-- ---- Files in memory.
+
+keeps : (m : MemStorage) → IsTrue (mem_state m).shape.keeps
+unfolding mem_state
+keeps m = refl
+
+fit : (file : ChainFile MemStorage) → IsSoundAs file.format (mem_state file.image).bytes → OfTop (IsFit mem_state) (file ∷ [])
+fit file sound = record { sound = sound; keeps = keeps file.image; others = λ k d inside. keeps _ }
+
+pub raw-fits : (file : ChainFile MemStorage) → file.format ≡ Raw → FormChain mem_state true (file ∷ []) × OfTop (IsFit mem_state) (file ∷ [])
+raw-fits file is = (alone mem_state true file (record { says = rw (is) refl; has = rw (is) refl }), fit file (rw (is) tt))
+
 pub image-fits : (writable : Bool) (file : ChainFile MemStorage) (h : Header) → file.format ≡ Qcow2 → IsConsistent (bytes_of (mem_state file.image).bytes) h → h.backing_name ≡ None
     → FormChain mem_state writable (file ∷ []) × OfTop (IsFit mem_state) (file ∷ [])
-image-fits writable file h is sound none =
-    let said = opens writable (bytes_of (mem_state file.image).bytes) h sound in (
-      alone writable file (record { says = rw (is) (ap (asked_of (λ H. is_some H.backing_name)) said ∙ ap (λ name. Ok (is_some name)) none); has = rw (is) refl }),
-      fit file (rw (is) (h, sound)),
-    )
+image-fits writable file h is sound none = (image-alone mem_state writable file h is sound none, fit file (rw (is) (h, sound)))

@@ -1,6 +1,6 @@
 -- The kinds of drivers that a layer of a chain of image files has.
 use Rattle.std.proofs.Common.{◌≡◌, ℕ, List, refl, sym}
-use Rattle.std.specs.Prelude.{Bool, None, Ok, false, map}
+use Rattle.std.specs.Prelude.{Bool, IsTrue, None, Ok, false, map}
 use Rattle.std.specs.Borrow.{RattleType}
 use Rattle.imago_storage.specs.State.{StorageState}
 use Rattle.imago_storage.specs.Steps.{Call}
@@ -18,6 +18,7 @@ use Rattle.imago_formats.specs.declared.vmdk.driver.Vmdk.{Vmdk}
 use Rattle.imago_formats.specs.contracts.raw.RawSeen.TheImpl as raw_seen
 use Rattle.imago_formats.specs.contracts.vmdk.driver.VmdkSeen.TheImpl as vmdk_seen
 use Rattle.qcow2_types.specs.Bytes.{bytes_of}
+use Rattle.qcow2_types.specs.Consistency.{Consistent}
 use Rattle.qcow2_image.specs.HeldHomes.{free_loose}
 use Rattle.qcow2_image.specs.Unspent.{holding_in}
 use Rattle.qcow2_image.specs.declared.qcow2.Qcow2.{Qcow2}
@@ -75,6 +76,19 @@ module _ (R : RattleType) (st : Ghosts R.Denot) (sd : mir.Syntax.Dict) (dd : mir
   sound_so (variant.Raw d) f sound = sound
   sound_so (variant.Vmdk d) f sound = sound
   sound_so (variant.Qcow2 d) f sound = sound
+
+  -- a qcow2 image states the size of its disk, and its file is sound where it is consistent
+  pub exact_so : (d : ImageDriver R.Denot st) → ((image_seen.ghosts R st sd dd).layer d).fixed.format ≡ format.Qcow2
+      → IsTrue ((image_seen.ghosts R st sd dd).layer d).fixed.exact
+  exact_so (variant.Raw d) is = absurd (cc is)
+  exact_so (variant.Vmdk d) is = refl
+  exact_so (variant.Qcow2 d) is = refl
+
+  pub consistent_so : (d : ImageDriver R.Denot st) (f : List ℕ) → ((image_seen.ghosts R st sd dd).layer d).fixed.format ≡ format.Qcow2
+      → (image_seen.ghosts R st sd dd).sound ((image_seen.ghosts R st sd dd).layer d).fixed.kind f → Consistent (bytes_of f)
+  consistent_so (variant.Raw d) f is sound = absurd (cc is)
+  consistent_so (variant.Vmdk d) f is sound = absurd (cc is)
+  consistent_so (variant.Qcow2 d) f is sound = sound
 
   -- a VMDK image just opened
   pub vmdk_opened : (writable : Bool) (before : StorageState) (d : Vmdk R.Denot) → writable ≡ false → IsKept before (st.state d.image) → descriptor_of before.bytes ≡ Ok (kept_extents d.disk.extents.items)

@@ -29,3 +29,5 @@ mod SeenThrough
 mod Snapshots
 mod StatelessDrivers
 mod TakingFiles
+mod ToldImages
+mod ToldStops

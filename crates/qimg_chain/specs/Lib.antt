@@ -22,3 +22,4 @@ pub mod ScriptRuns
 pub mod ScriptWords
 pub mod Snapshots
 pub mod Stateless
+pub mod ToldStops

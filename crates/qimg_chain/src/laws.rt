@@ -1,14 +1,23 @@
-//! Laws of scripts and arguments, of why files don't form a chain, of files that do, and of both reads of them.
+//! Laws of scripts and arguments, of why files don't form a chain, of files that do, of both reads of them, and of stops that are told.
 ghost use Rattle.std.specs.Prelude.{◌≡◌, ◌∷◌, [], ℕ, Bool, List, None, length, true, false};
 ghost use Rattle.imago_access.specs.ChainLooks.{ChainReads};
 ghost use Rattle.imago_access.specs.Running.{chain_disk};
 ghost use Rattle.imago_access.specs.declared.format.Format.TheVariants.{Qcow2, Raw};
+ghost use Rattle.imago_storage.specs.Log.{log_state};
 ghost use Rattle.imago_storage.specs.MemStorage.{mem_state};
+ghost use Rattle.imago_storage.specs.State.{InStep};
+ghost use Rattle.imago_storage.specs.Through.{StopsIn};
 ghost use Rattle.imago_storage.specs.declared.fault.Fault.{Fault};
+ghost use Rattle.imago_storage.specs.declared.log.LogStorage.{LogStorage};
 ghost use Rattle.imago_storage.specs.declared.memory.MemStorage.{MemStorage};
 ghost use Rattle.qcow2_types.specs.Bytes.{bytes_of};
 ghost use Rattle.qcow2_types.specs.Consistency.{IsConsistent};
 ghost use Rattle.qcow2_types.specs.Header.{Header};
+ghost use Rattle.qimg_calls.specs.Held.{holding};
+ghost use Rattle.qimg_calls.specs.Runs.{moment};
+ghost use Rattle.qimg_calls.specs.Since.{Since};
+ghost use Rattle.qimg_calls.specs.declared.call.Answer.{Answer};
+ghost use Rattle.qimg_calls.specs.declared.call.Call.{Call};
 ghost use Rattle.qimg_core.specs.declared.plain.ChainFile.{ChainFile};
 ghost use Rattle.qimg_chain.specs.Arguments.{Asked, AskFor};
 ghost use Rattle.qimg_chain.specs.Chains.{IsFit, OfTop};
@@ -16,10 +25,12 @@ ghost use Rattle.qimg_chain.specs.FileMeanings.{IsDiskOf, files_bytes};
 ghost use Rattle.qimg_chain.specs.PlainReads.{IsPlainlyRead};
 ghost use Rattle.qimg_chain.specs.Refusals.{FirstCause, FormChain};
 ghost use Rattle.qimg_chain.specs.Script.{IsLine};
+ghost use Rattle.qimg_chain.specs.ToldStops.{GoesOnTelling, IsLeftIn, IsLoggedImage, OpensTelling, StopsConsistent};
 ghost use Rattle.qimg_chain.specs.declared.script.line.Line.{Line};
 
-use imago_access::FormatDriverInstance;
-use imago_storage::Storage;
+use crate::chain::ImageDriver;
+use imago_access::{FormatDriverInstance, Seen};
+use imago_storage::{LogStorage, MemStorage, Storage};
 
 /// A text is one line of a script at most: whatever spelling a line has, no other line has it too.
 pub fn a_text_is_one_line_at_most()
@@ -69,3 +80,41 @@ pub fn a_plain_read_and_a_read_agree<S: Storage, T: Storage, D: FormatDriverInst
         → IsDiskOf (chain_disk D.layer old) (files_bytes T.state files) → ChainReads D.Seen offset n buf old new
         → IsDiskOf (chain_disk D.layer new) (files_bytes T.state files) }
 {}
+
+/// Over a chain that tells its stops each file that a stop leaves in a list of calls, none of them cut off, is one that its call may leave
+/// then, as `qimg_calls::drive` says, and is sound. No premise is left: of such a chain's stops that clause isn't empty.
+pub fn stops_in_a_list_are_those_of_its_calls<D: FormatDriverInstance>()
+    ensures left { (since : Since) (list : List Call) (answers : List Answer) (old new : D × List D)
+        → GoesOnTelling D.Seen since list answers old new
+        → StopsIn (IsLeftIn D.Seen list answers (moment (holding old None) since)) (D.image old.0) (D.image new.0) }
+    ensures sound { (since : Since) (list : List Call) (answers : List Answer) (old new : D × List D)
+        → GoesOnTelling D.Seen since list answers old new
+        → StopsIn (D.sound (D.layer old.0).fixed.kind) (D.image old.0) (D.image new.0) }
+{}
+
+/// A consistent qcow2 image in a storage that begins to tell its stops over new memory opens as a chain that tells them.
+fn an_image_opens_telling_its_stops<S: Storage>()
+    ensures formed { (writable : Bool) (file : ChainFile S) → IsLoggedImage S.state file
+        → FormChain S.state writable (file ∷ []) × OfTop (IsFit S.state) (file ∷ []) × OfTop (λ f. InStep (S.state f.image)) (file ∷ []) }
+    ensures telling { let d = ⟦<ImageDriver<S> as Seen>⟧ in (writable : Bool) (number : ℕ) (file : ChainFile S)
+        → IsLoggedImage S.state file → OpensTelling d S.state writable number file }
+    ensures stops { let d = ⟦<ImageDriver<S> as Seen>⟧ in (writable : Bool) (number : ℕ) (file : ChainFile S)
+        → IsLoggedImage S.state file → StopsConsistent d S.state writable number file }
+{}
+
+/// A consistent qcow2 image that names no backing file, in a new `LogStorage` over new memory, is a chain by itself, and as `open_chain`
+/// opens it, one that tells its stops. So each file that a stop leaves in a list of calls over it, none of them cut off, is a consistent
+/// image.
+pub fn an_image_on_a_log_opens_telling_its_stops()
+    ensures formed { (writable : Bool) (file : ChainFile (LogStorage MemStorage)) → IsLoggedImage (log_state mem_state) file
+        → FormChain (log_state mem_state) writable (file ∷ []) × OfTop (IsFit (log_state mem_state)) (file ∷ [])
+        × OfTop (λ f. InStep (log_state mem_state f.image)) (file ∷ []) }
+    ensures telling { let d = ⟦<ImageDriver<LogStorage<MemStorage>> as Seen>⟧ in
+        (writable : Bool) (number : ℕ) (file : ChainFile (LogStorage MemStorage))
+        → IsLoggedImage (log_state mem_state) file → OpensTelling d (log_state mem_state) writable number file }
+    ensures stops { let d = ⟦<ImageDriver<LogStorage<MemStorage>> as Seen>⟧ in
+        (writable : Bool) (number : ℕ) (file : ChainFile (LogStorage MemStorage))
+        → IsLoggedImage (log_state mem_state) file → StopsConsistent d (log_state mem_state) writable number file }
+{
+    an_image_opens_telling_its_stops::<LogStorage<MemStorage>>()
+}

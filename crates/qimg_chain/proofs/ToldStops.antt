@@ -1,0 +1,132 @@
+-- Stops in a list of calls over a chain that tells them.
+use Rattle.std.proofs.Common.{◌≡◌, ℕ, zero, suc, List, [], ◌∷◌, arith, refl, sym, subst, ap, take}
+use Rattle.std.specs.Prelude.{Bool, true, false, IsTrue, MatchOption, Option, Some, None, is_some}
+use Rattle.std.proofs.lemmas.List.Elements.{All-weaker}
+use Rattle.imago_storage.specs.State.{Rose, StorageState}
+use Rattle.imago_storage.specs.Passing.{Passes}
+use Rattle.imago_storage.specs.Through.{StopsIn}
+use Rattle.imago_storage.proofs.Composing.{no_stops}
+use Rattle.imago_access.specs.ChainCalls.{ChainCancels}
+use Rattle.imago_access.specs.Files.{IsLater}
+use Rattle.imago_access.specs.Layer.{Fixed}
+use Rattle.imago_access.specs.declared.mapping.PreparedDataMapping.{PreparedDataMapping}
+use Rattle.imago_access.specs.declared.seen.Seen.{Ghosts}
+use Rattle.imago_access.proofs.FilePairs.{is_later_both, is_later_same}
+use Rattle.imago_access.proofs.Stopping.{passes_both}
+use Rattle.qimg_calls.specs.Calls.{Either, is_out_of_place}
+use Rattle.qimg_calls.specs.Held.{holding}
+use Rattle.qimg_calls.specs.Runs.{AllGoOn, Goes, IsLeftBy, Made, Moment, Run, StatesSize, moment}
+use Rattle.qimg_calls.specs.Since.{Since}
+use Rattle.qimg_calls.specs.declared.call.Call.{Call}
+use Rattle.qimg_calls.specs.declared.call.Answer.{Answer}
+use Rattle.qimg_chain.specs.ToldStops.{GoesOnTelling, IsLeftIn}
+
+pub stops-in : (P Q : List ℕ → Type 0) (a b : StorageState) → ((f : List ℕ) → P f → Q f) → StopsIn P a b → StopsIn Q a b
+stops-in P Q a b weaker stops = record { files = stops.files; told = stops.told; each = All-weaker P Q weaker stops.files stops.each }
+
+either-way : (b : Bool) (P Q : Type 0) → Either b P Q → (R : Type 0) → (P → R) → (Q → R) → R
+either-way true P Q p R first second = first p
+either-way false P Q q R first second = second q
+
+module _ {D St : Type 0} (g : Ghosts D St) where
+  -- the top's file
+  abbrev image : Moment D St → StorageState
+  image m = g.image m.now.drivers.0
+
+  -- ---- One call.
+
+  -- it isn't made, or it is
+  by-case : (P : Moment D St → Type 0) (call : Call) (answer : Answer) (old new : Moment D St) → Goes g call answer old new
+      → P old → (Made g call answer old new → P new) → P new
+  by-case P call answer old new goes none made =
+      either-way (is_out_of_place (is_some old.now.kept) call) _ _ goes (P new) (λ out. subst P (sym out.1) none) made
+
+  later-one : (call : Call) (answer : Answer) (old new : Moment D St) → Goes g call answer old new → IsLater (image old) (image new)
+  later-one call answer old new goes =
+      by-case (λ m. IsLater (image old) (image m)) call answer old new goes (is_later_same (image old)) (λ made. made.later)
+
+  fixed-one : (call : Call) (answer : Answer) (old new : Moment D St) → Goes g call answer old new
+      → (g.layer new.now.drivers.0).fixed ≡ (g.layer old.now.drivers.0).fixed
+  fixed-one call answer old new goes =
+      by-case (λ m. (g.layer m.now.drivers.0).fixed ≡ (g.layer old.now.drivers.0).fixed) call answer old new goes refl (λ made. made.fixed)
+
+  none-passes : (P : List ℕ → Type 0) (a : StorageState) → Passes P a a
+  none-passes P a calm = (λ step. step, no_stops P a a refl refl)
+
+  passes-one : (call : Call) (answer : Answer) (old new : Moment D St) → StatesSize g old.now.drivers → Goes g call answer old new
+      → Passes (IsLeftBy g call old) (image old) (image new)
+  passes-one call answer old new sized goes =
+      by-case (λ m. Passes (IsLeftBy g call old) (image old) (image m)) call answer old new goes
+      (none-passes (IsLeftBy g call old) (image old)) (λ made. made.stops sized)
+
+  -- ---- A list of them.
+
+  later-run : (list : List Call) (answers : List Answer) (old new : Moment D St) → Run g list answers old new → IsLater (image old) (image new)
+  later-run [] [] old new same = subst (λ (m : Moment D St). IsLater (image old) (image m)) (sym same) (is_later_same (image old))
+  later-run (call ∷ list) (answer ∷ answers) old new run =
+      is_later_both (image old) (image run.0) (image new) (later-one call answer old run.0 run.1) run.3
+  later-run [] (answer ∷ answers) old new run = absurd run
+  later-run (call ∷ list) [] old new run = absurd run
+
+  -- what a stop leaves, which is sound
+  abbrev Leaves : List Call → List Answer → Moment D St → List ℕ → Type 0
+  Leaves list answers old f = IsLeftIn g list answers old f × g.sound (g.layer old.now.drivers.0).fixed.kind f
+
+  left-first : (call : Call) (list : List Call) (answer : Answer) (answers : List Answer) (old : Moment D St) (f : List ℕ) → IsLeftBy g call old f
+      → Leaves (call ∷ list) (answer ∷ answers) old f
+  left-first call list answer answers old f left =
+      (record { before = zero; call = call; entry = old; is_call = refl; run = refl; left = left }, left.is_sound)
+
+  left-later : (call : Call) (list : List Call) (answer : Answer) (answers : List Answer) (old mid : Moment D St) → Goes g call answer old mid
+      → (f : List ℕ) → Leaves list answers mid f → Leaves (call ∷ list) (answer ∷ answers) old f
+  left-later call list answer answers old mid goes f left = (
+    record {
+      before = suc left.0.before;
+      call = left.0.call;
+      entry = left.0.entry;
+      is_call = left.0.is_call;
+      run = (
+        mid,
+        goes,
+        (λ _. left.0.run),
+        later-run (take left.0.before list) (take left.0.before answers) mid left.0.entry left.0.run,
+      );
+      left = left.0.left;
+    },
+    subst (λ (x : Fixed). g.sound x.kind f) (fixed-one call answer old mid goes) left.1,
+  )
+
+  passes-run : (list : List Call) (answers : List Answer) (old new : Moment D St) → StatesSize g old.now.drivers → AllGoOn answers → Run g list answers old new
+      → Passes (Leaves list answers old) (image old) (image new)
+  passes-run [] [] old new sized on same =
+      subst (λ (m : Moment D St). Passes (Leaves [] [] old) (image old) (image m)) (sym same) (none-passes (Leaves [] [] old) (image old))
+  passes-run (call ∷ list) (answer ∷ answers) old new sized on run =
+      let mid = run.0 in
+      let sized_then = subst (λ (x : Fixed). IsTrue x.exact) (sym (fixed-one call answer old mid run.1)) sized in
+      passes_both (IsLeftBy g call old) (Leaves list answers mid) (Leaves (call ∷ list) (answer ∷ answers) old) (image old) (image mid) (image new)
+      (later-one call answer old mid run.1) run.3 (left-first call list answer answers old) (λ _. left-later call list answer answers old mid run.1)
+      (passes-one call answer old mid sized run.1) (passes-run list answers mid new sized_then on.1 (run.2 on.0))
+  passes-run [] (answer ∷ answers) old new sized on run = absurd run
+  passes-run (call ∷ list) [] old new sized on run = absurd run
+
+  -- what is kept at the end is given up without a request
+  ended : (kept : Option (PreparedDataMapping St)) (drivers new : D × List D)
+      → MatchOption kept (new ≡ drivers) (λ m. ChainCancels g m.state drivers new × (g.image new.0 ≡ g.image drivers.0)) → g.image new.0 ≡ g.image drivers.0
+  ended None drivers new same = ap (λ (c : D × List D). g.image c.0) same
+  ended (Some m) drivers new up = up.1
+
+  -- each file that a stop in the list leaves
+  pub stops-told : (since : Since) (list : List Call) (answers : List Answer) (old new : D × List D) → GoesOnTelling g since list answers old new
+      → StopsIn (Leaves list answers (moment (holding old None) since)) (g.image old.0) (g.image new.0)
+  stops-told since list answers old new goes =
+      let a = g.image old.0 in
+      let b = g.image new.0 in
+      let start = moment (holding old None) since in
+      let t = goes.telling in
+      let last = goes.driven.last in
+      let same : b ≡ image last = ended last.now.kept last.now.drivers new (goes.driven.ends goes.on) in
+      let passes : Passes (Leaves list answers start) a b =
+      subst (λ (s : StorageState). Passes (Leaves list answers start) a s) (sym same) (passes-run list answers start last t.sized goes.on goes.driven.run) in
+      let refusals = (goes.driven.calm goes.on).1 in
+      let calm : Rose a.refusals b.refusals → ⊥ = λ r. omega (arith, refusals, r.rose (omega (arith, refusals, t.room))) in
+      (passes calm).1 (λ _ _. (t.stands t.sized t.tells t.keeps t.room).0) t.tells t.keeps

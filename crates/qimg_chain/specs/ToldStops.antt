@@ -1,0 +1,76 @@
+-- Stops that the storage of a chain's top tells, and what is said of those in a list of calls.
+use Rattle.std.specs.Prelude.{◌≡◌, ℕ, ◌+◌, ◌<◌, ◌^◌, Bool, List, [], ◌∷◌, Some, None, take, slice_get, map, IsTrue}
+use Rattle.imago_storage.specs.Log.{telling}
+use Rattle.imago_storage.specs.MemStorage.{memory}
+use Rattle.imago_storage.specs.State.{StorageState}
+use Rattle.imago_storage.specs.Through.{StopsIn}
+use Rattle.imago_access.specs.Layers.{chain}
+use Rattle.imago_access.specs.Running.{chain_disk}
+use Rattle.imago_access.specs.declared.format.Format.TheVariants.{Qcow2}
+use Rattle.imago_access.specs.declared.seen.Seen.{Ghosts}
+use Rattle.qcow2_types.specs.Bytes.{bytes_of}
+use Rattle.qcow2_types.specs.Consistency.{Consistent, IsConsistent}
+use Rattle.qcow2_types.specs.Header.{Header}
+use Rattle.qimg_calls.specs.Held.{IsReady}
+use Rattle.qimg_calls.specs.Runs.{AllGoOn, Driven, IsLeftBy, Moment, Run, StandsSince, StatesSize}
+use Rattle.qimg_calls.specs.Since.{Since, flushed}
+use Rattle.qimg_calls.specs.declared.call.Call.{Call}
+use Rattle.qimg_calls.specs.declared.call.Answer.{Answer}
+use Rattle.qimg_core.specs.declared.plain.ChainFile.{ChainFile}
+use Rattle.qimg_chain.specs.Chains.{AreInPlace, AreLayers}
+
+-- All that what is said of stops in a list of calls rests on: calls may begin, and the chain shows what it may since the last flush; the
+-- top's file states the size of its disk; and its storage tells its stops, keeps what is written, and can count one more refused change.
+pub record TellsStops {D St : Type 0} (g : Ghosts D St) (since : Since) (c : D × List D) : Type 0 where
+  pub ready : IsReady g c
+  pub stands : StandsSince g since c
+  pub sized : StatesSize g c
+  pub tells : IsTrue (g.image c.0).shape.tells
+  pub keeps : IsTrue (g.image c.0).shape.keeps
+  pub room : (g.image c.0).refusals + 1 < 2 ^ 64
+
+-- A file that a stop in one call of a list leaves: the call is begun at the moment to which those before it lead.
+pub record IsLeftIn {D St : Type 0} (g : Ghosts D St) (list : List Call) (answers : List Answer) (old : Moment D St)
+    (f : List ℕ) : Type 0 where
+  pub before : ℕ
+  pub call : Call
+  pub entry : Moment D St
+  pub is_call : slice_get list before ≡ Some call
+  pub run : Run g (take before list) (take before answers) old entry
+  pub left : IsLeftBy g call entry f
+
+-- The chain tells its stops, a list of calls is driven over it, and none of them is cut off.
+pub record GoesOnTelling {D St : Type 0} (g : Ghosts D St) (since : Since) (list : List Call) (answers : List Answer)
+    (old new : D × List D) : Type 0 where
+  pub telling : TellsStops g since old
+  pub driven : Driven g since list answers old new
+  pub on : AllGoOn answers
+
+-- A file is a consistent qcow2 image that names no backing file, without further files, in a storage that begins to tell its stops over new
+-- memory.
+pub record IsLoggedImage {S : Type 0} (state : S → StorageState) (file : ChainFile S) : Type 0 where
+  pub format : file.format ≡ Qcow2
+  pub none : file.extras.items ≡ []
+  pub bytes : List ℕ
+  pub align : ℕ
+  pub logged : state file.image ≡ telling (memory bytes align 0)
+  pub header : Header
+  pub sound : IsConsistent (bytes_of bytes) header
+  pub alone : header.backing_name ≡ None
+
+-- The chain is as the file opens by itself.
+pub record IsOpenedAlone {S D St : Type 0} (g : Ghosts D St) (state : S → StorageState) (writable : Bool) (number : ℕ)
+    (file : ChainFile S) (c : D × List D) : Type 0 where
+  pub layers : AreLayers g state writable number (file ∷ []) (chain c)
+  pub places : AreInPlace (map g.layer (chain c))
+
+-- A chain that the file opens as tells its stops from there on, with its disk as the one last flushed.
+abbrev pub OpensTelling : {S D St : Type 0} → Ghosts D St → (S → StorageState) → Bool → ℕ → ChainFile S → Type 0
+OpensTelling {D = D} g state writable number file =
+    (c : D × List D) → IsOpenedAlone g state writable number file c → TellsStops g (flushed (chain_disk g.layer c)) c
+
+-- Each file that a stop leaves in a list of calls over it is a consistent image, where no call is cut off.
+abbrev pub StopsConsistent : {S D St : Type 0} → Ghosts D St → (S → StorageState) → Bool → ℕ → ChainFile S → Type 0
+StopsConsistent {D = D} g state writable number file = (list : List Call) (answers : List Answer) (c new : D × List D)
+    → IsOpenedAlone g state writable number file c → Driven g (flushed (chain_disk g.layer c)) list answers c new → AllGoOn answers
+    → StopsIn (λ f. Consistent (bytes_of f)) (g.image c.0) (g.image new.0)
