@@ -1,13 +1,13 @@
 -- A plain read of files and a read of a chain that shows the same disk.
-use Rattle.std.proofs.Common.{◌≡◌, ◌⊎◌, ◌∙◌, ◌<◌, ◌≤◌, ◌+◌, ℕ, List, ap, arith, inl, inr, length, refl, sym}
-use Rattle.std.specs.Prelude.{slice_index, ltb}
+use Rattle.std.proofs.Common.{◌≡◌, ◌∙◌, ◌<◌, ◌≤◌, ◌+◌, ℕ, List, ap, arith, inl, inr, length, refl, sym}
+use Rattle.std.specs.Prelude.{slice_index}
 use Rattle.std.proofs.lemmas.Bool.{cases_lt, le-ltb}
 use Rattle.std.proofs.lemmas.List.{ext_get_or}
-use Rattle.imago_storage.specs.Disk.{Disk, Shows, Value, byte}
+use Rattle.imago_storage.specs.Disk.{Disk, Shows, byte}
 use Rattle.imago_storage.specs.Steps.{HoldsRange, Stays}
 use Rattle.imago_access.specs.Layer.{Layer}
 use Rattle.imago_access.specs.Running.{chain_disk}
-use Rattle.qimg_chain.specs.FileMeanings.{FileBytes, IsDiskOf, size_of, value_of}
+use Rattle.qimg_chain.specs.FileMeanings.{FileBytes, IsDiskOf, value_of}
 use Rattle.qimg_chain.proofs.PlainlyRead.{past_size}
 
 byte_is : (x y : ℕ) → byte x ≡ byte y → x ≡ y

@@ -28,7 +28,6 @@ use Rattle.qimg_chain.specs.PlainReads.{NoFileFails, NotPlainlyRead, RefusesRang
 use Rattle.qimg_chain.specs.Refusals.{FirstCause, IsCutOff, WhyNotLayers, misplaced}
 use Rattle.qimg_chain.proofs.Narrowing.{not_of_value}
 use Rattle.qimg_chain.specs.contracts.chain.image_driver.ImageDriverSeen.TheImpl as image_seen
-use Rattle.qimg_chain.specs.declared.chain.image_driver.ImageDriver.{ImageDriver}
 use Rattle.qimg_chain.specs.declared.chain.image_driver.ImageDriver.TheVariants as variant
 
 -- bytes that are lent never fail

@@ -1,5 +1,5 @@
 -- The files that are taken for the names in a descriptor.
-use Rattle.std.proofs.Common.{◌≡◌, ◌∙◌, ◌∷◌, ◌++◌, ◌<◌, ◌+◌, ◌-◌, [], ℕ, zero, suc, List, ap, arith, cond, drop, length, refl, subst, sym}
+use Rattle.std.proofs.Common.{◌≡◌, ◌∙◌, ◌∷◌, ◌++◌, ◌<◌, ◌+◌, [], ℕ, zero, suc, List, ap, arith, cond, drop, length, refl, subst, sym}
 use Rattle.std.specs.Prelude.{All, Bool, Ok, false, map, slice_index, slice_index_or, true}
 use Rattle.std.specs.Str.{bytes_eq}
 use Rattle.std.specs.String.{string_bytes}

@@ -1,10 +1,6 @@
 -- Why lines of a script are refused, and what is found in the file that one checks.
 use Rattle.std.proofs.Common.{◌≡◌, refl, ap, arith, subst, ℕ, zero, suc, ◌+◌, ◌<◌, ◌^◌, List, [], ◌∷◌, ◌++◌, length, take}
-use Rattle.std.specs.Prelude.{Err}
-use Rattle.imago_storage.specs.declared.fault.Fault.{Fault}
-use Rattle.imago_storage.specs.declared.fault.Fault.TheVariants.{BadArgument, Memory}
 use Rattle.imago_storage.specs.State.{StorageState}
-use Rattle.imago_access.specs.declared.seen.Seen.{Ghosts}
 use Rattle.qcow2_types.specs.Bytes.{Bytes}
 use Rattle.qcow2_types.specs.Consistency.{Finding, header, snapshots, external, table, shared_table, false_copied, under_counted}
 use Rattle.qimg_core.specs.Check.{Found, IsFinding}

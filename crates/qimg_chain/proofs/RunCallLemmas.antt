@@ -1,7 +1,6 @@
 -- The calls that lines of a script ask for, and their answers.
-use Rattle.std.proofs.Common.{◌≡◌, inl, inr, ℕ, List, [], ◌∷◌, refl, sym, subst, ap, false}
-use Rattle.std.specs.Prelude.{None, Some, IsFalse, IsSome, IsTrue, Vec, nat_lt}
-use Rattle.std.specs.Global.{Global}
+use Rattle.std.proofs.Common.{◌≡◌, inl, inr, ℕ, List, [], ◌∷◌, refl, sym, subst, ap}
+use Rattle.std.specs.Prelude.{None, Some, IsFalse, IsSome, IsTrue}
 use Rattle.imago_storage.specs.declared.fault.Fault.{Fault}
 use Rattle.imago_storage.specs.declared.fault.Fault.TheVariants.{Memory}
 use Rattle.imago_access.specs.declared.seen.Seen.{Ghosts}

@@ -1,5 +1,5 @@
 -- The bytes of a script that were read, line by line, within its limits.
-use Rattle.std.proofs.Common.{◌≡◌, ◌≢◌, ℕ, ◌+◌, ◌-◌, ◌<◌, ◌≤◌, ◌∙◌, List, [], ◌∷◌, ◌++◌, length, take, refl, ap, sym, arith, length-append, add-one}
+use Rattle.std.proofs.Common.{◌≡◌, ◌≢◌, ℕ, ◌+◌, ◌<◌, ◌≤◌, ◌∙◌, List, [], ◌∷◌, ◌++◌, length, take, refl, ap, sym, arith, length-append, add-one}
 use mathlib.Core.List.{append_assoc}
 use Rattle.std.specs.Prelude.{⊤, Option, Some, None, option_map, IfSome, Ok, Err, Vec}
 use Rattle.std.specs.Global.{Global}

@@ -11,7 +11,6 @@ use Rattle.imago_access.specs.declared.format.Format.{Format}
 use Rattle.imago_access.specs.Building.{IsOpened}
 use Rattle.imago_access.specs.Layer.{Layer}
 use Rattle.imago_access.specs.FileReads.{FilesRead}
-use Rattle.imago_access.specs.Files.{files}
 use Rattle.imago_access.specs.Going.{AtOnce, IsKnown, IsSpared, IsUnchanged, Looked, Marks, MarksOver, Went}
 use Rattle.imago_access.specs.Room.{LeavesRoom}
 use Rattle.imago_access.specs.Stops.{KeepsStopsTo, Left, GivesNone}

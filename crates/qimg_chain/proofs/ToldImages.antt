@@ -1,5 +1,5 @@
 -- An image in a storage that begins to tell its stops opens as a chain that tells them.
-use Rattle.std.proofs.Common.{◌≡◌, ◌∙◌, ℕ, List, [], ◌∷◌, arith, refl, sym, subst, ap}
+use Rattle.std.proofs.Common.{◌≡◌, ◌∙◌, ℕ, List, [], arith, refl, sym, subst, ap}
 use Rattle.std.specs.Prelude.{Bool, IsTrue}
 use Rattle.imago_storage.specs.State.{Shape, StorageState}
 use Rattle.imago_access.specs.declared.format.Format.TheVariants.{Qcow2}

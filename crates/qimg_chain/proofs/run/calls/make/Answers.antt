@@ -1,7 +1,7 @@
 use Rattle.std.proofs.Common.{◌≡◌, List, [], ◌∷◌, ◌++◌, length, subst}
 use Rattle.qimg_calls.specs.Making.{AnswersAlone, MadeAll}
 use Rattle.qimg_calls.specs.declared.call.Answer.{Answer}
-use Rattle.qimg_calls.proofs.Alone.{alone-cut, alone-fits, alone-one}
+use Rattle.qimg_calls.proofs.Alone.{alone-fits, alone-one}
 use Rattle.qimg_chain.proofs.run.calls.make.Goals as goal
 
 -- one answer is the last one

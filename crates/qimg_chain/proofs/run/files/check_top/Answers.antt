@@ -1,8 +1,7 @@
-use Rattle.std.proofs.Common.{◌≡◌, ◌∙◌, ap, refl, sym, List, ℕ}
+use Rattle.std.proofs.Common.{◌≡◌, ◌∙◌, ap, refl, sym}
 use Rattle.imago_storage.specs.MemStorage.{mem_state}
 use Rattle.imago_storage.specs.State.{StorageState}
 use Rattle.imago_storage.specs.View.{view_state}
-use Rattle.imago_access.specs.declared.format.Format.TheVariants.{Qcow2}
 use Rattle.qcow2_types.specs.Bytes.{bytes_of}
 use Rattle.qimg_chain.proofs.RunAnswerLemmas.{unsound}
 use Rattle.qimg_chain.proofs.run.files.check_top.Goals as goal
