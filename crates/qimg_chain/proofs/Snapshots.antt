@@ -1,6 +1,6 @@
 -- Copies of the files of a chain.
 use Rattle.std.proofs.Common.{◌≡◌, ◌<◌, ◌≤◌, ◌∙◌, ◌∷◌, ◌++◌, ◌+◌, ◌^◌, [], ℕ, zero, suc, List, ap, arith, get_or, length, map, refl, subst, sym, take}
-use Rattle.std.specs.Prelude.{⊤, Result, Ok, Err, IfErr, IsOkUnless, slice_index}
+use Rattle.std.specs.Prelude.{⊤, Result, Ok, Err, IfErr, IsErrAnd, IsOkUnless, slice_index}
 use Rattle.std.specs.String.{string_bytes}
 use Rattle.std.specs.declared.alloc.Global.{Global}
 use Rattle.std.specs.declared.string.String.{String}
@@ -9,13 +9,14 @@ use Rattle.imago_storage.specs.declared.memory.MemStorage.{MemStorage}
 use Rattle.qimg_core.specs.declared.plain.ChainFile.{ChainFile}
 use Rattle.std.proofs.lemmas.Grind.{same_number_lists}
 use Rattle.std.proofs.lemmas.List.{map-append, take_all}
+use Rattle.std.proofs.lemmas.Result.{err_from_is_err_and}
 use Rattle.imago_storage.specs.State.{StorageState, IsAlignment}
 use Rattle.imago_storage.specs.Calls.{IsFaultless}
 use Rattle.imago_storage.specs.declared.fault.Fault.{Fault}
 use Rattle.imago_storage.specs.declared.fault.Fault.TheVariants.{RangeOverflow, Memory, Storage}
 use Rattle.imago_access.specs.declared.seen.Seen.{Ghosts}
 use Rattle.imago_access.specs.FileReads.{file_bytes_in, files_at, FilesRead, FileReadCause}
-use Rattle.imago_access.specs.Files.{AreRead, OverflowsIn, Pairs, byte_in, files, files_of}
+use Rattle.imago_access.specs.Files.{AreRead, IsMild, OverflowsIn, Pairs, WasNotCutOff, byte_in, files, files_of}
 use Rattle.imago_access.specs.Refusals.{IsOfStorages}
 use Rattle.imago_access.proofs.FilePairs.{faultless_all_both, some_rose_behind}
 use Rattle.imago_access.proofs.FileReads.{all_read_looked, fits_at}
@@ -27,6 +28,12 @@ use Rattle.qimg_chain.specs.Snapshots.{Names, WhyNotCopied, filled, names_of, sa
 length_map : {A B : Type 0} (f : A → B) (xs : List A) → length (map f xs) ≡ length xs
 length_map f [] = refl
 length_map f (x ∷ xs) = let rest = length_map f xs in omega (arith, rest)
+
+-- what is so unless a call was cut off, of one whose fault a `?` passes on
+pub passed_mildly : {T : Type 0} (result : Result T Fault) (fault : Fault) → IsErrAnd result (λ e. e ≡ fault) → (P : Type 0 → Type 0) → P (IsMild fault) → P (WasNotCutOff result)
+passed_mildly {T} result fault is_err P holds =
+    let p = err_from_is_err_and result is_err in
+    subst (λ (r : Result T Fault). P (WasNotCutOff r)) (sym p.1) (subst (λ (e : Fault). P (IsMild e)) (sym p.2) holds)
 
 -- ---- The bytes of one file.
 

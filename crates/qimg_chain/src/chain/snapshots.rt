@@ -40,16 +40,11 @@ pub fn snapshot<D: NamesFiles + ReadFiles>(
     // Why it is refused.
     ensures cause { IfErr result (WhyNotCopied (files_of D.Seen (drivers chain.old)) (files_of D.Seen (drivers chain.new))) }
 {
-    let layers = match layer_names(alloc, chain) {
-        Ok(layers) => layers,
-        Err(fault) => return Err(fault),
-    };
+    let layers = layer_names(alloc, chain)?;
     let mut files = Vec::new(alloc);
     for layer in 0..layers.len() {
-        match copy_layer(alloc, chain, layer, &layers[layer]) {
-            Ok(file) => files.push(file)?,
-            Err(fault) => return Err(fault),
-        }
+        let file = copy_layer(alloc, chain, layer, &layers[layer])?;
+        files.push(file)?;
     }
     Ok(files)
 }
@@ -100,16 +95,11 @@ fn copy_layer<D: NamesFiles + ReadFiles>(
     ensures read { Pairs (FilesRead D.Seen (WasNotCutOff result)) (drivers chain.old) (drivers chain.new) }
     ensures cause { IfErr result (WhyNotCopied (files_of D.Seen (drivers chain.old)) (files_of D.Seen (drivers chain.new))) }
 {
-    let image = match copy_file(alloc, chain, layer, 0) {
-        Ok(image) => image,
-        Err(fault) => return Err(fault),
-    };
+    let image = copy_file(alloc, chain, layer, 0)?;
     let mut extras = Vec::new(alloc);
     for index in 0..names.names.len() {
-        match copy_file(alloc, chain, layer, index + 1) {
-            Ok(file) => extras.push((names.names[index].clone()?, file))?,
-            Err(fault) => return Err(fault),
-        }
+        let file = copy_file(alloc, chain, layer, index + 1)?;
+        extras.push((names.names[index].clone()?, file))?;
     }
     Ok(ChainFile {
         format: names.format,
@@ -131,8 +121,6 @@ fn copy_file<D: ReadFiles>(
 {
     let size = chain.file_size(layer, file);
     let mut bytes = vec![in alloc; 0u8; size as usize]?;
-    match chain.read_file(alloc, layer, file, 0, &mut bytes) {
-        Ok(()) => MemStorage::from_bytes(bytes),
-        Err(fault) => Err(fault),
-    }
+    chain.read_file(alloc, layer, file, 0, &mut bytes)?;
+    MemStorage::from_bytes(bytes)
 }

@@ -1,7 +1,9 @@
 use Rattle.std.proofs.Common.{rules, ◌∙◌, ap, arith, subst, sym}
 use Rattle.std.specs.Prelude.{⊤}
-use Rattle.imago_access.specs.FileReads.{files_at}
-use Rattle.imago_access.specs.Files.{IsMild, WasNotCutOff, files_of}
+use Rattle.imago_storage.proofs.Parts.{passed}
+use Rattle.imago_access.specs.FileReads.{FilesRead, files_at}
+use Rattle.imago_access.specs.Files.{IsMild, Pairs, WasNotCutOff, files_of}
+use Rattle.imago_access.specs.Going.{Looked}
 use Rattle.imago_access.specs.Layers.{chain as drivers}
 use Rattle.imago_access.proofs.FilePairs.{faultless_all_same}
 use Rattle.imago_access.proofs.FileReads.{all_read_both, all_read_looked, all_read_same, bytes_at_kept}
@@ -9,14 +11,14 @@ use Rattle.imago_access.proofs.Looking.{all_looked_same}
 use Rattle.imago_storage.specs.MemStorage.{mem_state}
 use Rattle.qimg_chain.specs.FileMeanings.{files_bytes}
 use Rattle.qimg_chain.specs.Snapshots.{said_names, WhyNotCopied}
-use Rattle.qimg_chain.proofs.Snapshots.{calm, cause_behind, files_more, filled_kept, wanting}
+use Rattle.qimg_chain.proofs.Snapshots.{calm, cause_behind, files_more, filled_kept, passed_mildly, wanting}
 use Rattle.qimg_chain.proofs.chain.snapshots.snapshot.Goals as goal
 
-pub returns-in-Err-clause-read : goal.returns-in-Err-clause-read
-returns-in-Err-clause-read g c = all_read_same g.D.Seen (IsMild c.in-Err.fault) (drivers c.args.chain.now)
+pub returns-in_err-layers-clause-read : goal.returns-in_err-layers-clause-read
+returns-in_err-layers-clause-read g c = all_read_same g.D.Seen (WasNotCutOff c.from_residual.result) (drivers c.args.chain.now)
 
-pub returns-in-Err-clause-looked : goal.returns-in-Err-clause-looked
-returns-in-Err-clause-looked g c = all_looked_same g.D.Seen (IsMild c.in-Err.fault) (drivers c.args.chain.now)
+pub returns-in_err-layers-clause-looked : goal.returns-in_err-layers-clause-looked
+returns-in_err-layers-clause-looked g c = all_looked_same g.D.Seen (WasNotCutOff c.from_residual.result) (drivers c.args.chain.now)
 
 pub loop-layer-init : goal.loop-layer-init
 loop-layer-init g c = record {
@@ -29,60 +31,66 @@ loop-layer-preserved g c =
     let d = g.D.Seen in
     let old = drivers c.args.chain.now in let now = drivers c.loop-layer.chain in
     let i = c.loop-layer.layer in
-    let layers = c.in-Ok.layers in
-    let copied = c.in-Ok-copy_layer.ensures.ok
+    let layers = c.in_ok-layers.layers in
+    let copied = c.in_ok-file.ensures.ok
     ∙ filled_kept (said_names c.index.result.now) (files_at d old i) (files_at d now i) (λ n. bytes_at_kept d ⊤ old now i n c.loop-layer.invariant.read) in
     record {
-      so_far = ap (λ items. files_bytes mem_state items) c.in_ok-push-in-Ok-copy_layer.ensures.items
-          ∙ files_more d g.D.NamesFiles.names old layers.items i c.index.result.now c.loop-layer.files.items c.in-Ok-copy_layer.file c.loop-layer.invariant.so_far c.in-Ok.ensures.ok
+      so_far = ap (λ items. files_bytes mem_state items) c.in_ok-push.ensures.items
+          ∙ files_more d g.D.NamesFiles.names old layers.items i c.index.result.now c.loop-layer.files.items c.in_ok-file.file c.loop-layer.invariant.so_far c.in_ok-layers.ensures.ok
           (omega (arith, c.loop-layer-test.true, c.len-layer-end.ensures, layers.ok.0)) c.index.ensures copied;
-      read = all_read_both d ⊤ old now (drivers c.copy_layer.new.chain) c.loop-layer.invariant.read c.in-Ok-copy_layer.ensures.read;
+      read = all_read_both d ⊤ old now (drivers c.copy_layer.new.chain) c.loop-layer.invariant.read c.in_ok-file.ensures.read;
     }
 
-pub returns-in_err-push-in-Ok-copy_layer-clause-read : goal.returns-in_err-push-in-Ok-copy_layer-clause-read
-returns-in_err-push-in-Ok-copy_layer-clause-read g c =
+pub returns-in_err-push-clause-read : goal.returns-in_err-push-clause-read
+returns-in_err-push-clause-read g c =
     let d = g.D.Seen in
     let old = drivers c.args.chain.now in let now = drivers c.loop-layer.chain in let new = drivers c.copy_layer.new.chain in
-    let whole = WasNotCutOff c.from_residual.result in
-    all_read_both d whole old new new (all_read_both d ⊤ old now new c.loop-layer.invariant.read c.in-Ok-copy_layer.ensures.read) (all_read_same d whole new)
+    let whole = WasNotCutOff c.from_residual-in_err-push.result in
+    all_read_both d whole old new new (all_read_both d ⊤ old now new c.loop-layer.invariant.read c.in_ok-file.ensures.read) (all_read_same d whole new)
 
-pub returns-in_err-push-in-Ok-copy_layer-clause-looked : goal.returns-in_err-push-in-Ok-copy_layer-clause-looked
-returns-in_err-push-in-Ok-copy_layer-clause-looked g c =
+pub returns-in_err-push-clause-looked : goal.returns-in_err-push-clause-looked
+returns-in_err-push-clause-looked g c =
     let d = g.D.Seen in
     let old = drivers c.args.chain.now in let now = drivers c.loop-layer.chain in let new = drivers c.copy_layer.new.chain in
-    let whole = WasNotCutOff c.from_residual.result in
+    let whole = WasNotCutOff c.from_residual-in_err-push.result in
     all_read_looked d whole old new
-    (all_read_both d whole old new new (all_read_both d ⊤ old now new c.loop-layer.invariant.read c.in-Ok-copy_layer.ensures.read) (all_read_same d whole new))
+    (all_read_both d whole old new new (all_read_both d ⊤ old now new c.loop-layer.invariant.read c.in_ok-file.ensures.read) (all_read_same d whole new))
 
-pub returns-in-Err-copy_layer-clause-read : goal.returns-in-Err-copy_layer-clause-read
-returns-in-Err-copy_layer-clause-read g c =
+pub returns-in_err-file-clause-read : goal.returns-in_err-file-clause-read
+returns-in_err-file-clause-read g c =
     let old = drivers c.args.chain.now in let now = drivers c.loop-layer.chain in let new = drivers c.copy_layer.new.chain in
-    all_read_both g.D.Seen (IsMild c.in-Err-copy_layer.fault) old now new c.loop-layer.invariant.read c.in-Err-copy_layer.ensures.read
+    passed_mildly c.from_residual-in_err-file.result c.in_err-file.field-0.0 c.from_residual-in_err-file.ensures.1
+    (λ whole. Pairs (FilesRead g.D.Seen whole) old new)
+    (all_read_both g.D.Seen (IsMild c.in_err-file.field-0.0) old now new c.loop-layer.invariant.read c.in_err-file.ensures.read)
 
-pub returns-in-Err-copy_layer-clause-looked : goal.returns-in-Err-copy_layer-clause-looked
-returns-in-Err-copy_layer-clause-looked g c =
+pub returns-in_err-file-clause-looked : goal.returns-in_err-file-clause-looked
+returns-in_err-file-clause-looked g c =
     let d = g.D.Seen in
     let old = drivers c.args.chain.now in let now = drivers c.loop-layer.chain in let new = drivers c.copy_layer.new.chain in
-    let whole = IsMild c.in-Err-copy_layer.fault in
-    all_read_looked d whole old new (all_read_both d whole old now new c.loop-layer.invariant.read c.in-Err-copy_layer.ensures.read)
+    let whole = IsMild c.in_err-file.field-0.0 in
+    passed_mildly c.from_residual-in_err-file.result c.in_err-file.field-0.0 c.from_residual-in_err-file.ensures.1
+    (λ whole. Pairs (Looked d whole) old new)
+    (all_read_looked d whole old new (all_read_both d whole old now new c.loop-layer.invariant.read c.in_err-file.ensures.read))
 
-pub returns-in-Err-copy_layer-clause-cause : goal.returns-in-Err-copy_layer-clause-cause
-returns-in-Err-copy_layer-clause-cause g c =
+pub returns-in_err-file-clause-cause : goal.returns-in_err-file-clause-cause
+returns-in_err-file-clause-cause g c =
     let old = drivers c.args.chain.now in let now = drivers c.loop-layer.chain in let new = drivers c.copy_layer.new.chain in
-    cause_behind g.D.Seen old now new c.in-Err-copy_layer.fault c.loop-layer.invariant.read c.in-Err-copy_layer.ensures.cause
+    passed c.from_residual-in_err-file.result _ c.in_err-file.field-0.0 c.from_residual-in_err-file.ensures.1
+    (cause_behind g.D.Seen old now new c.in_err-file.field-0.0 c.loop-layer.invariant.read c.in_err-file.ensures.cause)
 
 pub returns-clause-looked : goal.returns-clause-looked
 returns-clause-looked g c =
     all_read_looked g.D.Seen ⊤ (drivers c.args.chain.now) (drivers c.loop-layer.chain) c.loop-layer.invariant.read
 
-pub returns-in-Err-clause-cause : goal.returns-in-Err-clause-cause
-returns-in-Err-clause-cause g c =
+pub returns-in_err-layers-clause-cause : goal.returns-in_err-layers-clause-cause
+returns-in_err-layers-clause-cause g c =
     let ss = files_of g.D.Seen (drivers c.args.chain.now) in
-    subst (WhyNotCopied ss ss) (sym c.in-Err.ensures.err) (faultless_all_same ss)
+    passed c.from_residual.result _ c.in_err-layers.field-0.0 c.from_residual.ensures.1
+    (subst (WhyNotCopied ss ss) (sym c.in_err-layers.ensures.err) (faultless_all_same ss))
 
-pub returns-in_err-push-in-Ok-copy_layer-clause-cause : goal.returns-in_err-push-in-Ok-copy_layer-clause-cause
-returns-in_err-push-in-Ok-copy_layer-clause-cause g c =
+pub returns-in_err-push-clause-cause : goal.returns-in_err-push-clause-cause
+returns-in_err-push-clause-cause g c =
     let d = g.D.Seen in
     let old = drivers c.args.chain.now in let now = drivers c.loop-layer.chain in let new = drivers c.copy_layer.new.chain in
-    wanting c.from_residual.result (WhyNotCopied (files_of d old) (files_of d new))
-    (calm d old new (all_read_both d ⊤ old now new c.loop-layer.invariant.read c.in-Ok-copy_layer.ensures.read)) (search rules)
+    wanting c.from_residual-in_err-push.result (WhyNotCopied (files_of d old) (files_of d new))
+    (calm d old new (all_read_both d ⊤ old now new c.loop-layer.invariant.read c.in_ok-file.ensures.read)) (search rules)
