@@ -58,8 +58,6 @@ pub fn read_plainly<D: FormatDriverInstance<Storage = MemStorage> + NamesFiles>(
 {
     let mut buf = buffer(alloc, count)?;
     let files = lend(alloc, chain)?;
-    match plain_read(alloc, files, offset, &mut buf) {
-        Ok(()) => Ok(Bytes::from(buf)),
-        Err(fault) => Err(fault),
-    }
+    plain_read(alloc, files, offset, &mut buf)?;
+    Ok(Bytes::from(buf))
 }
