@@ -11,7 +11,9 @@
 //! | 0 | | the script has ended, whatever was answered |
 //! | 1 | `qimg: error N` | the chain doesn't open, by the fault with this number |
 //! | 2 | `qimg: bad arguments` | the arguments aren't these |
-//! | 3 | `qimg: input or output failed` | a file or a stream failed, memory was wanting for it, or the script is too long; or the top, opened for writing, is no regular file, may not be written, or has changed by the end |
+//! | 3 | `qimg: input or output failed` | a file or a stream failed, memory was wanting for it, or the script is too long |
+//!
+//! The status is 3, too, where the top is opened for writing and is no regular file, may not be written, or has changed by the end.
 #![tactic(auto)]
 
 mod failure;

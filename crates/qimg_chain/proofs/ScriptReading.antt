@@ -204,8 +204,6 @@ pub unread : (text : List ℕ) (r : Result Line Fault) → length text ≤ 65536
 unread text (Ok line) short h = h
 unread text (Err Memory) short h = record {
   short = short;
-  words = words_of text;
-  joined = sym (join_with_byte-slice_split 32 text);
   write = h;
 }
 unread text (Err BadCommand) short h = no_line text h

@@ -4,7 +4,7 @@ use Rattle.std.specs.List.{join_with_byte}
 use Rattle.imago_storage.specs.declared.fault.Fault.{Fault}
 use Rattle.imago_storage.specs.declared.fault.Fault.TheVariants.{Memory, BadCommand}
 use Rattle.imago_access.specs.declared.format.PreallocateMode.{PreallocateMode}
-use Rattle.qimg_chain.specs.ScriptWords.{ArePairs, number_of, bytes_of, mode_word}
+use Rattle.qimg_chain.specs.ScriptWords.{ArePairs, words_of, number_of, bytes_of, mode_word}
 use Rattle.qimg_chain.specs.declared.script.line.Line.{Line}
 use Rattle.qimg_chain.specs.declared.script.line.Line.TheVariants.{Size, Read, Write, Zero, Discard, DiscardAny, DiscardBacking, Grow, Shrink, Flush, Check, Plain, Save}
 
@@ -64,9 +64,7 @@ IsWrite words = HasTwo (codes "write") (λ first. IsSome (number_of first)) AreP
 -- Memory may be wanting for a text: it is a write that isn't longer than a line.
 pub record MayWant (text : List ℕ) : Type 0 where
   pub short : length text ≤ 65536
-  pub words : List (List ℕ)
-  pub joined : text ≡ join_with_byte 32 words
-  pub write : IsWrite words
+  pub write : IsWrite (words_of text)
 
 -- Why a text isn't taken as a line: it is none, or want of memory for the bytes of a write.
 abbrev pub NotLine : List ℕ → Fault → Type 0
