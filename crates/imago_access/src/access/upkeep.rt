@@ -76,7 +76,7 @@ impl<D: FormatDriverInstance> FormatAccess<D> {
     }
 
     /// Drops what the layers hold in memory, written or not, and reads what they need of their files again, from the top layer downward.
-    /// Nothing may be prepared in any. Right after a flush it changes no byte of the disk.
+    /// Nothing may be prepared in any. Right after a flush, and while nothing waits in a layer below, it changes no byte of the disk.
     ///
     /// It refuses with `Fault::DamagedHeader`, `Fault::DamagedTable`, `Fault::Unsupported`, `Fault::Limit` and `Fault::CacheFull`, with
     /// which the layer has failed, with `Fault::Memory` and `Fault::Storage`, and where a layer can't be used. With `Fault::Storage` the
