@@ -1,10 +1,10 @@
 -- What single changes of its clusters leave of an image.
-use Rattle.std.proofs.Common.{◌≡◌, ◌≢◌, ℕ, ◌+◌, ◌*◌, ◌/◌, ◌^◌, ◌<◌, ◌≤◌, refl, arith, ap, sym, subst, ◌∙◌, inl, inr, Bool, true, false, List, [], ◌++◌, ◌-◌, length, Option, Some, None, Result, Ok, Err}
+use Rattle.std.proofs.Common.{◌≡◌, ◌≢◌, ℕ, ◌+◌, ◌-◌, ◌*◌, ◌/◌, ◌^◌, ◌<◌, ◌≤◌, refl, arith, ap, sym, subst, ◌∙◌, inl, inr, Bool, true, false, List, [], ◌++◌, length, Option, Some, None, Result, Ok, Err}
 use Rattle.std.proofs.Math.Nat.{le-max_left, le-max_right}
 use Rattle.std.proofs.lemmas.Bool.{cases_eq, cases_lt, le-ltb, ne_eqb}
 use Rattle.std.proofs.lemmas.List.{append-nil}
 use Rattle.std.proofs.lemmas.Nat.{pow_pos}
-use Rattle.std.specs.Prelude.{⊤, IsTrue, IsSome, IfSome, is_some, IfOk, IfErr, OnOk, max, min, replicate, slice_index, ◌==◌, if◌then◌else◌}
+use Rattle.std.specs.Prelude.{⊤, ◌⊎◌, IsTrue, IsSome, IfSome, is_some, IfOk, IfErr, OnOk, max, min, replicate, slice_index, ◌==◌, if◌then◌else◌}
 use Rattle.imago_storage.specs.State.{Rose, StorageState}
 use Rattle.imago_storage.specs.Calls.{Cause}
 use Rattle.imago_storage.specs.Disk.{Value}
@@ -29,7 +29,6 @@ use Rattle.qcow2_alloc.specs.declared.cache.MetadataCaches.{MetadataCaches}
 use Rattle.qcow2_alloc.proofs.Growth.LoadingTable.{allocator-refused}
 use Rattle.qcow2_alloc.proofs.Memory.Patches.{place-there}
 use Rattle.qcow2_steps.specs.Data.{IsKeptFor}
-use Rattle.qcow2_steps.specs.Words.{IsReserved}
 use Rattle.qcow2_steps.proofs.HiddenClusters.{kept-hidden}
 use Rattle.qcow2_clusters.specs.Filling.{Fills, filling}
 use Rattle.qcow2_steps.specs.LongerL1.{old_l1}
@@ -41,28 +40,29 @@ use Rattle.qcow2_clusters.specs.MakingTables.{CopiesTable, HasTable, IsTableless
 use Rattle.qcow2_clusters.specs.Progress.{Kind, Progresses, handing}
 use Rattle.qcow2_clusters.specs.Rest.{Clusters, IsReady, lent, resting}
 use Rattle.qcow2_clusters.specs.Room as room
-use Rattle.qcow2_clusters.specs.Storing.{Rests, Stores, handed_by, held_by}
+use Rattle.qcow2_clusters.specs.Storing.{AreReserved, Rests, StoresRun, handed_by, held_by, run_handed_by}
 use Rattle.qcow2_clusters.specs.Storing as clusters
 use Rattle.qcow2_clusters.specs.declared.space.Space.{Space}
-use Rattle.qcow2_image.specs.Allocating.{EnsuresTable, EnsuresWord, FillsContent, FreesPending, HasKept, KeepsTop, LoadsSpace, PlacesContent, StoresContent, WhyNotAllocated, WhyNotFilled, WhyNotFreed, failed_cut, waits_in}
-use Rattle.qcow2_image.specs.Holding.{Holding, IsOwnAs}
+use Rattle.qcow2_image.specs.Allocating.{EnsuresTable, EnsuresWord, FillsContent, FreesPending, HasKept, KeepsTop, LoadsSpace, PlacesContent, StoresContent, StoresMost, WhyNotAllocated, WhyNotFilled, WhyNotFreed, failed_cut, full_by, placed_by, waits_in}
+use Rattle.qcow2_image.specs.Holding.{AreOwnAs, Holding, IsOwnAs}
 use Rattle.qcow2_image.specs.KeepsDisk.{KeepsDisk, KeepsDiskWhere}
 use Rattle.qcow2_image.specs.Leaking.{KeepsLeaks, KeepsLeaksBut}
 use Rattle.qcow2_metadata.proofs.TableSteps.{padded_at}
 use Rattle.qcow2_clusters.specs.Room.{KeepsMarked}
 use Rattle.qcow2_clusters.proofs.LengtheningL1.{padded-long, some-taken}
-use Rattle.qcow2_image.specs.FreeSpace.{HasNoPlace, IsForTable, IsForWord, LacksFreeRun, LacksTable, LeavesFree, enough_for_one, enough_for_table, enough_for_word}
+use Rattle.qcow2_image.specs.FreeSpace.{HasNoPlace, IsForTable, IsForWord, LacksFreeRun, LacksTable, LeavesFree, enough_for_one, enough_for_run, enough_for_table, enough_for_word}
 use Rattle.qcow2_image.proofs.FreeRuns.{full-behind, full-in-run, full-more, lacks-as-words, lacks-in-file, leaves-in-run, leaves-more, leaves-none, leaves-then, run-fewer, run-same, safe-short, some-enough, why-full}
 use Rattle.qcow2_image.specs.Looking.{place_of_table}
 use Rattle.qcow2_image.specs.Rooms.{IsSafe, rest_of}
 use Rattle.qcow2_image.specs.Seen.{file_of}
 use Rattle.qcow2_image.specs.Steps.{KeepsImage, failed_by}
 use Rattle.qcow2_image.specs.Unspent.{holding_in}
+use Rattle.qcow2_image.specs.declared.allocating.Placed.{Placed}
 use Rattle.qcow2_image.specs.declared.qcow2.Qcow2.{Qcow2}
 use Rattle.qcow2_image.specs.declared.tables.Tables.{Tables}
 use Rattle.qcow2_image.proofs.FileWords.{place-in-file, place-named, some-offset, top-long, top-word}
 use Rattle.qcow2_image.proofs.KeepingDisks.{Spares, WhyNoSpace, keeps-disk-same, keeps-image-disk, later-refused, progress-keeps, safe-sound, space-keeps, space-refused, whole-below, keeps-disk-both}
-use Rattle.qcow2_image.proofs.Leaks.{advanced-leaks, leaks-all, leaks-both, leaks-but, leaks-loaded}
+use Rattle.qcow2_image.proofs.Leaks.{advanced-leaks, leaks-all, leaks-both, leaks-but, leaks-loaded, leaks-then}
 use Rattle.qcow2_image.proofs.KeptClusters.{apart-some, kept-at-rest, kept-in, kept-is}
 use Rattle.qcow2_image.proofs.Settling.{seen-same}
 use Rattle.qcow2_image.proofs.Steps.{keeps-marked}
@@ -305,28 +305,28 @@ if-err (Ok v) P Q each holds = tt
 if-err (Err e) P Q each holds = each e holds
 
 -- Bytes were stored.
-module _ {S : Type 0} (g : Ghosts S) (old : Qcow2 S g) (mid : Tables S g) (space space' : Space) (caches : MetadataCaches S) (bytes : List ℕ)
-    (result : Result ℕ Fault) (there : old.tables.space ≡ Some space) (there' : mid.space ≡ Some space') (l1 : mid.l1 ≡ old.tables.l1)
-    (free : old.unspent ≡ None)
-    (stores : Stores g.state bytes (lent old.tables.file caches space) result (lent mid.file mid.caches space')) where
+module _ {S : Type 0} (g : Ghosts S) (old : Qcow2 S g) (mid : Tables S g) (space space' : Space) (caches : MetadataCaches S) (n : ℕ)
+    (bytes : List ℕ) (result : Result ℕ Fault) (there : old.tables.space ≡ Some space) (there' : mid.space ≡ Some space') (l1 : mid.l1 ≡ old.tables.l1)
+    (free : old.unspent ≡ None) (some : 0 < n)
+    (stores : StoresRun g.state n bytes (lent old.tables.file caches space) result (lent mid.file mid.caches space')) where
   abbrev stored_now : Qcow2 S g
   stored_now = record old { tables = mid; failed = failed_cut result old.failed }
 
   l1-stored : IsSafe g old → WasNotCutOff result → IsL1Of (file_of g mid) mid.file.header.fields old.tables.l1
   l1-stored safe whole = stores.l1 (ready g old mid space space' caches result there there' stores.rests safe) (whole-below result whole) old.tables.l1 safe.seen.l1
 
-  reserved-now : (r : Result ℕ Fault) → IfOk r (IsReserved (rest_of g mid space')) → space'.to_free.held ≡ held_by r space.to_free.held
-      → IfOk r (λ x. (s : Space) × (mid.space ≡ Some s) × IsReserved (rest_of g mid s) x × (0 < s.to_free.held))
+  reserved-now : (r : Result ℕ Fault) → IfOk r (AreReserved n (rest_of g mid space')) → space'.to_free.held ≡ held_by r space.to_free.held
+      → IfOk r (λ x. (s : Space) × (mid.space ≡ Some s) × AreReserved n (rest_of g mid s) x × (0 < s.to_free.held))
   reserved-now (Ok x) reserved held = (space', there', reserved, omega (arith, held))
   reserved-now (Err fault) reserved held = tt
 
-  pub stored : StoresContent g bytes old result stored_now
+  pub stored : StoresContent g n bytes old result stored_now
   stored = record {
-    keeps = advanced g old mid space space' caches result there there' stores.rests (handed_by result) (λ c. 0)
-        (none-spared g old (Spares g (WasNotCutOff result) (handing (handed_by result) (λ c. 0)) old stored_now space space') free)
+    keeps = advanced g old mid space space' caches result there there' stores.rests (run_handed_by n result) (λ c. 0)
+        (none-spared g old (Spares g (WasNotCutOff result) (handing (run_handed_by n result) (λ c. 0)) old stored_now space space') free)
         (λ safe whole. subst (IsL1Of (file_of g mid) mid.file.header.fields) (sym l1) (l1-stored safe whole))
         (λ safe. stores.marked) (λ safe. stores.progress);
-    leaks = leaks-by g old mid space space' caches result there there' stores.rests (handing (handed_by result) (λ c. 0)) (handed_by result)
+    leaks = leaks-by g old mid space space' caches result there there' stores.rests (handing (run_handed_by n result) (λ c. 0)) (run_handed_by n result)
         (λ c. omega arith) stores.progress;
     marks = refl;
     top = record {
@@ -338,14 +338,124 @@ module _ {S : Type 0} (g : Ghosts S) (old : Qcow2 S g) (mid : Tables S g) (space
     named = stores.named;
     reserved = λ safe. reserved-now result (stores.reserved (ready g old mid space space' caches result there there' stores.rests safe)) stores.held;
     content = λ safe. stores.stored (ready g old mid space space' caches result there there' stores.rests safe);
-    cause = if-err result _ (WhyNotAllocated g (LacksFreeRun g 1 (enough_for_one old.tables) old.tables mid) old stored_now) (λ e.
+    cause = if-err result _ (WhyNotAllocated g (LacksFreeRun g n (enough_for_run old.tables n) old.tables mid) old stored_now) (λ e.
         allocated-why g old stored_now (IsReady g.state (lent old.tables.file caches space))
-        (room.IsFull 1 (rest_of g old.tables space) (mark_of space.allocator) (rest_of g mid space') (mark_of space'.allocator))
-        (LacksFreeRun g 1 (enough_for_one old.tables) old.tables mid)
+        (room.IsFull n (rest_of g old.tables space) (mark_of space.allocator) (rest_of g mid space') (mark_of space'.allocator))
+        (LacksFreeRun g n (enough_for_run old.tables n) old.tables mid)
         (g.state old.tables.file.image).faults (g.state mid.file.image).faults e
         (ready g old mid space space' caches result there there' stores.rests) refl refl
-        (λ number safe full. full-in-run g old.tables mid space space' there there' safe.searched 1 number (omega arith) full)) stores.cause;
+        (λ number safe full. full-in-run g old.tables mid space space' there there' safe.searched n number some full)) stores.cause;
   }
+
+-- They were stored in as many clusters as were asked for, or in one alone, or nowhere.
+module _ {S : Type 0} (g : Ghosts S) (n : ℕ) (bytes : List ℕ) (old : Qcow2 S g) (some : 0 < n) where
+  pub most-stored : (new : Qcow2 S g) (host : ℕ) → StoresContent g n bytes old (Ok host) new
+      → StoresMost g n bytes old (Ok (record { host = host; count = n; is_kept = false })) new
+  most-stored new host s = record {
+    keeps = s.keeps;
+    leaks = s.leaks;
+    marks = s.marks;
+    top = s.top;
+    unkept = refl;
+    many = (some, omega arith);
+    named = s.named;
+    reserved = s.reserved;
+    content = s.content;
+    cause = tt;
+  }
+
+  most-why : (new : Qcow2 S g) (e : Fault) → (n ≡ 1) ⊎ (full_by (Err e) ≡ false)
+      → WhyNotAllocated g (LacksFreeRun g n (enough_for_run old.tables n) old.tables new.tables) old new e
+      → WhyNotAllocated g (LacksFreeRun g 1 (enough_for_run old.tables n) old.tables new.tables) old new e
+  most-why new (Limit number) (inl one) why = λ safe.
+      subst (λ k. LacksFreeRun g k (enough_for_run old.tables n) old.tables new.tables number) one (why safe)
+  most-why new (Limit number) (inr other) why = absurd (cc other)
+  most-why new Memory is why = why
+  most-why new Storage is why = why
+  most-why new DamagedTable is why = why
+  most-why new Counter is why = why
+  most-why new _ is why = absurd why
+
+  pub most-unstored : (new : Qcow2 S g) (e : Fault) → (n ≡ 1) ⊎ (full_by (Err e) ≡ false) → StoresContent g n bytes old (Err e) new
+      → StoresMost g n bytes old (Err e) new
+  most-unstored new e is s = record {
+    keeps = s.keeps;
+    leaks = s.leaks;
+    marks = s.marks;
+    top = s.top;
+    unkept = tt;
+    many = tt;
+    named = tt;
+    reserved = λ safe. tt;
+    content = λ safe. tt;
+    cause = most-why new e is s.cause;
+  }
+
+  -- Where one was taken for want of a run, the image was as it is but for what was made for that.
+  module _ (mid new : Qcow2 S g) (number : ℕ) (full : StoresContent g n bytes old (Err (Limit number)) mid) where
+    top-then : (ok : Type 0) → KeepsTop g (IsSafe g mid × ok) mid new → KeepsTop g (IsSafe g old × ok) old new
+    top-then ok second = record {
+      l1 = second.l1 ∙ full.top.l1;
+      entries = second.entries ∙ full.top.entries;
+      tables = λ known i. second.tables (full.keeps.safely known.0 tt, known.1) i ∙ full.top.tables (known.0, tt) i;
+    }
+
+    pub most-alone : (host : ℕ) → StoresContent g 1 bytes mid (Ok host) new
+        → StoresMost g n bytes old (Ok (record { host = host; count = 1; is_kept = false })) new
+    most-alone host s = record {
+      keeps = keeps-disk-both g ⊤ ⊤ old mid new tt full.keeps s.keeps;
+      leaks = λ safe whole. leaks-then g (run_handed_by 1 (Ok host)) old mid new (leaks-all g old mid (full.leaks safe tt))
+          (s.leaks (full.keeps.safely safe tt) whole);
+      marks = s.marks ∙ full.marks;
+      top = top-then ⊤ s.top;
+      unkept = refl;
+      many = (omega arith, omega (arith, some));
+      named = (s.named.0, subst (λ (b : ℕ). IsInReach b (host + (1 - 1))) full.keeps.bits s.named.1);
+      reserved = λ safe. s.reserved (full.keeps.safely safe tt);
+      content = λ safe i less. ap (λ (b : ℕ). file_of g new.tables (host * 2 ^ b + i)) (sym full.keeps.bits) ∙ s.content (full.keeps.safely safe tt) i less;
+      cause = tt;
+    }
+
+    known-full : IsSafe g old → IsSome mid.tables.space
+    known-full safe = let lacks = full.cause safe in subst IsSome (sym lacks.there) refl
+
+    alone-why : (e : Fault) → WhyNotAllocated g (LacksFreeRun g 1 (enough_for_run mid.tables 1) mid.tables new.tables) mid new e
+        → WhyNotAllocated g (LacksFreeRun g 1 (enough_for_run old.tables n) old.tables new.tables) old new e
+    alone-why Memory why = tt
+    alone-why Storage why = subst (λ k. Rose k (g.state new.tables.file.image).faults) (full.keeps.faults tt).0 why
+    alone-why (Limit another) why = λ safe.
+        let first = full.cause safe in
+        let second = why (full.keeps.safely safe tt) in
+        record { crowded = first.crowded; free = second.free; there = second.there; told = second.told }
+    alone-why DamagedTable why = λ known. why (full.keeps.safely known.0 tt, known-full known.0)
+    alone-why Counter why = λ known. why (full.keeps.safely known.0 tt, known-full known.0)
+    alone-why _ why = absurd why
+
+    pub most-neither : (e : Fault) → StoresContent g 1 bytes mid (Err e) new → StoresMost g n bytes old (Err e) new
+    most-neither e s = record {
+      keeps = keeps-disk-both g ⊤ (WasNotCutOff {T = ℕ} (Err e)) old mid new tt full.keeps s.keeps;
+      leaks = λ safe whole. leaks-then g (λ c. 0) old mid new (leaks-all g old mid (full.leaks safe tt)) (s.leaks (full.keeps.safely safe tt) whole);
+      marks = s.marks ∙ ap (failed_cut {T = ℕ} (Err e)) full.marks;
+      top = top-then (WasNotCutOff {T = ℕ} (Err e)) s.top;
+      unkept = tt;
+      many = tt;
+      named = tt;
+      reserved = λ safe. tt;
+      content = λ safe. tt;
+      cause = alone-why e s.cause;
+    }
+
+  -- By what was answered first, and then.
+  pub most-behind : (mid new : Qcow2 S g) (stored one : Result ℕ Fault) → full_by stored ≡ true → StoresContent g n bytes old stored mid
+      → StoresContent g 1 bytes mid one new → StoresMost g n bytes old (placed_by 1 one) new
+  most-behind mid new (Err (Limit number)) (Ok host) is s t = most-alone mid new number s host t
+  most-behind mid new (Err (Limit number)) (Err e) is s t = most-neither mid new number s e t
+  most-behind mid new stored one is s t = absurd (cc is)
+
+  pub most-done : (new : Qcow2 S g) (stored : Result ℕ Fault) → full_by stored ≡ false → StoresContent g n bytes old stored new
+      → StoresMost g n bytes old (placed_by n stored) new
+  most-done new (Ok host) is s = most-stored new host s
+  most-done new (Err e) is s = most-unstored new e (inr is) s
 
 -- Bytes were written to the cluster that a guest cluster keeps for its zeroes.
 module _ {S : Type 0} (g : Ghosts S) (old : Qcow2 S g) (mid : Tables S g) (space : Space) (caches : MetadataCaches S) (guest host : ℕ)
@@ -414,23 +524,31 @@ module _ {S : Type 0} (g : Ghosts S) (guest : ℕ) (bytes : List ℕ) (old new :
         let hidden = kept-hidden (rest_of g new.tables space) guest host (safe-sound g new space is safe) own in
         (space, is, apart-some (file_of g new.tables) new.tables.file.header.fields host hidden.0.apart, own, λ bad. absurd (cc bad))
 
-  pub placed-kept : (host : ℕ) → IsInReach old.tables.file.header.fields.cluster_bits host → FillsContent g guest host bytes old (Ok tt) new
-      → PlacesContent g guest (Some host) bytes old (Ok (host, true)) new
-  placed-kept host near f = record {
+  pub placed-kept : (host n : ℕ) → 0 < n → IsInReach old.tables.file.header.fields.cluster_bits host → FillsContent g guest host bytes old (Ok tt) new
+      → PlacesContent g guest (Some host) n bytes old (Ok (record { host = host; count = 1; is_kept = true })) new
+  placed-kept host n some near f = record {
     keeps = f.keeps;
     leaks = λ known whole. leaks-but g old new (f.leaks known whole);
     marks = f.marks;
     top = f.top;
-    near = near;
+    many = (omega arith, omega (arith, some));
+    near = subst (IsInReach old.tables.file.header.fields.cluster_bits) (let same : host ≡ host + (1 - 1) = omega arith in same) near;
     which = (refl, (refl, f.space));
-    own = own-kept host f;
+    own = λ known.
+        let one = own-kept host f known in
+        let first : (d : ℕ) → d < 1 → IsOwnAs true (rest_of g new.tables one.0) (guest + d) (host + d) = λ d less.
+        let none : 0 ≡ d = omega (arith, less) in
+        subst (λ i. IsOwnAs true (rest_of g new.tables one.0) (guest + i) (host + i)) none
+        (subst (λ i. IsOwnAs true (rest_of g new.tables one.0) i (host + 0)) (let same : guest ≡ guest + 0 = omega arith in same)
+        (subst (λ i. IsOwnAs true (rest_of g new.tables one.0) guest i) (let same : host ≡ host + 0 = omega arith in same) one.3)) in
+        (one.0, one.1, one.2, first, one.4);
     content = f.content;
     cause = tt;
   }
 
   -- No place is looked for beside a cluster that is kept.
-  abbrev lacks-beside : Option ℕ → ℕ → Type 0
-  lacks-beside kept number = (kept ≡ None) × LacksFreeRun g 1 (enough_for_one old.tables) old.tables new.tables number
+  abbrev lacks-beside : ℕ → Option ℕ → ℕ → Type 0
+  lacks-beside n kept number = (kept ≡ None) × LacksFreeRun g 1 (enough_for_run old.tables n) old.tables new.tables number
 
   filling-why : (full : ℕ → Type 0) (e : Fault) → WhyNotFilled g old new e → WhyNotAllocated g full old new e
   filling-why full Memory why = why
@@ -438,20 +556,21 @@ module _ {S : Type 0} (g : Ghosts S) (guest : ℕ) (bytes : List ℕ) (old new :
   filling-why full DamagedTable why = why
   filling-why full e why = absurd why
 
-  pub unfilled : (host : ℕ) (e : Fault) → FillsContent g guest host bytes old (Err e) new → PlacesContent g guest (Some host) bytes old (Err e) new
-  unfilled host e f = record {
+  pub unfilled : (host n : ℕ) (e : Fault) → FillsContent g guest host bytes old (Err e) new → PlacesContent g guest (Some host) n bytes old (Err e) new
+  unfilled host n e f = record {
     keeps = f.keeps;
     leaks = λ known whole. leaks-but g old new (f.leaks known whole);
     marks = f.marks;
     top = f.top;
+    many = tt;
     near = tt;
     which = tt;
     own = λ known. tt;
     content = λ known. tt;
-    cause = filling-why (lacks-beside (Some host)) e f.cause;
+    cause = filling-why (lacks-beside n (Some host)) e f.cause;
   }
 
-  -- A cluster is stored in where none is kept.
+  -- Clusters are stored in where none is kept.
   keeps-none : (ok : Type 0) → KeepsDisk g ok old new → KeepsDiskWhere g (HasKept g guest None old) ok old new
   keeps-none ok k = record {
     mode = k.mode;
@@ -473,30 +592,36 @@ module _ {S : Type 0} (g : Ghosts S) (guest : ℕ) (bytes : List ℕ) (old new :
   top-none : (ok : Type 0) → KeepsTop g (IsSafe g old × ok) old new → KeepsTop g (HasKept g guest None old × ok) old new
   top-none ok k = record { l1 = k.l1; entries = k.entries; tables = λ known. k.tables (known.0.safe, known.1) }
 
-  pub placed-free : (host : ℕ) → StoresContent g bytes old (Ok host) new → PlacesContent g guest None bytes old (Ok (host, false)) new
-  placed-free host s = record {
+  own-free : (m : Metadata) (host n : ℕ) → AreReserved n m host → AreOwnAs false n m guest host
+  own-free m host n reserved = λ d less. reserved (host + d) (omega arith) (omega (arith, less))
+
+  pub placed-free : (n : ℕ) (result : Result Placed Fault) → StoresMost g n bytes old result new → PlacesContent g guest None n bytes old result new
+  placed-free n (Ok r) s = record {
     keeps = keeps-none ⊤ s.keeps;
     leaks = λ known whole. s.leaks known.safe whole;
     marks = s.marks;
     top = top-none ⊤ s.top;
+    many = s.many;
     near = s.named.1;
-    which = (refl, tt);
-    own = λ known. let there = s.reserved known.safe in (there.0, there.1, s.named.0, there.2, λ is. there.3);
+    which = (s.unkept, tt);
+    own = λ known.
+        let there = s.reserved known.safe in
+        let own = own-free (rest_of g new.tables there.0) r.host r.count there.2 in
+        (there.0, there.1, s.named.0, subst (λ is. AreOwnAs is r.count (rest_of g new.tables there.0) guest r.host) (sym s.unkept) own, λ is. there.3);
     content = λ known. s.content known.safe;
     cause = tt;
   }
-
-  pub unstored : (e : Fault) → StoresContent g bytes old (Err e) new → PlacesContent g guest None bytes old (Err e) new
-  unstored e s = record {
-    keeps = keeps-none (WasNotCutOff {T = ℕ} (Err e)) s.keeps;
+  placed-free n (Err e) s = record {
+    keeps = keeps-none (WasNotCutOff {T = Placed} (Err e)) s.keeps;
     leaks = λ known whole. s.leaks known.safe whole;
     marks = s.marks;
-    top = top-none (WasNotCutOff {T = ℕ} (Err e)) s.top;
+    top = top-none (WasNotCutOff {T = Placed} (Err e)) s.top;
+    many = tt;
     near = tt;
     which = tt;
     own = λ known. tt;
     content = λ known. tt;
-    cause = why-full g (LacksFreeRun g 1 (enough_for_one old.tables) old.tables new.tables) (lacks-beside None) old new e
+    cause = why-full g (LacksFreeRun g 1 (enough_for_run old.tables n) old.tables new.tables) (lacks-beside n None) old new e
         (λ number safe full. (refl, full)) s.cause;
   }
 
@@ -733,7 +858,7 @@ module _ {S : Type 0} (g : Ghosts S) (old : Qcow2 S g) (mid : Tables S g) (space
 
   spares-each : (hold : Holding) → Spares g (WasNotCutOff result) (handing (λ c. 0) (λ c. 0)) old freed_now space space' hold
   spares-each hold = record {
-    spared = refl;
+    spared = λ d less. refl;
     unwritten = λ q none. none;
     room = λ some. omega (arith, some, frees.held);
     entries = ap (λ (K : Header). K.fields.l1_entries) frees.rests.header.2;

@@ -1,8 +1,8 @@
 -- What a commit leaves of the image whose prepared mapping it spends.
 use Rattle.std.proofs.Common.{◌≡◌, ℕ, ◌+◌, ◌-◌, ◌*◌, ◌/◌, ◌%◌, ◌<◌, ◌≤◌, refl, arith, ap, sym, subst, ◌∙◌, inl, inr, Bool, true, false, List, Option, Some, None, Result, Ok, Err}
-use Rattle.std.proofs.lemmas.Bool.{cases_Bool, cases_lt, eq-eqb, eqb-true, le-ltb, lt-ltb, ltb-true}
+use Rattle.std.proofs.lemmas.Bool.{cases_Bool, cases_lt, le-ltb, lt-ltb}
 use Rattle.std.proofs.lemmas.Nat.{div-add-mod'}
-use Rattle.std.specs.Prelude.{◌⊎◌, IsTrue, IsSome, IfSome, IfErr, OnOk, EachIndex, slice_index, length, ltb, ◌&&◌, ◌==◌, if◌then◌else◌}
+use Rattle.std.specs.Prelude.{◌⊎◌, IsTrue, IsSome, IfSome, IfErr, OnOk, EachIndex, slice_index, length, ltb, ◌&&◌, if◌then◌else◌}
 use Rattle.std.specs.List.{AllByRecursion}
 use Rattle.imago_storage.specs.State.{Shape}
 use Rattle.imago_storage.specs.Disk.{Value, byte}
@@ -31,19 +31,20 @@ use Rattle.qcow2_alloc.specs.Opening.{IsL1Of}
 use Rattle.qcow2_alloc.specs.Quiet.{Metadata, IsSound, in_memory}
 use Rattle.qcow2_alloc.proofs.Memory.SafeLaws.{clean-memory}
 use Rattle.qcow2_steps.specs.Advancing.{Advances, MayBeLeft}
-use Rattle.qcow2_steps.specs.Values.{own_value}
+use Rattle.qcow2_steps.specs.Values.{own_value, own_value_by}
 use Rattle.qcow2_steps.specs.Data.{IsKeptFor}
-use Rattle.qcow2_steps.specs.Words.{GivesWord, IsOfWord, IsReserved}
+use Rattle.qcow2_steps.specs.Words.{IsReserved}
 use Rattle.qcow2_alloc.specs.declared.cache.MetadataCaches.{MetadataCaches}
-use Rattle.qcow2_clusters.specs.Naming.{IsNameable, Names, WhyNotNamed, naming}
-use Rattle.qcow2_clusters.specs.Progress.{Progresses}
+use Rattle.qcow2_clusters.specs.Naming.{AreNameable, NamesRun, WhyNotNamed, naming_run}
+use Rattle.qcow2_clusters.specs.Progress.{Kind, Progresses}
 use Rattle.qcow2_clusters.specs.declared.space.Space.{Space}
+use Rattle.qcow2_clusters.proofs.NamedRuns.{run-gives, run-sets}
 use Rattle.qcow2_clusters.specs.Rest.{Clusters, IsReady, lent, nothing_cached, resting}
 use Rattle.qcow2_image.specs.Committing.{CommitsUnspent, NamesHost, NamesWith, SpendsUnspent, answer_of, failed_behind_any, held_behind, reserved_of}
-use Rattle.qcow2_image.specs.Holding.{Holding, IsOwnAs, IsUncopied, claim_held, copied_to, held_home, held_of, held_with, home_or, homes_with, in_cluster, in_run, place_in, written_to}
-use Rattle.qcow2_image.specs.HeldHomes.{free-homes, held-at, run-from, run-guest}
+use Rattle.qcow2_image.specs.Holding.{Holding, IsOwnAs, IsUncopied, claim_held, copied_to, held_home, held_of, held_place, held_with, home_or, homes_with, in_clusters, in_run, written_to}
+use Rattle.qcow2_image.specs.HeldHomes.{clusters-from, clusters-of, free-homes, held-at, run-from, run-guest}
 use Rattle.qcow2_image.specs.Homes.{cluster-there}
-use Rattle.qcow2_image.proofs.FreshRuns.{uncopied-homeless}
+use Rattle.qcow2_image.proofs.Preparations.FreshRuns.{uncopied-homeless}
 use Rattle.qcow2_image.specs.ImageLayer.{blank_of, cell_by, cells, home_by, homes, qcow2_fixed}
 use Rattle.qcow2_image.specs.Rooms.{HasCluster, HasRoom, HoldsIn, IsSafe, is_sound, rest_of}
 use Rattle.qcow2_image.specs.Seen.{IsOfFile, IsSeen, file_of, homes_of, layer_of, memory_of}
@@ -70,19 +71,7 @@ same-parts a b d rows columns =
     let product : a / d * d ≡ b / d * d = ap (λ x. x * d) rows in
     omega (arith, product, columns, div-add-mod' a d, div-add-mod' b d)
 
--- a place of the guest cluster is one of the disk
-cluster-from : (h : Fields) (hold : Holding) (p : ℕ) → in_cluster h hold p ≡ true → (p / cluster_size h ≡ hold.guest) × (p < h.size)
-cluster-from h hold p is = from (p / cluster_size h == hold.guest) (ltb p h.size) refl refl is where
-  from : (a b : Bool) → (p / cluster_size h == hold.guest) ≡ a → ltb p h.size ≡ b → (a && b) ≡ true
-      → (p / cluster_size h ≡ hold.guest) × (p < h.size)
-  from true true same low both = (eqb-true (p / cluster_size h) hold.guest same, ltb-true p h.size low)
-  from true false same low both = absurd (cc both)
-  from false b same low both = absurd (cc both)
-
-cluster-of : (h : Fields) (hold : Holding) (p : ℕ) → p / cluster_size h ≡ hold.guest → p < h.size → in_cluster h hold p ≡ true
-cluster-of h hold p is low = rw (eq-eqb (p / cluster_size h) hold.guest is, lt-ltb p h.size low) refl
-
--- What stands in the host cluster is what was written or copied, or it was announced that all is going to be written.
+-- What stands in a host cluster is what was written or copied, or it was announced that all is going to be written.
 by-hold : (overwrite written : Bool) (copied there : ℕ) (was : Cell) → (written ≡ false → there ≡ copied) → there < 256
     → Settles (inside (if overwrite then None else Some copied) (if written then Some there else None) overwrite) was (own (byte there))
 by-hold true true copied there was same fits = refl
@@ -164,11 +153,19 @@ module _ {S : Type 0} (g : Ghosts S) (claim : ℕ) (old new : Qcow2 S g)
     pub sound : IsSound before
     sound = safe-sound g old holds.space holds.there safe
 
-    able : IsNameable before hold.table hold.guest hold.host
-    able = record { under = holds.held.under; own = own-either hold.is_kept before hold.guest hold.host holds.held.own }
+    able : AreNameable hold.count before hold.table hold.guest hold.host
+    able d less = record {
+      under = holds.held.under d less;
+      own = own-either hold.is_kept before (hold.guest + d) (hold.host + d) (holds.held.own d less);
+    }
 
     pub with-space : NamesWith g (reserved_of g s.spent) hold.guest old.tables holds.space s.named new.tables
-    with-space = s.names.known holds.space holds.there (let some = holds.held.some in omega (arith, some), holds.held.reach)
+    with-space = s.names.known holds.space holds.there (record {
+      some = let some = holds.held.some in omega (arith, some);
+      any = holds.held.any;
+      reach = holds.held.reach;
+      row = holds.held.row;
+    })
 
     abbrev c : Clusters S
     c = lent old.tables.file with-space.caches holds.space
@@ -176,70 +173,92 @@ module _ {S : Type 0} (g : Ghosts S) (claim : ℕ) (old new : Qcow2 S g)
     abbrev c' : Clusters S
     c' = lent new.tables.file new.tables.caches with-space.between
 
+    -- what is given, set, handed out and taken
+    abbrev pub kind : Kind
+    kind = naming_run before hold.guest hold.host hold.count
+
     ready : IsReady g.state c
     ready = record { keeps = safe.keeps; sound = sound }
 
-    progress : Progresses (s.named ≡ Ok tt) (naming before hold.guest hold.host) (g.state old.tables.file.image) before
+    progress : Progresses (s.named ≡ Ok tt) kind (g.state old.tables.file.image) before
         (g.state new.tables.file.image) (resting g.state c')
     progress = with-space.names.progress able
 
     -- It is refused for want of memory or by a storage alone.
     pub refused-hard : (fault : Fault) → s.named ≡ Err fault → IsMild fault → ⊥
     refused-hard fault is mild =
-        never fault (subst (λ r. IfErr r (WhyNotNamed (IsReady g.state c × IsNameable before hold.table hold.guest hold.host)
+        never fault (subst (λ r. IfErr r (WhyNotNamed (IsReady g.state c × AreNameable hold.count before hold.table hold.guest hold.host)
         (g.state old.tables.file.image).faults (g.state new.tables.file.image).faults)) is with-space.names.cause) mild where
-          never : (e : Fault) → WhyNotNamed (IsReady g.state c × IsNameable before hold.table hold.guest hold.host)
+          never : (e : Fault) → WhyNotNamed (IsReady g.state c × AreNameable hold.count before hold.table hold.guest hold.host)
               (g.state old.tables.file.image).faults (g.state new.tables.file.image).faults e → IsMild e → ⊥
           never Memory why mild = mild
           never Storage why mild = mild
           never DamagedTable why mild = why (ready, able)
           never e why mild = why
 
-    -- What a place of the guest cluster shows then is what stands in the host cluster, which settles what is held of it.
-    settled-byte : (p : ℕ) → p / cs ≡ hold.guest → p < h.size → (was : Cell)
-        → Settles ((layer_of g old).held p) was (own (byte (f (place_in h hold.host p))))
+    -- a guest cluster of the run
+    abbrev pub IsOurs : ℕ → Type 0
+    IsOurs x = (hold.guest ≤ x) × (x < hold.guest + hold.count)
+
+    -- What a place of the guest clusters shows then is what stands in its host cluster, which settles what is held of it.
+    settled-byte : (p : ℕ) → IsOurs (p / cs) → p < h.size → (was : Cell)
+        → Settles ((layer_of g old).held p) was (own (byte (f (held_place h hold p))))
     settled-byte p is low was =
-        subst (λ o. Settles (held_with h f o p) was (own (byte (f (place_in h hold.host p))))) (sym hold-is) (elim (cases_Bool (in_run hold p)) [
-          | inl run ↦ rw (there, run) (by-hold hold.overwrite (hold.written p) (hold.copied (place_in h hold.host p))
-              (f (place_in h hold.host p)) was (holds.held.kept p there)
-              (each-byte (g.state old.tables.file.image).bytes s.bytes (place_in h hold.host p)))
+        subst (λ o. Settles (held_with h f o p) was (own (byte (f (held_place h hold p))))) (sym hold-is) (elim (cases_Bool (in_run hold p)) [
+          | inl run ↦ rw (there, run) (by-hold hold.overwrite (hold.written p) (hold.copied (held_place h hold p))
+              (f (held_place h hold p)) was (holds.held.kept p there)
+              (each-byte (g.state old.tables.file.image).bytes s.bytes (held_place h hold p)))
           | inr out ↦ rw (there, out) (ap (λ b. own (byte b)) (holds.held.kept p there (holds.held.beside p there out)))
         ]) where
-          there : in_cluster h hold p ≡ true
-          there = cluster-of h hold p is low
+          there : in_clusters h hold p ≡ true
+          there = clusters-of h hold p is low
 
-    not-loose : (p : ℕ) → p / cs ≡ hold.guest → p < h.size → (layer_of g old).held p ≡ loose → ⊥
+    not-loose : (p : ℕ) → IsOurs (p / cs) → p < h.size → (layer_of g old).held p ≡ loose → ⊥
     not-loose p is low none =
-        let there = cluster-of h hold p is low in
+        let there = clusters-of h hold p is low in
         let held : held_of h f hold p ≡ loose = ap (λ o. held_with h f o p) (sym hold-is) ∙ none in
         from (in_run hold p) (let e : (if in_run hold p then inside (copied_to h hold p) (written_to h f hold p) hold.overwrite
-        else beside (hold.copied (place_in h hold.host p))) ≡ loose = rw there at held in e) where
+        else beside (hold.copied (held_place h hold p))) ≡ loose = rw there at held in e) where
           from : (b : Bool) → (if b then inside (copied_to h hold p) (written_to h f hold p) hold.overwrite
-              else beside (hold.copied (place_in h hold.host p))) ≡ loose → ⊥
+              else beside (hold.copied (held_place h hold p))) ≡ loose → ⊥
           from true bad = cc bad
           from false bad = cc bad
 
-    abbrev GivenOnce : ℕ → Option Value → Type 0
-    GivenOnce = GivesWord before (hold.guest / words_of_cluster h) (hold.guest % words_of_cluster h) (data_at hold.host true)
+    -- What is given and set is of one of them.
+    given-at : (p : ℕ) (v : Option Value) → kind.gives p v
+        → IsOurs (p / cs) × (v ≡ own_value_by f h p (data_at (hold.host + (p / cs - hold.guest)) true))
+    given-at p v gave =
+        let one = run-gives before hold.guest hold.host hold.count p v gave in
+        let same = same-parts (p / cs) (hold.guest + one.0) (words_of_cluster h) one.2.0.0 one.2.0.1 in
+        let back : one.0 ≡ p / cs - hold.guest = omega (arith, same) in (
+          (omega (arith, same), omega (arith, same, one.1)),
+          one.2.1 ∙ ap (λ d. own_value_by f h p (data_at (hold.host + d) true)) back,
+        )
+
+    set-at : (x : ℕ) → kind.set x → IsOurs x
+    set-at x set =
+        let one = run-sets before hold.guest hold.host hold.count x set in
+        let same = same-parts x (hold.guest + one.0) (words_of_cluster h) one.2.0 one.2.1 in
+        (omega (arith, same), omega (arith, same, one.1))
 
     -- A stop in it shows that too.
     pub stops-settled : (below : List Layer) → Passes (Left below (layer_of g old) (g.state old.tables.file.image).bytes is_sound
         (layer_of g old).size (layer_of g old).size (GivesSettled below (layer_of g old)))
         (g.state old.tables.file.image) (g.state new.tables.file.image)
     stops-settled below =
-        passes_weaker (λ x. (K : Header) × MayBeLeft GivenOnce before (bytes_of x) K)
+        passes_weaker (λ x. (K : Header) × MayBeLeft kind.gives before (bytes_of x) K)
         (Left below (layer_of g old) (g.state old.tables.file.image).bytes is_sound h.size h.size (GivesSettled below (layer_of g old)))
         (g.state old.tables.file.image) (g.state new.tables.file.image)
-        (may-left g old holds.space safe below GivenOnce (GivesSettled below (layer_of g old)) shows)
+        (may-left g old holds.space safe below kind.gives (GivesSettled below (layer_of g old)) shows)
         (progress.passes safe.keeps sound) where
-          shows : (p : ℕ) (v : Option Value) → p < h.size → GivenOnce p v
+          shows : (p : ℕ) (v : Option Value) → p < h.size → kind.gives p v
               → May below (layer_of g old) (g.state old.tables.file.image).bytes (GivesSettled below (layer_of g old)) p (seen_as g old holds.space safe below p v)
           shows p v low given =
-              let guest = same-parts (p / cs) hold.guest (words_of_cluster h) given.0.0 given.0.1 in
+              let here = given-at p v given in
               inr (inr (
-                own (byte (f (place_in h hold.host p))),
-                settled-byte p guest low ((layer_of g old).cell p),
-                ap (seen_as g old holds.space safe below p) given.1 ∙ rw (lt-ltb p h.size low) refl,
+                own (byte (f (held_place h hold p))),
+                settled-byte p here.0 low ((layer_of g old).cell p),
+                ap (seen_as g old holds.space safe below p) here.1 ∙ rw (lt-ltb p h.size low) refl,
               ))
 
     -- It succeeded.
@@ -247,15 +266,31 @@ module _ {S : Type 0} (g : Ghosts S) (claim : ℕ) (old new : Qcow2 S g)
       abbrev pub after : Metadata
       after = resting g.state c'
 
-      pub advances : Advances GivenOnce (λ q. ⊥) (IsOfWord h (hold.guest / words_of_cluster h) (hold.guest % words_of_cluster h))
-          (naming before hold.guest hold.host).handed (naming before hold.guest hold.host).taken before after
+      pub advances : Advances kind.gives kind.written kind.set kind.handed kind.taken before after
       advances = progress.holds safe.keeps sound ok
 
-      word-named : entry f' h hold.guest ≡ data_at hold.host true
-      word-named = subst (λ r. OnOk r (entry f' h hold.guest ≡ data_at hold.host true)) ok (with-space.names.named ready able)
+      words-named : (d : ℕ) → d < hold.count → entry f' h (hold.guest + d) ≡ data_at (hold.host + d) true
+      words-named = subst (λ r. OnOk r ((d : ℕ) → d < hold.count → entry f' h (hold.guest + d) ≡ data_at (hold.host + d) true)) ok
+          (with-space.names.named ready able)
 
-      byte-kept : (q : ℕ) → q / cs ≡ hold.host → f' q ≡ f q
-      byte-kept = subst (λ r. OnOk r ((q : ℕ) → q / cs ≡ hold.host → f' q ≡ f q)) ok (with-space.names.bytes ready able)
+      word-named : (x : ℕ) → IsOurs x → entry f' h x ≡ data_at (hold.host + (x - hold.guest)) true
+      word-named x ours =
+          let whole : hold.guest + (x - hold.guest) ≡ x = omega (arith, ours.0) in
+          ap (entry f' h) (sym whole) ∙ words-named (x - hold.guest) (omega (arith, ours.0, ours.1))
+
+      uncopied-at : (x : ℕ) → IsOurs x → IsUncopied (entry f h x)
+      uncopied-at x ours =
+          let whole : hold.guest + (x - hold.guest) ≡ x = omega (arith, ours.0) in
+          subst (λ y. IsUncopied (entry f h y)) whole (holds.held.uncopied (x - hold.guest) (omega (arith, ours.0, ours.1)))
+
+      bytes-kept : (q : ℕ) → hold.host ≤ q / cs → q / cs < hold.host + hold.count → f' q ≡ f q
+      bytes-kept = subst (λ r. OnOk r ((q : ℕ) → hold.host ≤ q / cs → q / cs < hold.host + hold.count → f' q ≡ f q)) ok
+          (with-space.names.bytes ready able)
+
+      byte-kept : (p : ℕ) → IsOurs (p / cs) → f' (held_place h hold p) ≡ f (held_place h hold p)
+      byte-kept p ours =
+          let there = cluster-there h (held_place h hold p) (hold.host + (p / cs - hold.guest)) p refl in
+          bytes-kept (held_place h hold p) (omega (arith, there)) (omega (arith, there, ours.0, ours.1))
 
       pub memory-now : in_memory after ≡ f'
       memory-now = clean-memory f' h' nothing_cached tt tt
@@ -263,18 +298,18 @@ module _ {S : Type 0} (g : Ghosts S) (claim : ℕ) (old new : Qcow2 S g)
       pub memory-then : in_memory before ≡ f
       memory-then = rest-memory g old.tables holds.space
 
-      word-is : (x : ℕ) → (x ≡ hold.guest) ⊎ (entry f' h x ≡ entry f h x)
+      word-is : (x : ℕ) → IsOurs x ⊎ (entry f' h x ≡ entry f h x)
       word-is x = elim (advances.words x) [
         | inl same ↦ inr (ap (λ k. entry f' k x) (sym fields-same) ∙ ap (λ b. entry b h' x) (sym memory-now) ∙ same
             ∙ ap (λ b. entry b h x) memory-then)
-        | inr set ↦ inl (same-parts x hold.guest (words_of_cluster h) set.0 set.1)
+        | inr set ↦ inl (set-at x set)
       ]
 
-      value-is : (p : ℕ) → (p / cs ≡ hold.guest) ⊎ (own_value f' f' h p ≡ own_value f f h p)
+      value-is : (p : ℕ) → IsOurs (p / cs) ⊎ (own_value f' f' h p ≡ own_value f f h p)
       value-is p = elim (advances.memory p) [
         | inl same ↦ inr (ap (λ k. own_value f' f' k p) (sym fields-same) ∙ ap (λ b. own_value b f' h' p) (sym memory-now) ∙ same
             ∙ ap (λ b. own_value b f h p) memory-then)
-        | inr gave ↦ inl (same-parts (p / cs) hold.guest (words_of_cluster h) gave.0.0 gave.0.1)
+        | inr gave ↦ inl (given-at p (own_value (in_memory after) f' h' p) gave).0
       ]
 
       cell-now : (p : ℕ) → (layer_of g new).cell p ≡ cells (blank_of old.mode.backing) f' f' h p
@@ -283,15 +318,14 @@ module _ {S : Type 0} (g : Ghosts S) (claim : ℕ) (old new : Qcow2 S g)
       cell-then : (p : ℕ) → (layer_of g old).cell p ≡ cells (blank_of old.mode.backing) f f h p
       cell-then p = λ i. cells (blank_of old.mode.backing) (memory-is g old.tables i) f h p
 
-      -- What a place says: in the guest cluster what stands in the host cluster,
-      cell-there : (p : ℕ) → p / cs ≡ hold.guest → p < h.size → (layer_of g new).cell p ≡ own (byte (f (place_in h hold.host p)))
+      -- What a place says: in the guest clusters what stands in the host clusters,
+      cell-there : (p : ℕ) → IsOurs (p / cs) → p < h.size → (layer_of g new).cell p ≡ own (byte (f (held_place h hold p)))
       cell-there p is low =
-          cell-now p ∙ (rw (lt-ltb p h.size low) (ap (λ x. cell_by (blank_of old.mode.backing) f' h p (entry f' h x)) is
-          ∙ ap (cell_by (blank_of old.mode.backing) f' h p) word-named
-          ∙ ap (λ b. own (byte b)) (byte-kept (place_in h hold.host p) (cluster-there h (place_in h hold.host p) hold.host p refl))))
+          cell-now p ∙ (rw (lt-ltb p h.size low) (ap (cell_by (blank_of old.mode.backing) f' h p) (word-named (p / cs) is)
+          ∙ ap (λ b. own (byte b)) (byte-kept p is)))
 
       -- and elsewhere what it did.
-      cell-elsewhere : (p : ℕ) → (p / cs ≡ hold.guest → p < h.size → ⊥) → (layer_of g new).cell p ≡ (layer_of g old).cell p
+      cell-elsewhere : (p : ℕ) → (IsOurs (p / cs) → p < h.size → ⊥) → (layer_of g new).cell p ≡ (layer_of g old).cell p
       cell-elsewhere p out = cell-now p ∙ elim (cases_lt p h.size) [
         | inr behind ↦ rw (le-ltb p h.size behind) refl
         | inl low ↦ rw (lt-ltb p h.size low) (elim (value-is p) [
@@ -302,13 +336,13 @@ module _ {S : Type 0} (g : Ghosts S) (claim : ℕ) (old new : Qcow2 S g)
       ] ∙ sym (cell-then p)
 
       cell-settles : (p : ℕ) → Settles ((layer_of g old).held p) ((layer_of g old).cell p) ((layer_of g new).cell p)
-      cell-settles p = elim (cases_Bool (in_cluster h hold p)) [
+      cell-settles p = elim (cases_Bool (in_clusters h hold p)) [
         | inl there ↦
-            let place = cluster-from h hold p there in
+            let place = clusters-from h hold p there in
             subst (Settles ((layer_of g old).held p) ((layer_of g old).cell p)) (sym (cell-there p place.0 place.1))
             (settled-byte p place.0 place.1 ((layer_of g old).cell p))
         | inr out ↦
-            let same = cell-elsewhere p (λ is low. let there = cluster-of h hold p is low in cc (sym out ∙ there)) in
+            let same = cell-elsewhere p (λ is low. let there = clusters-of h hold p is low in cc (sym out ∙ there)) in
             let none : loose ≡ (layer_of g old).held p = sym (ap (λ o. held_with h f o p) hold-is ∙ rw out refl) in
             subst (λ k. Settles k ((layer_of g old).cell p) ((layer_of g new).cell p)) none same
       ]
@@ -323,8 +357,7 @@ module _ {S : Type 0} (g : Ghosts S) (claim : ℕ) (old new : Qcow2 S g)
       pub home-grows : (p : ℕ) (at : ℕ × ℕ) → homes_of g old p ≡ Some at → homes_of g new p ≡ Some at
       home-grows p at is = elim (word-is (p / cs)) [
         | inl guest ↦
-            let uncopied : IsUncopied (entry f h (p / cs)) = subst (λ x. IsUncopied (entry f h x)) (sym guest) holds.held.uncopied in
-            absurd (let none : None ≡ Some at = sym (uncopied-homeless old.mode.writable f h p uncopied) ∙ sym (home-then p) ∙ is in cc none)
+            absurd (let none : None ≡ Some at = sym (uncopied-homeless old.mode.writable f h p (uncopied-at (p / cs) guest)) ∙ sym (home-then p) ∙ is in cc none)
         | inr same ↦
             home-now p ∙ ap (λ w. if old.mode.writable && ltb p h.size then home_by h p w else None) same ∙ sym (home-then p) ∙ is
       ]
@@ -337,8 +370,8 @@ module _ {S : Type 0} (g : Ghosts S) (claim : ℕ) (old new : Qcow2 S g)
           let place = held-at before hold holds.held p there.0 in
           let low : p < h.size = let in-run = run-from hold p there.0 in let end = holds.held.on_disk in omega (arith, in-run.1, end) in
           let writable : old.mode.writable ≡ true = safe.writable (subst IsSome (sym s.there) refl) in
-          let here : homes old.mode.writable f' h p ≡ Some (0, place_in h hold.host p) =
-          rw (writable, lt-ltb p h.size low) (ap (λ x. home_by h p (entry f' h x)) guest ∙ ap (home_by h p) word-named) in
+          let here : homes old.mode.writable f' h p ≡ Some (0, held_place h hold p) =
+          rw (writable, lt-ltb p h.size low) (ap (home_by h p) (word-named (p / cs) guest)) in
           home-now p ∙ here ∙ ap (λ (x : ℕ). Some (0, x)) (sym place) ∙ ap Some (sym there.1)
 
       home-settles : (p : ℕ) (at : ℕ × ℕ) → (layer_of g old).home p ≡ Some at → (layer_of g new).home p ≡ Some at
@@ -364,7 +397,7 @@ module _ {S : Type 0} (g : Ghosts S) (claim : ℕ) (old new : Qcow2 S g)
           let was : HasRoom f h p = room-then (λ b k. HasRoom b k p) has in record {
             inside = was.inside;
             own = elim (word-is (p / cs)) [
-              | inl guest ↦ subst HasCluster (sym (ap (entry f' h) guest ∙ word-named)) tt
+              | inl guest ↦ subst HasCluster (sym (word-named (p / cs) guest)) tt
               | inr same ↦ subst HasCluster (sym same) was.own
             ];
           })
@@ -439,7 +472,7 @@ spends-by g claim old mid u taken named tables names new is result answer bytes 
 -- What naming a host cluster is by the call that does it, where words can name the cluster.
 module _ {S : Type 0} (g : Ghosts S) (r : Reserved) (guest : ℕ) (old new : Tables S g) (result : Result Unit Fault) (space : Space)
     (caches : MetadataCaches S) (between after : Space) (there : old.space ≡ Some space)
-    (names : Names g.state r.table guest r.host (lent old.file caches space) result (lent new.file new.caches between)) (l1 : new.l1 ≡ old.l1)
+    (names : NamesRun g.state r.table guest r.host r.count (lent old.file caches space) result (lent new.file new.caches between)) (l1 : new.l1 ≡ old.l1)
     (there' : new.space ≡ Some after) (allocator : after.allocator ≡ between.allocator)
     (entries : after.to_free.entries ≡ between.to_free.entries)
     (let_go : OnOk result (after.to_free.held ≡ held_behind r.is_kept between.to_free.held)) where
@@ -464,7 +497,7 @@ module _ {S : Type 0} (g : Ghosts S) (r : Reserved) (guest : ℕ) (old new : Tab
       caches = caches;
       between = between;
       after = after;
-      names = subst (λ x. Names g.state r.table guest r.host (lent old.file caches x) result (lent new.file new.caches between))
+      names = subst (λ x. NamesRun g.state r.table guest r.host r.count (lent old.file caches x) result (lent new.file new.caches between))
           (some-same known space (sym is ∙ there)) names;
       there = there';
       allocator = allocator;

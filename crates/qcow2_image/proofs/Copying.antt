@@ -40,8 +40,8 @@ use Rattle.qcow2_image.specs.Steps.{KeepsImage}
 use Rattle.qcow2_image.specs.declared.allocating.Shown.{Shown}
 use Rattle.qcow2_image.specs.declared.allocating.Shown.TheVariants as variant
 use Rattle.qcow2_image.specs.declared.qcow2.Qcow2.{Qcow2}
-use Rattle.qcow2_image.proofs.FreshRuns.{shown-says}
-use Rattle.qcow2_image.proofs.Preparing.{never-damaged}
+use Rattle.qcow2_image.proofs.Preparations.FreshRuns.{shown-says}
+use Rattle.qcow2_image.proofs.Preparations.Preparing.{never-damaged}
 use Rattle.qcow2_image.proofs.Steps.{keeps-as, keeps-both, keeps-same}
 
 -- A place of a cluster is divided into its number.

@@ -27,7 +27,7 @@ use Rattle.qcow2_clusters.specs.Room as room
 use Rattle.qcow2_clusters.specs.declared.space.Space.{Space}
 use Rattle.qcow2_clusters.proofs.NamingTables.{resting-memory}
 use Rattle.qcow2_image.specs.Allocating.{WhyNotAllocated}
-use Rattle.qcow2_image.specs.FreeSpace.{HasFreeRun, IsForCluster, LacksFreeRun, LacksTable, LeavesFree, enough_for_one, enough_for_table}
+use Rattle.qcow2_image.specs.FreeSpace.{HasFreeRun, IsForCluster, LacksFreeRun, LacksTable, LeavesFree, enough_for_one, enough_for_run, enough_for_table}
 use Rattle.qcow2_image.specs.Rooms.{AreCountedBefore, IsSafe, rest_of, searched_from}
 use Rattle.qcow2_image.specs.Seen.{file_of}
 use Rattle.qcow2_image.specs.declared.qcow2.Qcow2.{Qcow2}
@@ -269,19 +269,38 @@ module _ {S : Type 0} (g : Ghosts S) where
       few-clusters h (max (length d.tables.l1.words) (i + 1)) (least-cluster false (file_of g d.tables) d.tables.file.header safe.seen.loads)
       (omega (arith, few, long, near))
 
-  -- So a quarter of the space is enough for it, an L2 table and a cluster.
-  pub quarter-enough : (d : Qcow2 S g) (guest : ℕ) → IsSafe g d → guest / words_of_cluster d.tables.file.header.fields + 1 ≤ 2 ^ 22
-      → enough_for_table d.tables guest + enough_for_one d.tables ≤ space d.tables.file.header.fields / 4
-  quarter-enough d guest safe near =
+  -- A cluster holds some words, and at most 2^18.
+  words-few : (d : Qcow2 S g) → IsSafe g d → words_of_cluster d.tables.file.header.fields ≤ 2 ^ 18
+  words-few d safe =
+      let h : Fields = d.tables.file.header.fields in
+      let shaped = consistent-shaped (file_of g d.tables) d.tables.file.header safe.consistent in
+      let size : 2 ^ h.cluster_bits ≤ 2 ^ 21 = pow_mono {i = h.cluster_bits} {j = 21} shaped.high in
+      omega (arith, size)
+
+  pub words-some : (d : Qcow2 S g) → IsSafe g d → 1 ≤ words_of_cluster d.tables.file.header.fields
+  words-some d safe =
+      let least = least-cluster false (file_of g d.tables) d.tables.file.header safe.seen.loads in
+      omega (arith, least)
+
+  -- An allocation needs some room.
+  pub run-enough : (d : Qcow2 S g) (n : ℕ) → IsSafe g d → 0 < enough_for_run d.tables n
+  run-enough d n safe = let large = space-large d safe in omega (arith, large)
+
+  -- So a quarter of the space is enough for it, an L2 table and as many clusters as stand in one.
+  pub quarter-enough : (d : Qcow2 S g) (guest n : ℕ) → IsSafe g d → n ≤ words_of_cluster d.tables.file.header.fields
+      → guest / words_of_cluster d.tables.file.header.fields + 1 ≤ 2 ^ 22
+      → enough_for_table d.tables guest + enough_for_run d.tables n ≤ space d.tables.file.header.fields / 4
+  quarter-enough d guest n safe fits near =
       let h : Fields = d.tables.file.header.fields in
       let i : ℕ = guest / words_of_cluster d.tables.file.header.fields in
       let taken = few-longer d i safe near in
+      let words = words-few d safe in
       let large = space-large d safe in
       let low : space h / 16 * 16 ≤ space h = div-mul-le_self (space h) 16 in
       let high : space h < space h / 16 * 16 + 16 = lt-div-mul-add (omega arith) in
       let quarter : space h < space h / 4 * 4 + 4 = lt-div-mul-add (omega arith) in
-      parts (space h) (space h / 16) (space h / 4) (l1_clusters h d.tables.l1 i) large low high quarter taken
+      parts (space h) (space h / 16) (space h / 4) (l1_clusters h d.tables.l1 i) n large low high quarter taken (omega (arith, fits, words))
     where
-      parts : (s a b k : ℕ) → 2 ^ 26 ≤ s → a * 16 ≤ s → s < a * 16 + 16 → s < b * 4 + 4 → k ≤ 2 ^ 16
-          → a + 3 * k + (a + 3 * 1) + (a + 3 * 1) ≤ b
-      parts s a b k large low high quarter few = omega (arith, large, low, high, quarter, few)
+      parts : (s a b k n : ℕ) → 2 ^ 26 ≤ s → a * 16 ≤ s → s < a * 16 + 16 → s < b * 4 + 4 → k ≤ 2 ^ 16 → n ≤ 2 ^ 18
+          → a + 3 * k + (a + 3 * 1) + (a + 3 * n) ≤ b
+      parts s a b k n large low high quarter few fits = omega (arith, large, low, high, quarter, few, fits)

@@ -1,5 +1,5 @@
 -- What calls leave of an image that change its file, and its disk in nothing or in what they give.
-use Rattle.std.proofs.Common.{◌≡◌, ℕ, ◌/◌, ◌%◌, ◌^◌, ◌<◌, ◌≤◌, refl, arith, ap, sym, subst, ◌∙◌, inl, inr, Bool, true, false, List, [], ◌∷◌, Option, Some, None, Result, Ok, Err}
+use Rattle.std.proofs.Common.{◌≡◌, ℕ, ◌+◌, ◌-◌, ◌/◌, ◌%◌, ◌^◌, ◌<◌, ◌≤◌, refl, arith, ap, sym, subst, ◌∙◌, inl, inr, Bool, true, false, List, [], ◌∷◌, Option, Some, None, Result, Ok, Err}
 use Rattle.std.proofs.Math.Nat.{le_refl}
 use Rattle.std.proofs.Math.Path.{fun_ext}
 use Rattle.std.proofs.lemmas.Bool.{cases_Bool, cases_eq, cases_lt}
@@ -45,7 +45,8 @@ use Rattle.qcow2_clusters.specs.Naming.{IsUnder}
 use Rattle.qcow2_clusters.specs.Progress.{Kind, Progresses}
 use Rattle.qcow2_clusters.specs.Rest.{AreEmpty, nothing_cached}
 use Rattle.qcow2_clusters.specs.declared.space.Space.{Space}
-use Rattle.qcow2_image.specs.Holding.{Holding, IsHeld, IsOwnAs, IsUncopied, claim_held, held_of, held_with, homes_with, in_cluster, place_in}
+use Rattle.qcow2_image.specs.HeldHomes.{clusters-from}
+use Rattle.qcow2_image.specs.Holding.{Holding, IsHeld, IsOwnAs, IsUncopied, claim_held, held_of, held_place, held_with, homes_with, in_clusters}
 use Rattle.qcow2_image.specs.ImageLayer.{blank_of, cell_by, cells, home_by, homes, meaning_of, qcow2_fixed}
 use Rattle.qcow2_image.specs.KeepsDisk.{KeepsDisk, KeepsDiskWhere}
 use Rattle.qcow2_image.specs.Rooms.{HoldsIn, IsSafe, is_sound, rest_of, searched_from}
@@ -179,7 +180,7 @@ own-used false m guest host sound mine = mine.used
 -- What is held for a mapping has been kept by a change of this kind: it wasn't taken, nothing was written, room is held as there was, and
 -- the L1 table is as long and names the L2 tables where they were.
 pub record Spares {S : Type 0} (g : Ghosts S) (ok : Type 0) (kind : Kind) (old new : Qcow2 S g) (space space' : Space) (hold : Holding) : Type 0 where
-  pub spared : kind.taken hold.host ≡ 0
+  pub spared : (d : ℕ) → d < hold.count → kind.taken (hold.host + d) ≡ 0
   pub unwritten : (q : ℕ) → kind.written q → ⊥
   pub room : 0 < space.to_free.held → 0 < space'.to_free.held
   pub entries : new.tables.file.header.fields.l1_entries ≡ old.tables.file.header.fields.l1_entries
@@ -262,7 +263,7 @@ module _ {S : Type 0} (g : Ghosts S) (sure ok : Type 0) (kind : Kind) (old new :
           | inr set ↦ absurd (a.unset guest set)
         ]
 
-    -- What is held is held still: its cluster is the guest cluster's own, its table is there, and its bytes are what they were.
+    -- What is held is held still: its clusters are the guest clusters' own, their table is there, and their bytes are what they were.
     module _ (hold : Holding) (holds : HoldsIn g old.tables hold) (spares : Spares g ok kind old new a.space a.space' hold) where
       space-is : holds.space ≡ a.space
       space-is = let e : Some holds.space ≡ Some a.space = sym holds.there ∙ a.there in cc e
@@ -270,44 +271,50 @@ module _ {S : Type 0} (g : Ghosts S) (sure ok : Type 0) (kind : Kind) (old new :
       was : IsHeld (rest_of g old.tables a.space) hold
       was = subst (λ x. IsHeld (rest_of g old.tables x) hold) space-is holds.held
 
-      used : IsUsed (rest_of g old.tables a.space) hold.host
-      used = own-used hold.is_kept (rest_of g old.tables a.space) hold.guest hold.host sound-before was.own
+      used : (d : ℕ) → d < hold.count → IsUsed (rest_of g old.tables a.space) (hold.host + d)
+      used d less = own-used hold.is_kept (rest_of g old.tables a.space) (hold.guest + d) (hold.host + d) sound-before (was.own d less)
 
-      byte-held : (p : ℕ) → in_cluster h hold p ≡ true → f' (place_in h hold.host p) ≡ f (place_in h hold.host p)
+      byte-held : (p : ℕ) → in_clusters h hold p ≡ true → f' (held_place h hold p) ≡ f (held_place h hold p)
       byte-held p inside =
           let c : ℕ = cluster_size h in
-          let there : place_in h hold.host p / c ≡ hold.host = div-mul-add hold.host c (p % c) (mod_below p c (pow_pos h.cluster_bits)) in
-          elim (advances.kept (place_in h hold.host p) (subst (IsUsed (rest_of g old.tables a.space)) (sym there) used)
-          (ap kind.taken there ∙ spares.spared)) [
+          let guest = (clusters-from h hold p inside).0 in
+          let d : ℕ = p / c - hold.guest in
+          let less : d < hold.count = omega (arith, guest.0, guest.1) in
+          let there : held_place h hold p / c ≡ hold.host + d =
+          div-mul-add (hold.host + d) c (p % c) (mod_below p c (pow_pos h.cluster_bits)) in
+          elim (advances.kept (held_place h hold p) (subst (IsUsed (rest_of g old.tables a.space)) (sym there) (used d less))
+          (ap kind.taken there ∙ spares.spared d less)) [
             | inl written ↦ absurd (spares.unwritten _ written)
             | inr same ↦ same
           ]
 
-      under-still : IsUnder (rest_of g new.tables a.space') hold.table hold.guest
-      under-still = record {
-        inside = rw (bits-same, spares.entries) was.under.inside;
-        there = rw bits-same (spares.tables safe whole (hold.guest / words_of_cluster h) ∙ was.under.there);
-        some = was.under.some;
+      under-still : (d : ℕ) → d < hold.count → IsUnder (rest_of g new.tables a.space') hold.table (hold.guest + d)
+      under-still d less = record {
+        inside = rw (bits-same, spares.entries) (was.under d less).inside;
+        there = rw bits-same (spares.tables safe whole ((hold.guest + d) / words_of_cluster h) ∙ (was.under d less).there);
+        some = (was.under d less).some;
       }
 
-      own-still : (is_kept : Bool) → IsOwnAs is_kept (rest_of g old.tables a.space) hold.guest hold.host
-          → IsOwnAs is_kept (rest_of g new.tables a.space') hold.guest hold.host
-      own-still true mine = record {
-        file = words-same hold.guest ∙ mine.file;
-        memory = ap (λ b. entry b h' hold.guest) (rest-memory g new.tables a.space') ∙ words-same hold.guest ∙ mine.file;
+      own-still : (is_kept : Bool) (d : ℕ) → d < hold.count → IsOwnAs is_kept (rest_of g old.tables a.space) (hold.guest + d) (hold.host + d)
+          → IsOwnAs is_kept (rest_of g new.tables a.space') (hold.guest + d) (hold.host + d)
+      own-still true d less mine = record {
+        file = words-same (hold.guest + d) ∙ mine.file;
+        memory = ap (λ b. entry b h' (hold.guest + d)) (rest-memory g new.tables a.space') ∙ words-same (hold.guest + d) ∙ mine.file;
       }
-      own-still false mine =
+      own-still false d less mine =
           reserved-still kind.gives kind.written kind.set kind.handed kind.taken (rest_of g old.tables a.space) (rest_of g new.tables a.space') advances
-          hold.host mine spares.spared
+          (hold.host + d) mine (spares.spared d less)
 
       held-still : HoldsIn g new.tables hold
       held-still = record {
         space = a.space';
         there = a.there';
         held = record {
+          any = was.any;
+          row = rw bits-same was.row;
           under = under-still;
-          own = own-still hold.is_kept was.own;
-          uncopied = subst IsUncopied (sym (words-same hold.guest)) was.uncopied;
+          own = λ d less. own-still hold.is_kept d less (was.own d less);
+          uncopied = λ d less. subst IsUncopied (sym (words-same (hold.guest + d))) (was.uncopied d less);
           some = was.some;
           reach = rw bits-same was.reach;
           placed = rw bits-same was.placed;
@@ -370,7 +377,7 @@ module _ {S : Type 0} (g : Ghosts S) (sure ok : Type 0) (kind : Kind) (old new :
     -- and what is held of each place is what it was.
     held-of-same : (hold : Holding) (p : ℕ) → HoldsIn g old.tables hold → Spares g ok kind old new a.space a.space' hold
         → held_of h' f' hold p ≡ held_of h f hold p
-    held-of-same hold p holds spares = rw (bits-same, size-same) (elim (cases_Bool (in_cluster h hold p)) [
+    held-of-same hold p holds spares = rw (bits-same, size-same) (elim (cases_Bool (in_clusters h hold p)) [
       | inl inside ↦ rw inside (rw (byte-held hold holds spares p inside) refl)
       | inr out ↦ rw out refl
     ])

@@ -1,8 +1,7 @@
 -- What calls leave of the leaks of an image.
-use Rattle.std.proofs.Common.{◌≡◌, ℕ, ◌+◌, arith, ap, sym, ◌∙◌, [], Option, Some, None, Result}
+use Rattle.std.proofs.Common.{◌≡◌, ℕ, ◌+◌, arith, ap, sym, ◌∙◌, [], Option, Some, None}
 use Rattle.imago_storage.specs.State.{StorageState}
 use Rattle.imago_storage.specs.Calls.{Kept}
-use Rattle.imago_storage.specs.declared.fault.Fault.{Fault}
 use Rattle.imago_storage.specs.declared.storage.Storage.{Ghosts}
 use Rattle.imago_access.specs.Changes.{Asked}
 use Rattle.imago_access.specs.declared.mapping.PreparedDataMapping.{PreparedDataMapping}
@@ -18,7 +17,6 @@ use Rattle.qcow2_image.specs.Leaking.{KeepsLeaks, KeepsLeaksBut, counts_in, name
 use Rattle.qcow2_image.specs.Preparing.{KeepsMapping}
 use Rattle.qcow2_image.specs.Rooms.{IsSafe, rest_of}
 use Rattle.qcow2_image.specs.Seen.{file_of}
-use Rattle.qcow2_image.specs.Steps.{KeepsImage}
 use Rattle.qcow2_image.specs.Unspent.{holding_in}
 use Rattle.qcow2_image.specs.declared.mappings.Reserved.{Reserved}
 use Rattle.qcow2_image.specs.declared.qcow2.PreparedMappingState.{PreparedMappingState}
@@ -107,10 +105,10 @@ module _ {S : Type 0} (g : Ghosts S) where
   pub held-leaks : (asked : Asked) (clusters : Reserved) (old new : Qcow2 S g) (mapping : PreparedDataMapping PreparedMappingState)
       → KeepsMapping g asked clusters old mapping new → old.unspent ≡ None → (c : ℕ)
       → (counts_in g new c ≡ counts_in g old c) × (names_in g new c ≡ names_in g old c)
-      × (pending g new c ≡ pending g old c + reserved_as clusters.is_kept clusters.host c)
+      × (pending g new c ≡ pending g old c + reserved_as clusters.is_kept clusters.host clusters.count c)
   held-leaks asked clusters old new mapping holds free c =
       let tables : new.tables ≡ old.tables = ap (λ (d : Qcow2 S g). d.tables) holds.now in
-      let held : reserved_in (holding_in g new.unspent) c ≡ reserved_as clusters.is_kept clusters.host c =
+      let held : reserved_in (holding_in g new.unspent) c ≡ reserved_as clusters.is_kept clusters.host clusters.count c =
       ap (λ (d : Qcow2 S g). reserved_in (holding_in g d.unspent) c) holds.now ∙ ap (λ (h : Holding). reserved_in (Some h) c) holds.holds in
       let none : reserved_in (holding_in g old.unspent) c ≡ 0 = ap (λ u. reserved_in (holding_in g u) c) free in
       let waits : waiting_in new.tables.space c ≡ waiting_in old.tables.space c = ap (λ (t : Tables S g). waiting_in t.space c) tables in (
@@ -120,7 +118,7 @@ module _ {S : Type 0} (g : Ghosts S) where
       )
 
   pub leaks-held : (asked : Asked) (clusters : Reserved) (old mid new : Qcow2 S g) (mapping : PreparedDataMapping PreparedMappingState)
-      → KeepsLeaksBut g (reserved_as clusters.is_kept clusters.host) old mid → KeepsMapping g asked clusters mid mapping new → mid.unspent ≡ None
+      → KeepsLeaksBut g (reserved_as clusters.is_kept clusters.host clusters.count) old mid → KeepsMapping g asked clusters mid mapping new → mid.unspent ≡ None
       → KeepsLeaks g old new
   leaks-held asked clusters old mid new mapping but holds free c =
       let one = but c in

@@ -1,7 +1,7 @@
 -- Where places of an image are written by their words or in the run of a mapping, and what the mapping holds behind a write.
 use Rattle.std.proofs.Common.{refl, arith, ap, sym, subst, ◌∙◌, inl, inr}
-use Rattle.std.specs.Prelude.{◌≡◌, ◌⊎◌, ℕ, ◌+◌, ◌-◌, ◌*◌, ◌/◌, ◌%◌, ◌<◌, ◌≤◌, ◌==◌, ◌&&◌, ◌||◌, ltb, nat_le, Bool, true, false, Option, Some, None, IsSome, IfSome}
-use Rattle.std.proofs.lemmas.Bool.{cases_Bool, cases_lt, and_from, and_parts, or_parts, eq-eqb, eqb-true, le-leb, leb-true, lt-ltb, ltb-true}
+use Rattle.std.specs.Prelude.{◌≡◌, ◌⊎◌, ℕ, ◌+◌, ◌-◌, ◌*◌, ◌/◌, ◌%◌, ◌<◌, ◌≤◌, ◌&&◌, ◌||◌, ltb, nat_le, Bool, true, false, Option, Some, None, IsSome, IfSome}
+use Rattle.std.proofs.lemmas.Bool.{cases_Bool, cases_lt, and_from, and_parts, or_parts, le-leb, leb-true, lt-ltb, ltb-true}
 use Rattle.std.proofs.lemmas.Nat.{div-add-mod'}
 use Rattle.imago_storage.specs.Disk.{byte}
 use Rattle.imago_storage.specs.Steps.{IsOut}
@@ -18,8 +18,8 @@ use Rattle.qcow2_types.proofs.Changes.DataSteps.{untouched-keeps}
 use Rattle.qcow2_alloc.specs.Quiet.{Metadata, IsSound}
 use Rattle.qcow2_steps.specs.Data.{IsHidden, KeepsWords, WritesBeside}
 use Rattle.qcow2_steps.proofs.DataRuns.{beside-reserved, beside-words}
-use Rattle.qcow2_image.specs.HeldHomes.{held-at, own-hidden, run-from, run-guest}
-use Rattle.qcow2_image.specs.Holding.{Holding, IsHeld, IsOwnAs, IsUncopied, Notes, claim_held, copied_to, held_home, held_of, home_or, homes_with, in_cluster, in_run, place_in, written_to}
+use Rattle.qcow2_image.specs.HeldHomes.{clusters-from, clusters-of, held-at, own-hidden, run-from, run-guest}
+use Rattle.qcow2_image.specs.Holding.{Holding, IsHeld, IsOwnAs, IsUncopied, Notes, claim_held, copied_to, held_home, held_of, held_place, home_or, homes_with, in_clusters, in_run, written_to}
 use Rattle.qcow2_image.specs.Homes.{cluster-there, home-of, home-there, mapped, memory_is, within-there}
 use Rattle.qcow2_image.specs.ImageLayer.{home_by, homes}
 use Rattle.qcow2_image.specs.Rooms.{HoldsIn, IsSafe, rest_of}
@@ -33,7 +33,8 @@ use Rattle.qcow2_image.proofs.Rewriting.{IsWrittenAt, byte-stays, rewritten-entr
 -- the place of the disk lies in the run, at this place of the file
 pub record IsOfRun (h : Fields) (hold : Holding) (p at : ℕ) : Type 0 where
   pub inside : in_run hold p ≡ true
-  pub there : at ≡ place_in h hold.host p
+  pub guest : (hold.guest ≤ p / cluster_size h) × (p / cluster_size h < hold.guest + hold.count)
+  pub there : at ≡ held_place h hold p
 
 abbrev pub IsInRun : Fields → Option Holding → (p at : ℕ) → Type 0
 IsInRun h None p at = ⊥
@@ -45,15 +46,16 @@ IsWrittenIn f h hold p at = (home_by h p (mapped f h p) ≡ Some (0, at)) ⊎ ((
 
 -- No place shows what is held.
 abbrev pub IsUnshown : Bytes → Fields → Option Holding → Type 0
-IsUnshown f h hold = IfSome hold (λ x. IsHidden f h x.host)
+IsUnshown f h hold = IfSome hold (λ x. (d : ℕ) → d < x.count → IsHidden f h (x.host + d))
 
 -- So it is written in a cluster that none shows.
 pub written-at : (f : Bytes) (h : Fields) (hold : Option Holding) (p at : ℕ) → IsUnshown f h hold → IsWrittenIn f h hold p at → IsWrittenAt f h p at
 written-at f h hold p at unshown (inl home) = inl home
 written-at f h None p at unshown (inr run) = absurd run.1
 written-at f h (Some hold) p at unshown (inr run) =
-    let there : at / cluster_size h ≡ hold.host = cluster-there h at hold.host p run.1.there in
-    inr (run.0, subst (IsHidden f h) (sym there) unshown)
+    let d : ℕ = p / cluster_size h - hold.guest in
+    let there : at / cluster_size h ≡ hold.host + d = cluster-there h at (hold.host + d) p run.1.there in
+    inr (run.0, subst (IsHidden f h) (sym there) (unshown d (omega (arith, run.1.guest.0, run.1.guest.1))))
 
 -- a home in the run
 held-there : (hold : Holding) (p at : ℕ) → held_home hold p ≡ Some (0, at) → (in_run hold p ≡ true) × (at ≡ hold.place + (p - hold.offset))
@@ -95,7 +97,11 @@ module _ {S : Type 0} (g : Ghosts S) (d : Qcow2 S g) (safe : IsSafe g d) where
         lt,
         inr (
           subst (λ m. home_by h p (mapped m h p) ≡ None) (memory_is g d.tables) word,
-          record { inside = here.0; there = here.1 ∙ held-at (rest_of g d.tables holds.space) hold holds.held p here.0 },
+          record {
+            inside = here.0;
+            guest = run-guest (rest_of g d.tables holds.space) hold holds.held p here.0;
+            there = here.1 ∙ held-at (rest_of g d.tables holds.space) hold holds.held p here.0;
+          },
         ),
       )
 
@@ -119,8 +125,8 @@ module _ {S : Type 0} (g : Ghosts S) (d : Qcow2 S g) (safe : IsSafe g d) where
   unshown-in = from (holding_in g d.unspent) safe.held where
     from : (hold : Option Holding) → IfSome hold (HoldsIn g d.tables) → IsUnshown (file_of g d.tables) h hold
     from None holds = tt
-    from (Some hold) holds = own-hidden hold.is_kept (rest_of g d.tables holds.space) hold.guest hold.host
-        (safe-sound g d holds.space holds.there safe) holds.held.own
+    from (Some hold) holds = λ i less. own-hidden hold.is_kept (rest_of g d.tables holds.space) (hold.guest + i) (hold.host + i)
+        (safe-sound g d holds.space holds.there safe) (holds.held.own i less)
 
 -- Where a mapping holds something, what was noted changes neither where places can be written,
 pub noted-homes : (at n : ℕ) (old new : Option Holding) → Notes at n old new → (home : ℕ → Option (ℕ × ℕ)) → homes_with new home ≡ homes_with old home
@@ -177,50 +183,54 @@ module _ (m : Metadata) (sound : IsSound m) (hold : Holding) (held : IsHeld m ho
   was : IsConsistent m.file m.header
   was = sound.safe.consistent
 
-  unshown : IsHidden m.file fields hold.host
-  unshown = own-hidden hold.is_kept m hold.guest hold.host sound held.own
+  unshown : (d : ℕ) → d < hold.count → IsHidden m.file fields (hold.host + d)
+  unshown d less = own-hidden hold.is_kept m (hold.guest + d) (hold.host + d) sound (held.own d less)
 
   each-at : (i : ℕ) → i < n → IsWrittenAt m.file fields (guest + i) (place + i)
   each-at i lt = written-at m.file fields (Some hold) (guest + i) (place + i) unshown (each i lt)
 
-  -- The places of the guest cluster;
-  cluster-of : (p : ℕ) → in_cluster fields hold p ≡ true → (p / cluster_size fields ≡ hold.guest) × (p < fields.size)
-  cluster-of p is =
-      let both = and_parts (p / cluster_size fields == hold.guest) (ltb p fields.size) is in
-      (eqb-true (p / cluster_size fields) hold.guest both.0, ltb-true p fields.size both.1)
-
-  run-cluster : (p : ℕ) → in_run hold p ≡ true → in_cluster fields hold p ≡ true
+  -- The places of the guest clusters;
+  run-cluster : (p : ℕ) → in_run hold p ≡ true → in_clusters fields hold p ≡ true
   run-cluster p is =
       let run = run-from hold p is in
       let on = held.on_disk in
-      and_from (p / cluster_size fields == hold.guest) (ltb p fields.size) (eq-eqb (p / cluster_size fields) hold.guest (run-guest m hold held p is))
-      (lt-ltb p fields.size (omega (arith, run.1, on)))
+      clusters-of fields hold p (run-guest m hold held p is) (omega (arith, run.1, on))
 
   -- no word says where one of them is written.
-  no-home : (p at : ℕ) → in_cluster fields hold p ≡ true → home_by fields p (mapped m.file fields p) ≡ Some (0, at) → ⊥
+  no-home : (p at : ℕ) → in_clusters fields hold p ≡ true → home_by fields p (mapped m.file fields p) ≡ Some (0, at) → ⊥
   no-home p at is home =
       let found = home-of fields p at (mapped m.file fields p) home in
-      let word : entry m.file fields hold.guest ≡ data_at found.0 true = subst (λ g. entry m.file fields g ≡ data_at found.0 true) (cluster-of p is).0 found.1 in
-      subst IsUncopied word held.uncopied
+      let guest = (clusters-from fields hold p is).0 in
+      let d : ℕ = p / cluster_size fields - hold.guest in
+      let same : p / cluster_size fields ≡ hold.guest + d = omega (arith, guest.0) in
+      let word : entry m.file fields (hold.guest + d) ≡ data_at found.0 true = subst (λ g. entry m.file fields g ≡ data_at found.0 true) same found.1 in
+      subst IsUncopied word (held.uncopied d (omega (arith, guest.0, guest.1)))
 
   -- So its bytes stay but for those that are written in the run,
-  byte-kept : (p : ℕ) → in_cluster fields hold p ≡ true → IsOut guest n p → x (place_in fields hold.host p) ≡ m.file (place_in fields hold.host p)
-  byte-kept p is beside = byte-stays m.file m.header was guest place n each-at x out (place_in fields hold.host p) (λ i lt at. elim (each i lt) [
+  byte-kept : (p : ℕ) → in_clusters fields hold p ≡ true → IsOut guest n p → x (held_place fields hold p) ≡ m.file (held_place fields hold p)
+  byte-kept p is beside = byte-stays m.file m.header was guest place n each-at x out (held_place fields hold p) (λ i lt at. elim (each i lt) [
     | inl home ↦
         let found = home-of fields (guest + i) (place + i) (mapped m.file fields (guest + i)) home in
         let one : (place + i) / cluster_size fields ≡ found.0 = cluster-there fields (place + i) found.0 (guest + i) found.2 in
-        let two : (place + i) / cluster_size fields ≡ hold.host = cluster-there fields (place + i) hold.host p (sym at) in
-        unshown.dataless ((guest + i) / cluster_size fields) true (found.1 ∙ ap (λ d. data_at d true) (sym one ∙ two))
+        let d : ℕ = p / cluster_size fields - hold.guest in
+        let here = (clusters-from fields hold p is).0 in
+        let two : (place + i) / cluster_size fields ≡ hold.host + d = cluster-there fields (place + i) (hold.host + d) p (sym at) in
+        (unshown d (omega (arith, here.0, here.1))).dataless ((guest + i) / cluster_size fields) true (found.1 ∙ ap (λ d. data_at d true) (sym one ∙ two))
     | inr run ↦
-        let rows : (guest + i) / cluster_size fields ≡ p / cluster_size fields = run-guest m hold held (guest + i) run.1.inside ∙ sym (cluster-of p is).0 in
-        let here : (place + i) % cluster_size fields ≡ (guest + i) % cluster_size fields = within-there fields (place + i) hold.host (guest + i) run.1.there in
-        let there : (place + i) % cluster_size fields ≡ p % cluster_size fields = within-there fields (place + i) hold.host p (sym at) in
+        let d : ℕ = p / cluster_size fields - hold.guest in
+        let e : ℕ = (guest + i) / cluster_size fields - hold.guest in
+        let own = (clusters-from fields hold p is).0 in
+        let one-row : (place + i) / cluster_size fields ≡ hold.host + e = cluster-there fields (place + i) (hold.host + e) (guest + i) run.1.there in
+        let row : (place + i) / cluster_size fields ≡ hold.host + d = cluster-there fields (place + i) (hold.host + d) p (sym at) in
+        let rows : (guest + i) / cluster_size fields ≡ p / cluster_size fields = omega (arith, one-row, row, own.0, run.1.guest.0) in
+        let here : (place + i) % cluster_size fields ≡ (guest + i) % cluster_size fields = within-there fields (place + i) (hold.host + e) (guest + i) run.1.there in
+        let there : (place + i) % cluster_size fields ≡ p % cluster_size fields = within-there fields (place + i) (hold.host + d) p (sym at) in
         let one : guest + i ≡ p = same-parts (guest + i) p (cluster_size fields) rows (sym here ∙ there) in
         elim beside [ inl low ↦ omega (arith, low, one) | inr high ↦ omega (arith, high, one, lt) ]
   ])
 
   -- and what of the range lies in it lies in the run.
-  cluster-run : (i : ℕ) → i < n → in_cluster fields hold (guest + i) ≡ true → in_run hold (guest + i) ≡ true
+  cluster-run : (i : ℕ) → i < n → in_clusters fields hold (guest + i) ≡ true → in_run hold (guest + i) ≡ true
   cluster-run i lt is = elim (each i lt) [ inl home ↦ absurd (no-home (guest + i) (place + i) is home) | inr run ↦ run.1.inside ]
 
   -- What was written to it is noted.
@@ -236,7 +246,7 @@ module _ (m : Metadata) (sound : IsSound m) (hold : Holding) (held : IsHeld m ho
 
     -- A place beside the range is held as it was,
     pub held-beside : (p : ℕ) → IsOut guest n p → held_of fields x now p ≡ held_of fields m.file hold p
-    held-beside p beside = elim (cases_Bool (in_cluster fields hold p)) [
+    held-beside p beside = elim (cases_Bool (in_clusters fields hold p)) [
       | inr off ↦ rw off refl
       | inl so ↦ elim (cases_Bool (in_run hold p)) [
         | inr off ↦ rw (so, off) refl
@@ -252,14 +262,14 @@ module _ (m : Metadata) (sound : IsSound m) (hold : Holding) (held : IsHeld m ho
         → (home_by fields (guest + i) (mapped m.file fields (guest + i)) ≡ None → new ≡ old)
         → TakesByte b (held_of fields m.file hold (guest + i)) old (held_of fields x now (guest + i)) new
     held-range i b old new lt is by-word by-run = elim (each i lt) [
-      | inl home ↦ elim (cases_Bool (in_cluster fields hold (guest + i))) [
+      | inl home ↦ elim (cases_Bool (in_clusters fields hold (guest + i))) [
         | inl so ↦ absurd (no-home (guest + i) (place + i) so home)
         | inr off ↦ rw off (by-word home, refl)
       ]
       | inr run ↦
           let p : ℕ = guest + i in
           let so = run-cluster (guest + i) run.1.inside in
-          let there : x (place_in fields hold.host (guest + i)) ≡ b = ap x (sym run.1.there) ∙ is in
+          let there : x (held_place fields hold (guest + i)) ≡ b = ap x (sym run.1.there) ∙ is in
           let noted : written_to fields x now (guest + i) ≡ Some b = rw (written-on i lt, there) refl in
           rw (so, run.1.inside) (by-run run.0, ap (λ o. inside (copied_to fields hold (guest + i)) o hold.overwrite) noted)
     ]
@@ -272,13 +282,17 @@ module _ (m : Metadata) (sound : IsSound m) (hold : Holding) (held : IsHeld m ho
         record { apart = run.0; low = run.1; high = run.2; outside = out } in
         let words = beside-words m sound (place / cluster_size fields) ((place + (n - 1)) / cluster_size fields - place / cluster_size fields) place n x writes in
         record {
-          under = record {
-            inside = held.under.inside;
-            there = (untouched-keeps m.file x m.header was (rewritten-kept m.file m.header was guest place n each-at x out)).places.l1 _ ∙ held.under.there;
-            some = held.under.some;
+          any = held.any;
+          row = held.row;
+          under = λ d less. record {
+            inside = (held.under d less).inside;
+            there = (untouched-keeps m.file x m.header was (rewritten-kept m.file m.header was guest place n each-at x out)).places.l1 _
+                ∙ (held.under d less).there;
+            some = (held.under d less).some;
           };
-          own = own-still words hold.is_kept held.own;
-          uncopied = subst IsUncopied (sym (rewritten-entries m.file m.header was guest place n each-at x out hold.guest)) held.uncopied;
+          own = λ d less. own-still words hold.is_kept (hold.guest + d) (hold.host + d) (held.own d less);
+          uncopied = λ d less. subst IsUncopied (sym (rewritten-entries m.file m.header was guest place n each-at x out (hold.guest + d)))
+              (held.uncopied d less);
           some = held.some;
           reach = held.reach;
           placed = held.placed;
@@ -292,18 +306,18 @@ module _ (m : Metadata) (sound : IsSound m) (hold : Holding) (held : IsHeld m ho
           beside = λ p is off. notes p ∙ beside-off p is off;
         }
       where
-        own-still : KeepsWords m x → (is_kept : Bool) → IsOwnAs is_kept m hold.guest hold.host → IsOwnAs is_kept (record m { file = x }) hold.guest hold.host
-        own-still words true mine = record { file = words.file_entries hold.guest ∙ mine.file; memory = words.memory_entries hold.guest ∙ mine.memory }
-        own-still words false mine = beside-reserved m x words hold.host mine
+        own-still : KeepsWords m x → (is_kept : Bool) (g h : ℕ) → IsOwnAs is_kept m g h → IsOwnAs is_kept (record m { file = x }) g h
+        own-still words true g h mine = record { file = words.file_entries g ∙ mine.file; memory = words.memory_entries g ∙ mine.memory }
+        own-still words false g h mine = beside-reserved m x words h mine
 
-        beside-off : (p : ℕ) → in_cluster fields hold p ≡ true → in_run hold p ≡ false → ((nat_le guest p && ltb p (guest + n)) || hold.written p) ≡ false
+        beside-off : (p : ℕ) → in_clusters fields hold p ≡ true → in_run hold p ≡ false → ((nat_le guest p && ltb p (guest + n)) || hold.written p) ≡ false
         beside-off p is off = elim (cases_Bool (nat_le guest p && ltb p (guest + n))) [
           | inr away ↦ rw away (held.beside p is off)
           | inl so ↦
               let both = in-range guest n p so in
               let one : guest + (p - guest) ≡ p = omega (arith, both.0) in
               let run : in_run hold p ≡ true = subst (λ q. in_run hold q ≡ true) one
-              (cluster-run (p - guest) (omega (arith, both.0, both.1)) (subst (λ q. in_cluster fields hold q ≡ true) (sym one) is)) in
+              (cluster-run (p - guest) (omega (arith, both.0, both.1)) (subst (λ q. in_clusters fields hold q ≡ true) (sym one) is)) in
               let bad : true ≡ false = sym run ∙ off in
               absurd cc
         ]

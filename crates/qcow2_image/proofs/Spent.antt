@@ -1,8 +1,8 @@
 -- Commits and cancels of prepared mappings in the words of the driver.
 use Rattle.std.proofs.Common.{◌≡◌, ◌≢◌, ℕ, ◌+◌, ◌-◌, ◌≤◌, refl, arith, ap, sym, subst, ◌∙◌, inl, inr, Bool, false, true, [], ◌∷◌, ◌++◌, Option, Some, None, Result, Ok, Err}
 use Rattle.std.proofs.Math.Nat.{le_refl}
-use Rattle.std.proofs.lemmas.Bool.{cases_Bool, cases_eq, ne_eqb}
-use Rattle.std.specs.Prelude.{IsTrue, IsSome, IfSome, IfErr, ◌==◌}
+use Rattle.std.proofs.lemmas.Bool.{cases_lt}
+use Rattle.std.specs.Prelude.{IsTrue, IsSome, IfSome, IfErr}
 use Rattle.std.specs.Borrow.{RattleType}
 use Rattle.imago_storage.specs.State.{StorageState}
 use Rattle.imago_storage.specs.Calls.{Later}
@@ -24,11 +24,13 @@ use Rattle.qcow2_types.proofs.Counting.Either.{refs-file}
 use Rattle.qcow2_alloc.specs.declared.file.ImageFile.{ImageFile}
 use Rattle.qcow2_alloc.specs.FreeList.{covers}
 use Rattle.qcow2_alloc.specs.Going as going
-use Rattle.qcow2_alloc.specs.Quiet.{Metadata, IsSound, counted, in_memory, named_at_all, one_at, referenced, waiting}
-use Rattle.qcow2_alloc.proofs.Blocks.CountingClusters.{one-run}
+use Rattle.qcow2_alloc.specs.Quiet.{Metadata, IsSound, counted, in_memory, named_at_all, referenced, waiting}
+use Rattle.qcow2_alloc.proofs.Blocks.CountingRuns.{covers-behind}
+use Rattle.qcow2_alloc.proofs.Growth.GrownTables.{covers-before, covers-inside}
 use Rattle.qcow2_steps.specs.Words.{IsReserved}
 use Rattle.qcow2_steps.proofs.Steps.{put-off-advances}
 use Rattle.qcow2_clusters.specs.Naming.{TakesNone, WhyNotNamed}
+use Rattle.qcow2_clusters.specs.Storing.{AreReserved}
 use Rattle.qcow2_clusters.specs.declared.space.Space.{Space}
 use Rattle.qcow2_image.specs.Committing.{CancelsUnspent, CommitsUnspent, DropsUnspent, GivesBack, SpendsUnspent, answer_of, failed_behind_any}
 use Rattle.qcow2_image.specs.Holding.{Holding, IsOwnAs, claim_held}
@@ -51,43 +53,39 @@ use Rattle.qcow2_image.proofs.SpentLeaks.{dropped-leaks, spent-leaks}
 abbrev Answer : Type 0
 Answer = Result Unit (Fault × Option (PreparedDataMapping PreparedMappingState))
 
-one-most : (x c : ℕ) → one_at x c ≤ 1
-one-most x c = elim (cases_Bool (c == x)) [
-  | inl same ↦ rw same (omega arith)
-  | inr apart ↦ rw apart (omega arith)
-]
-
--- the free space in which a host cluster waits to be freed for which room was held
-abbrev with_waiting : Space → ℕ → Space
-with_waiting space host = record space {
+-- the free space in which host clusters in a row wait to be freed for which room was held
+abbrev with_waiting : Space → (host n : ℕ) → Space
+with_waiting space host n = record space {
   to_free = record {
-    entries = space.to_free.entries ++ record { first = host; count = 1; metadata = false } ∷ [];
+    entries = space.to_free.entries ++ record { first = host; count = n; metadata = false } ∷ [];
     held = space.to_free.held - 1;
   };
 }
 
--- A host cluster that is reserved may be put among what waits to be freed.
-put-off-sound : (m : Metadata) (x : ℕ) → in_memory m ≡ m.file → IsSound m → IsReserved m x
-    → IsSound (record m { pending = m.pending ++ record { first = x; count = 1; metadata = false } ∷ [] })
-put-off-sound m x clean sound reserved =
-    (put-off-advances m (record { first = x; count = 1; metadata = false }) sound enough (λ c some. absurd (omega (arith, some)))).sound where
-      enough : (c : ℕ) → referenced m c + waiting m c + covers c (record { first = x; count = 1; metadata = false }) ≤ counted m c
-      enough c = elim (cases_eq c x) [
-        | inl is ↦
-            let one : covers c (record { first = x; count = 1; metadata = false }) ≡ one_at x c = one-run x c in
-            let le : refs m.file m.header.fields x ≤ named_at_all m x = refs-file m.file (in_memory m) m.header.fields x in
-            let same : referenced m x ≡ refs m.file m.header.fields x = ap (λ b. refs b m.header.fields x) clean in
-            let none = reserved.unnamed in
-            let waits = reserved.waits in
-            let used = reserved.used.taken in
-            let most = one-most x c in
-            subst (λ d. referenced m d + waiting m d + covers c (record { first = x; count = 1; metadata = false }) ≤ counted m d) (sym is)
-            (omega (arith, one, most, le, same, none, waits, used))
-        | inr not ↦
-            let one : covers c (record { first = x; count = 1; metadata = false }) ≡ one_at x c = one-run x c in
-            let none : one_at x c ≡ 0 = rw (ne_eqb c x not) refl in
-            let owed = sound.covered c in
-            omega (arith, one, none, owed)
+-- Host clusters in a row that are reserved may be put among what waits to be freed.
+put-off-sound : (m : Metadata) (x n : ℕ) → in_memory m ≡ m.file → IsSound m → AreReserved n m x
+    → IsSound (record m { pending = m.pending ++ record { first = x; count = n; metadata = false } ∷ [] })
+put-off-sound m x n clean sound reserved =
+    (put-off-advances m (record { first = x; count = n; metadata = false }) sound enough (λ c some. absurd (omega (arith, some)))).sound where
+      beside : (c : ℕ) → covers c (record { first = x; count = n; metadata = false }) ≡ 0
+          → referenced m c + waiting m c + covers c (record { first = x; count = n; metadata = false }) ≤ counted m c
+      beside c none = let owed = sound.covered c in omega (arith, none, owed)
+
+      enough : (c : ℕ) → referenced m c + waiting m c + covers c (record { first = x; count = n; metadata = false }) ≤ counted m c
+      enough c = elim (cases_lt c x) [
+        | inl before ↦ beside c (covers-before c x n before)
+        | inr from ↦ elim (cases_lt c (x + n)) [
+          | inr behind ↦ beside c (covers-behind c x n behind)
+          | inl to ↦
+              let own = reserved c from to in
+              let one : covers c (record { first = x; count = n; metadata = false }) ≡ 1 = covers-inside c x n from to in
+              let le : refs m.file m.header.fields c ≤ named_at_all m c = refs-file m.file (in_memory m) m.header.fields c in
+              let same : referenced m c ≡ refs m.file m.header.fields c = ap (λ b. refs b m.header.fields c) clean in
+              let none = own.unnamed in
+              let waits = own.waits in
+              let used = own.used.taken in
+              omega (arith, one, le, same, none, waits, used)
+        ]
       ]
 
 module _ (R : RattleType) (st : Ghosts R.Denot) (sd : mir.Syntax.Dict) (dd : mir.Syntax.Dict) where
@@ -257,7 +255,7 @@ module _ (R : RattleType) (st : Ghosts R.Denot) (sd : mir.Syntax.Dict) (dd : mir
 -- What a cancel is by its two calls: the mapping was taken out, and its cluster given back.
 pub drops-by : {S : Type 0} (g : Ghosts S) (claim : ℕ) (old mid : Qcow2 S g) (u : Unspent S g)
     → (u.claim ≡ claim) × (old.unspent ≡ Some u) × (mid ≡ record old { unspent = None }) → (space : Option Space)
-    → GivesBack u.is_kept u.host mid.tables.space space → (new : Qcow2 S g) → new ≡ record mid { tables = new.tables }
+    → GivesBack u.is_kept u.host u.count mid.tables.space space → (new : Qcow2 S g) → new ≡ record mid { tables = new.tables }
     → new.tables.file ≡ mid.tables.file → new.tables.l1 ≡ mid.tables.l1 → new.tables.caches ≡ mid.tables.caches → new.tables.space ≡ space
     → CancelsUnspent g claim old new
 drops-by g claim old mid u taken space gives new is file l1 caches known = inr (record {
@@ -265,7 +263,7 @@ drops-by g claim old mid u taken space gives new is file l1 caches known = inr (
   there = taken.1;
   mine = taken.0;
   space = space;
-  given = subst (λ o. GivesBack u.is_kept u.host o space) (ap (λ (t : Tables _ g). t.space) tables-same) gives;
+  given = subst (λ o. GivesBack u.is_kept u.host u.count o space) (ap (λ (t : Tables _ g). t.space) tables-same) gives;
   file = file ∙ ap (λ (t : Tables _ g). t.file) tables-same;
   l1 = l1 ∙ ap (λ (t : Tables _ g). t.l1) tables-same;
   caches = caches ∙ ap (λ (t : Tables _ g). t.caches) tables-same;
@@ -345,28 +343,33 @@ module _ {S : Type 0} (g : Ghosts S) (claim : ℕ) (old new : Qcow2 S g) (s : Dr
     tables = rw (file-same, fields-same, s.caches) seen.tables;
   }
 
-  -- Its cluster waits to be freed then, or stays kept.
+  -- Its clusters wait to be freed then, or stay kept.
   sound-still : HoldsIn g old.tables hold → ((space : Space) → old.tables.space ≡ Some space → IsSound (rest_of g old.tables space))
       → IfSome new.tables.space (λ space. IsSound (rest_of g new.tables space))
   sound-still holds sound =
       subst (λ o. IfSome o (λ space. IsSound (rest_of g new.tables space))) (sym s.known)
-      (from hold.is_kept refl s.space (subst (λ o. GivesBack hold.is_kept hold.host o s.space) holds.there s.given)) where
-        from : (is_kept : Bool) → hold.is_kept ≡ is_kept → (o : Option Space) → GivesBack is_kept hold.host (Some holds.space) o
+      (from hold.is_kept refl s.space (subst (λ o. GivesBack hold.is_kept hold.host hold.count o s.space) holds.there s.given)) where
+        from : (is_kept : Bool) → hold.is_kept ≡ is_kept → (o : Option Space) → GivesBack is_kept hold.host hold.count (Some holds.space) o
             → IfSome o (λ space. IsSound (rest_of g new.tables space))
         from true is o same = subst (λ o. IfSome o (λ space. IsSound (rest_of g new.tables space))) (sym same)
             (subst IsSound (sym (rest-same holds.space)) (sound holds.space holds.there))
         from false is o (inl none) = absurd (let room = holds.room is in let no = none.0 in omega (arith, room, no))
         from false is o (inr given) = subst (λ o. IfSome o (λ space. IsSound (rest_of g new.tables space))) (sym given.1)
-            (subst IsSound (sym (rest-same (with_waiting holds.space hold.host)))
-            (put-off-sound (rest_of g old.tables holds.space) hold.host (rest-memory g old.tables holds.space) (sound holds.space holds.there)
-            (subst (λ b. IsOwnAs b (rest_of g old.tables holds.space) hold.guest hold.host) is holds.held.own)))
+            (subst IsSound (sym (rest-same (with_waiting holds.space hold.host hold.count)))
+            (put-off-sound (rest_of g old.tables holds.space) hold.host hold.count (rest-memory g old.tables holds.space)
+            (sound holds.space holds.there) (λ d from to.
+            let i : ℕ = d - hold.host in
+            let whole : hold.host + i ≡ d = omega (arith, from) in
+            subst (IsReserved (rest_of g old.tables holds.space)) whole
+            (subst (λ b. IsOwnAs b (rest_of g old.tables holds.space) (hold.guest + i) (hold.host + i)) is
+            (holds.held.own i (omega (arith, from, to)))))))
 
   -- The search for free clusters begins where it did.
-  from-still : (is_kept : Bool) (host : ℕ) (before after : Option Space) → GivesBack is_kept host before after
+  from-still : (is_kept : Bool) (host n : ℕ) (before after : Option Space) → GivesBack is_kept host n before after
       → searched_from after ≡ searched_from before
-  from-still true host before after given = ap searched_from given
-  from-still false host None after given = ap searched_from given
-  from-still false host (Some space) after given = elim given [
+  from-still true host n before after given = ap searched_from given
+  from-still false host n None after given = ap searched_from given
+  from-still false host n (Some space) after given = elim given [
     | inl none ↦ ap searched_from none.1
     | inr back ↦ ap searched_from back.1
   ]
@@ -380,7 +383,7 @@ module _ {S : Type 0} (g : Ghosts S) (claim : ℕ) (old new : Qcow2 S g) (s : Dr
     sound = sound-still (subst (λ o. IfSome o (HoldsIn g old.tables)) held-is safe.held)
         (λ space there. subst (λ o. IfSome o (λ x. IsSound (rest_of g old.tables x))) there safe.sound);
     searched = counted-same g old.tables new.tables file-same (ap (λ (f : ImageFile S). f.header) s.file)
-        (ap searched_from s.known ∙ from-still s.spent.is_kept s.spent.host old.tables.space s.space s.given) safe.searched;
+        (ap searched_from s.known ∙ from-still s.spent.is_kept s.spent.host s.spent.count old.tables.space s.space s.given) safe.searched;
     held = subst (λ o. IfSome o (HoldsIn g new.tables)) (sym none-held) tt;
     writable = λ some. absurd (cc (subst IsSome free-now some));
   }

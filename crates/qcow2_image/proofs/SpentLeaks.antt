@@ -1,5 +1,6 @@
 -- What commits and cancels leave of the leaks of an image: what was reserved is named then, or waits to be freed.
-use Rattle.std.proofs.Common.{◌≡◌, ◌≢◌, ℕ, ◌+◌, ◌*◌, ◌/◌, ◌%◌, ◌^◌, ◌<◌, ◌≤◌, mul-pos, refl, arith, ap, subst, ◌∙◌, inl, inr, Bool, false, true, Option, Some, Result, Ok, Err}
+use Rattle.std.proofs.Common.{◌≡◌, ◌≢◌, ℕ, zero, suc, ◌+◌, ◌*◌, ◌/◌, ◌%◌, ◌^◌, ◌<◌, ◌≤◌, mul-pos, refl, arith, ap, sym, subst, ◌∙◌, inl, inr, Bool, false, true, Option, Some, Result, Ok, Err}
+use Rattle.std.proofs.lemmas.Bool.{cases_lt}
 use Rattle.std.proofs.lemmas.Nat.{mod_below, pow_pos}
 use Rattle.std.specs.Prelude.{IfErr, IfSome}
 use Rattle.imago_storage.specs.State.{StorageState}
@@ -22,16 +23,20 @@ use Rattle.qcow2_types.proofs.Showing.Values.{entry-slot}
 use Rattle.qcow2_metadata.specs.Allocations.{allocation_of, freed, newly, replaced}
 use Rattle.qcow2_metadata.specs.Places.{IsInReach}
 use Rattle.qcow2_metadata.proofs.Conservation.{map_conserves}
-use Rattle.qcow2_alloc.specs.FreeList.{listed}
+use Rattle.qcow2_alloc.specs.FreeList.{covers, listed}
+use Rattle.qcow2_alloc.specs.MakingRoom.{run_of}
 use Rattle.qcow2_alloc.specs.Quiet.{IsSound, Metadata, counted, in_memory, named_at_all, one_at, referenced, waiting}
 use Rattle.qcow2_alloc.proofs.Blocks.CountingClusters.{one-run}
+use Rattle.qcow2_alloc.proofs.Blocks.CountingRuns.{covers-behind}
+use Rattle.qcow2_alloc.proofs.Growth.GrownTables.{covers-before, covers-inside}
 use Rattle.qcow2_alloc.proofs.Freeing.Listed.{listed_push}
 use Rattle.qcow2_steps.specs.Words.{IsReserved}
-use Rattle.qcow2_clusters.specs.Naming.{IsUnder, taken_before}
+use Rattle.qcow2_clusters.specs.Naming.{IsUnder, naming_run, taken_before}
 use Rattle.qcow2_clusters.specs.declared.space.Space.{Space}
+use Rattle.qcow2_clusters.proofs.NamedRuns.{near-each}
 use Rattle.qcow2_clusters.proofs.NamedWords.{kept-newly, names-data, newly-one}
 use Rattle.qcow2_image.specs.Committing.{CancelsUnspent, CommitsUnspent, DropsUnspent, GivesBack, SpendsUnspent, answer_of}
-use Rattle.qcow2_image.specs.Holding.{Holding, IsOwnAs}
+use Rattle.qcow2_image.specs.Holding.{Holding, IsHeld, IsOwnAs}
 use Rattle.qcow2_image.specs.Leaking.{KeepsLeaks, counts_in, names_in, reserved_as, reserved_in, waiting_in}
 use Rattle.qcow2_image.specs.Rooms.{HoldsIn, IsSafe}
 use Rattle.qcow2_image.specs.Unspent.{holding, holding_in}
@@ -91,9 +96,67 @@ module _ (m : Metadata) (table guest x : ℕ) (is-sound : IsSound m) (under : Is
       (unnamed-slot reserved) c
 
   -- as one that was kept isn't.
-  pub newly-own : (is_kept : Bool) → IsOwnAs is_kept m guest x → (c : ℕ) → newly x (taken_before m guest) c ≡ reserved_as is_kept x c
+  newly-own : (is_kept : Bool) → IsOwnAs is_kept m guest x → (c : ℕ) → newly x (taken_before m guest) c ≡ reserved_as is_kept x 1 c
   newly-own true own c = ap (λ (o : Mapping). newly x (allocation_of h.cluster_bits o) c) own.file ∙ kept-newly x c
-  newly-own false own c = newly-reserved own c
+  newly-own false own c = newly-reserved own c ∙ sym (one-run x c)
+
+-- One cluster more is reserved.
+covers-more : (x n c : ℕ) → covers c (run_of x (suc n)) ≡ covers c (run_of x n) + covers c (run_of (x + n) 1)
+covers-more x n c = elim (cases_lt c x) [
+  | inl before ↦
+      let a = covers-before c x (suc n) before in
+      let b = covers-before c x n before in
+      let d = covers-before c (x + n) 1 (omega (arith, before)) in
+      omega (arith, a, b, d)
+  | inr from ↦ elim (cases_lt c (x + n)) [
+    | inl to ↦
+        let a = covers-inside c x (suc n) from (omega (arith, to)) in
+        let b = covers-inside c x n from to in
+        let d = covers-before c (x + n) 1 to in
+        omega (arith, a, b, d)
+    | inr behind ↦ elim (cases_lt c (x + n + 1)) [
+      | inl last ↦
+          let a = covers-inside c x (suc n) from (omega (arith, last)) in
+          let b = covers-behind c x n behind in
+          let d = covers-inside c (x + n) 1 behind last in
+          omega (arith, a, b, d)
+      | inr past ↦
+          let a = covers-behind c x (suc n) (omega (arith, past)) in
+          let b = covers-behind c x n behind in
+          let d = covers-behind c (x + n) 1 past in
+          omega (arith, a, b, d)
+    ]
+  ]
+]
+
+covers-none : (x c : ℕ) → covers c (run_of x 0) ≡ 0
+covers-none x c = elim (cases_lt c x) [
+  | inl before ↦ covers-before c x 0 before
+  | inr from ↦ covers-behind c x 0 (omega (arith, from))
+]
+
+reserved-more : (is_kept : Bool) (x n c : ℕ) → reserved_as is_kept x (suc n) c ≡ reserved_as is_kept x n c + reserved_as is_kept (x + n) 1 c
+reserved-more true x n c = refl
+reserved-more false x n c = covers-more x n c
+
+reserved-none : (is_kept : Bool) (x c : ℕ) → reserved_as is_kept x 0 c ≡ 0
+reserved-none true x c = refl
+reserved-none false x c = covers-none x c
+
+-- Guest clusters in a row take their host clusters beyond what they give up, unless those were kept.
+taken-run : (m : Metadata) (hold : Holding) (is-sound : IsSound m) → IsHeld m hold → (c k : ℕ) → k ≤ hold.count
+    → (naming_run m hold.guest hold.host k).taken c
+    ≡ (naming_run m hold.guest hold.host k).handed c + reserved_as hold.is_kept hold.host k c
+unfolding naming_run
+taken-run m hold is-sound held c zero most = let none = reserved-none hold.is_kept hold.host c in omega (arith, none)
+taken-run m hold is-sound held c (suc k) most =
+    let before = taken-run m hold is-sound held c k (omega (arith, most)) in
+    let less : k < hold.count = omega (arith, most) in
+    let some = held.some in
+    let anew = newly-own m hold.table (hold.guest + k) (hold.host + k) is-sound (held.under k less) (λ none. some (omega (arith, none)))
+    (near-each m.header.fields.cluster_bits hold.host hold.count held.reach k less) hold.is_kept (held.own k less) c in
+    let more = reserved-more hold.is_kept hold.host k c in
+    omega (arith, before, anew, more)
 
 -- A commit.
 module _ {S : Type 0} (g : Ghosts S) (claim : ℕ) (old new : Qcow2 S g)
@@ -106,15 +169,14 @@ module _ {S : Type 0} (g : Ghosts S) (claim : ℕ) (old new : Qcow2 S g)
       let m' = after g claim old new result s safe ok in
       let w = with-space g claim old new result s safe in
       let law = (advances g claim old new result s safe ok).law c in
-      let anew = newly-own m one.table one.guest one.host (sound g claim old new result s safe) has.held.under has.held.some has.held.reach
-      one.is_kept has.held.own c in
+      let anew = taken-run m one (sound g claim old new result s safe) has.held c one.count (omega arith) in
       let counts : counted m c ≡ counts_in g old c = ap (λ (b : Bytes). count b m.header.fields c) (memory-then g claim old new result s safe ok) in
       let counts' : counted m' c ≡ counts_in g new c = ap (λ (b : Bytes). count b m'.header.fields c) (memory-now g claim old new result s safe ok) in
       let names : referenced m c ≡ names_in g old c = ap (λ (b : Bytes). refs b m.header.fields c) (memory-then g claim old new result s safe ok) in
       let names' : referenced m' c ≡ names_in g new c = ap (λ (b : Bytes). refs b m'.header.fields c) (memory-now g claim old new result s safe ok) in
       let waits : waiting_in old.tables.space c ≡ waiting m c = ap (λ o. waiting_in o c) has.there in
       let waits' : waiting_in new.tables.space c ≡ waiting m' c = ap (λ o. waiting_in o c) w.there ∙ ap (λ es. listed es c) w.entries in
-      let held : reserved_in (holding_in g old.unspent) c ≡ reserved_as one.is_kept one.host c = ap (λ o. reserved_in o c) (hold-is g claim old new result s) in
+      let held : reserved_in (holding_in g old.unspent) c ≡ reserved_as one.is_kept one.host one.count c = ap (λ o. reserved_in o c) (hold-is g claim old new result s) in
       let held' : reserved_in (holding_in g new.unspent) c ≡ 0 = ap (λ u. reserved_in (holding_in g u) c) (free-now g claim old new result s) in
       omega (arith, law, anew, counts, counts', names, names', waits, waits', held, held')
 
@@ -129,14 +191,13 @@ module _ {S : Type 0} (g : Ghosts S) (claim : ℕ) (old new : Qcow2 S g)
 
 -- A mapping is given up.
 module _ {S : Type 0} (g : Ghosts S) (claim : ℕ) (old new : Qcow2 S g) where
-  back-waits : (is_kept : Bool) (host : ℕ) (space : Space) (o : Option Space) → (is_kept ≡ false → 0 < space.to_free.held)
-      → GivesBack is_kept host (Some space) o → (c : ℕ) → waiting_in o c ≡ listed space.to_free.entries c + reserved_as is_kept host c
-  back-waits true host space o room same c = let is : waiting_in o c ≡ listed space.to_free.entries c = ap (λ o. waiting_in o c) same in omega (arith, is)
-  back-waits false host space o room (inl none) c = absurd (let some = room refl in let no = none.0 in omega (arith, some, no))
-  back-waits false host space o room (inr given) c =
+  back-waits : (is_kept : Bool) (host n : ℕ) (space : Space) (o : Option Space) → (is_kept ≡ false → 0 < space.to_free.held)
+      → GivesBack is_kept host n (Some space) o → (c : ℕ) → waiting_in o c ≡ listed space.to_free.entries c + reserved_as is_kept host n c
+  back-waits true host n space o room same c = let is : waiting_in o c ≡ listed space.to_free.entries c = ap (λ o. waiting_in o c) same in omega (arith, is)
+  back-waits false host n space o room (inl none) c = absurd (let some = room refl in let no = none.0 in omega (arith, some, no))
+  back-waits false host n space o room (inr given) c =
       ap (λ o. waiting_in o c) given.1
-      ∙ listed_push space.to_free.entries (record { first = host; count = 1; metadata = false }) c
-      ∙ ap (λ n. listed space.to_free.entries c + n) (one-run host c)
+      ∙ listed_push space.to_free.entries (record { first = host; count = n; metadata = false }) c
 
   pub dropped-leaks : DropsUnspent g claim old new → IsSafe g old → KeepsLeaks g old new
   dropped-leaks s safe = leaks-same g old new (ap (λ (x : StorageState). bytes_of x.bytes) (ap (λ f. g.state f.image) s.file)) (ap (λ f. f.header) s.file) (λ c.
@@ -145,8 +206,8 @@ module _ {S : Type 0} (g : Ghosts S) (claim : ℕ) (old new : Qcow2 S g) where
       let has : HoldsIn g old.tables one = subst (λ o. IfSome o (HoldsIn g old.tables)) is safe.held in
       let waits : waiting_in old.tables.space c ≡ listed has.space.to_free.entries c = ap (λ o. waiting_in o c) has.there in
       let waits' : waiting_in new.tables.space c ≡ waiting_in s.space c = ap (λ o. waiting_in o c) s.known in
-      let back = back-waits one.is_kept one.host has.space s.space has.room (subst (λ o. GivesBack one.is_kept one.host o s.space) has.there s.given) c in
-      let held : reserved_in (holding_in g old.unspent) c ≡ reserved_as one.is_kept one.host c = ap (λ o. reserved_in o c) is in
+      let back = back-waits one.is_kept one.host one.count has.space s.space has.room (subst (λ o. GivesBack one.is_kept one.host one.count o s.space) has.there s.given) c in
+      let held : reserved_in (holding_in g old.unspent) c ≡ reserved_as one.is_kept one.host one.count c = ap (λ o. reserved_in o c) is in
       let held' : reserved_in (holding_in g new.unspent) c ≡ 0 = ap (λ (d : Qcow2 S g). reserved_in (holding_in g d.unspent) c) s.others in
       omega (arith, waits, waits', back, held, held'))
 

@@ -54,7 +54,7 @@ use Rattle.qcow2_image.specs.Seen.{IsOfFile, IsSeen, file_of, homes_of, layer_of
 use Rattle.qcow2_image.specs.Unspent.{holding_in}
 use Rattle.qcow2_image.specs.Writing.{IsHomeAt, WhyNotTold, WritesAt}
 use Rattle.qcow2_image.proofs.Needing.{since-as, wrote-byte}
-use Rattle.qcow2_image.proofs.Preparing.{safe-undamaged, went-kept}
+use Rattle.qcow2_image.proofs.Preparations.Preparing.{safe-undamaged, went-kept}
 use Rattle.qcow2_image.proofs.Anew.{on-ok}
 use Rattle.qcow2_image.proofs.Steps.{looked-kept, takes-kept}
 use Rattle.qcow2_image.specs.Steps.{KeepsImage}

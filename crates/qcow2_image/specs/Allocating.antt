@@ -1,5 +1,5 @@
 -- How clusters are allocated for guest clusters that have none of their own.
-use Rattle.std.specs.Prelude.{◌≡◌, ◌≢◌, ⊤, ℕ, ◌+◌, ◌*◌, ◌/◌, ◌<◌, ◌==◌, Bool, true, false, not, List, max, slice_index, length, Option, Some, None, IsSome, IfSome, is_some, Result, Ok, Err, IfOk, IfErr, OnOk, OnErr}
+use Rattle.std.specs.Prelude.{◌≡◌, ◌≢◌, ⊤, ℕ, ◌+◌, ◌-◌, ◌*◌, ◌/◌, ◌<◌, ◌≤◌, ◌==◌, Bool, true, false, not, List, max, slice_index, length, Option, Some, None, IsSome, IfSome, is_some, Result, Ok, Err, IfOk, IfErr, OnOk, OnErr}
 use Rattle.imago_storage.specs.State.{Rose}
 use Rattle.imago_storage.specs.Calls.{Cause}
 use Rattle.imago_storage.specs.declared.fault.Fault.{Fault}
@@ -15,16 +15,16 @@ use Rattle.qcow2_types.specs.Words.{Mapping, damaged, data_at, is_copied, packed
 use Rattle.qcow2_types.specs.Words as words
 use Rattle.qcow2_metadata.specs.Places.{IsInReach}
 use Rattle.qcow2_metadata.specs.Tables.{padded}
-use Rattle.qcow2_steps.specs.Words.{IsReserved}
-use Rattle.qcow2_clusters.specs.Storing.{handed_by}
-use Rattle.qcow2_image.specs.FreeSpace.{HasNoPlace, IsForTable, IsForWord, LacksFreeRun, LeavesFree, enough_for_one, enough_for_word}
-use Rattle.qcow2_image.specs.Holding.{IsOwnAs, place_in}
+use Rattle.qcow2_clusters.specs.Storing.{AreReserved, run_handed_by}
+use Rattle.qcow2_image.specs.FreeSpace.{HasNoPlace, IsForTable, IsForWord, LacksFreeRun, LeavesFree, enough_for_run, enough_for_word}
+use Rattle.qcow2_image.specs.Holding.{AreOwnAs, place_in}
 use Rattle.qcow2_image.specs.KeepsDisk.{KeepsDisk, KeepsDiskWhere}
 use Rattle.qcow2_image.specs.Leaking.{KeepsLeaks, KeepsLeaksBut, reserved_by}
 use Rattle.qcow2_image.specs.Looking.{WhyNotLooked}
 use Rattle.qcow2_image.specs.Rooms.{IsSafe, IsUntouched, rest_of}
 use Rattle.qcow2_image.specs.Seen.{IsSeen, file_of}
 use Rattle.qcow2_image.specs.Steps.{KeepsImage}
+use Rattle.qcow2_image.specs.declared.allocating.Placed.{Placed}
 use Rattle.qcow2_image.specs.declared.allocating.Shown.{Shown}
 use Rattle.qcow2_image.specs.declared.allocating.Shown.TheVariants as shown
 use Rattle.qcow2_image.specs.declared.qcow2.Qcow2.{Qcow2}
@@ -174,19 +174,45 @@ pub record KeepsTop {S : Type 0} (g : Ghosts S) (sure : Type 0) (old new : Qcow2
   pub tables : sure → (i : ℕ)
       → l2_table (file_of g new.tables) new.tables.file.header.fields i ≡ l2_table (file_of g old.tables) old.tables.file.header.fields i
 
--- Bytes are stored in a cluster that was free: it is reserved then, and can be named.
-pub record StoresContent {S : Type 0} (g : Ghosts S) (bytes : List ℕ) (old : Qcow2 S g) (result : Result ℕ Fault) (new : Qcow2 S g)
+-- Bytes are stored in the first of n clusters in a row that were free: they are reserved then, and can be named.
+pub record StoresContent {S : Type 0} (g : Ghosts S) (n : ℕ) (bytes : List ℕ) (old : Qcow2 S g) (result : Result ℕ Fault) (new : Qcow2 S g)
     : Type 0 where
   pub keeps : KeepsDisk g (WasNotCutOff result) old new
-  pub leaks : IsSafe g old → WasNotCutOff result → KeepsLeaksBut g (handed_by result) old new
+  pub leaks : IsSafe g old → WasNotCutOff result → KeepsLeaksBut g (run_handed_by n result) old new
   pub marks : new.failed ≡ failed_cut result old.failed
   pub top : KeepsTop g (IsSafe g old × WasNotCutOff result) old new
-  pub named : IfOk result (λ x. (x ≢ 0) × IsInReach old.tables.file.header.fields.cluster_bits x)
+  pub named : IfOk result (λ x. (x ≢ 0) × IsInReach old.tables.file.header.fields.cluster_bits (x + (n - 1)))
   pub reserved : IsSafe g old → IfOk result (λ x. (space : Space) × (new.tables.space ≡ Some space)
-      × IsReserved (rest_of g new.tables space) x × (0 < space.to_free.held))
+      × AreReserved n (rest_of g new.tables space) x × (0 < space.to_free.held))
   pub content : IsSafe g old → IfOk result (λ x. (i : ℕ) → i < length bytes
       → file_of g new.tables (x * cluster_size old.tables.file.header.fields + i) ≡ slice_index bytes i)
-  pub cause : IfErr result (WhyNotAllocated g (LacksFreeRun g 1 (enough_for_one old.tables) old.tables new.tables) old new)
+  pub cause : IfErr result (WhyNotAllocated g (LacksFreeRun g n (enough_for_run old.tables n) old.tables new.tables) old new)
+
+-- whether there was no place for what was to be stored
+abbrev pub full_by : Result ℕ Fault → Bool
+full_by (Err (Limit number)) = true
+full_by result = false
+
+-- what was stored in the first of n clusters that were free
+abbrev pub placed_by : (n : ℕ) → Result ℕ Fault → Result Placed Fault
+placed_by n (Ok host) = Ok (record { host = host; count = n; is_kept = false })
+placed_by n (Err fault) = Err fault
+
+-- They are stored in the first of n clusters in a row, or in one alone where so many can't be had.
+pub record StoresMost {S : Type 0} (g : Ghosts S) (n : ℕ) (bytes : List ℕ) (old : Qcow2 S g) (result : Result Placed Fault)
+    (new : Qcow2 S g) : Type 0 where
+  pub keeps : KeepsDisk g (WasNotCutOff result) old new
+  pub leaks : IsSafe g old → WasNotCutOff result → KeepsLeaksBut g (reserved_by result) old new
+  pub marks : new.failed ≡ failed_cut result old.failed
+  pub top : KeepsTop g (IsSafe g old × WasNotCutOff result) old new
+  pub unkept : IfOk result (λ r. r.is_kept ≡ false)
+  pub many : IfOk result (λ r. (0 < r.count) × (r.count ≤ n))
+  pub named : IfOk result (λ r. (r.host ≢ 0) × IsInReach old.tables.file.header.fields.cluster_bits (r.host + (r.count - 1)))
+  pub reserved : IsSafe g old → IfOk result (λ r. (space : Space) × (new.tables.space ≡ Some space)
+      × AreReserved r.count (rest_of g new.tables space) r.host × (0 < space.to_free.held))
+  pub content : IsSafe g old → IfOk result (λ r. (i : ℕ) → i < length bytes
+      → file_of g new.tables (r.host * cluster_size old.tables.file.header.fields + i) ≡ slice_index bytes i)
+  pub cause : IfErr result (WhyNotAllocated g (LacksFreeRun g 1 (enough_for_run old.tables n) old.tables new.tables) old new)
 
 -- Why a cluster that is kept can't be filled, in an image that may be safe: no place is looked for.
 abbrev pub WhyNotFilled : {S : Type 0} (g : Ghosts S) → Qcow2 S g → Qcow2 S g → Fault → Type 0
@@ -208,22 +234,24 @@ pub record FillsContent {S : Type 0} (g : Ghosts S) (guest host : ℕ) (bytes : 
       → file_of g new.tables (host * cluster_size old.tables.file.header.fields + i) ≡ slice_index bytes i)
   pub cause : IfErr result (WhyNotFilled g old new)
 
--- The content of a guest cluster is put in the cluster that it keeps for its zeroes, or else in one that was free, which is reserved then.
--- What is answered is that cluster, and whether it was kept. For one that is kept no place is looked for.
-pub record PlacesContent {S : Type 0} (g : Ghosts S) (guest : ℕ) (kept : Option ℕ) (bytes : List ℕ) (old : Qcow2 S g)
-    (result : Result (ℕ × Bool) Fault) (new : Qcow2 S g) : Type 0 where
+-- The content of a guest cluster is put in the cluster that it keeps for its zeroes, or else in the first of clusters in a row that were
+-- free, n of them at most, which are reserved then. For one that is kept no place is looked for.
+pub record PlacesContent {S : Type 0} (g : Ghosts S) (guest : ℕ) (kept : Option ℕ) (n : ℕ) (bytes : List ℕ) (old : Qcow2 S g)
+    (result : Result Placed Fault) (new : Qcow2 S g) : Type 0 where
   pub keeps : KeepsDiskWhere g (HasKept g guest kept old) (WasNotCutOff result) old new
   pub leaks : HasKept g guest kept old → WasNotCutOff result → KeepsLeaksBut g (reserved_by result) old new
   pub marks : new.failed ≡ failed_cut result old.failed
   pub top : KeepsTop g (HasKept g guest kept old × WasNotCutOff result) old new
-  pub near : IfOk result (λ r. IsInReach old.tables.file.header.fields.cluster_bits r.0)
-  pub which : IfOk result (λ r. (r.1 ≡ is_some kept) × IfSome kept (λ host. (r.0 ≡ host) × (new.tables.space ≡ old.tables.space)))
-  pub own : HasKept g guest kept old → IfOk result (λ r. (space : Space) × (new.tables.space ≡ Some space) × (r.0 ≢ 0)
-      × IsOwnAs r.1 (rest_of g new.tables space) guest r.0 × (r.1 ≡ false → 0 < space.to_free.held))
+  pub many : IfOk result (λ r. (0 < r.count) × (r.count ≤ n))
+  pub near : IfOk result (λ r. IsInReach old.tables.file.header.fields.cluster_bits (r.host + (r.count - 1)))
+  pub which : IfOk result (λ r. (r.is_kept ≡ is_some kept)
+      × IfSome kept (λ host. (r.host ≡ host) × (new.tables.space ≡ old.tables.space)))
+  pub own : HasKept g guest kept old → IfOk result (λ r. (space : Space) × (new.tables.space ≡ Some space) × (r.host ≢ 0)
+      × AreOwnAs r.is_kept r.count (rest_of g new.tables space) guest r.host × (r.is_kept ≡ false → 0 < space.to_free.held))
   pub content : HasKept g guest kept old → IfOk result (λ r. (i : ℕ) → i < length bytes
-      → file_of g new.tables (r.0 * cluster_size old.tables.file.header.fields + i) ≡ slice_index bytes i)
+      → file_of g new.tables (r.host * cluster_size old.tables.file.header.fields + i) ≡ slice_index bytes i)
   pub cause : IfErr result (WhyNotAllocated g
-      (λ number. (kept ≡ None) × LacksFreeRun g 1 (enough_for_one old.tables) old.tables new.tables number) old new)
+      (λ number. (kept ≡ None) × LacksFreeRun g 1 (enough_for_run old.tables n) old.tables new.tables number) old new)
 
 -- Why what waits can't be freed.
 abbrev pub WhyNotFreed : {S : Type 0} (g : Ghosts S) → Qcow2 S g → Qcow2 S g → Fault → Type 0

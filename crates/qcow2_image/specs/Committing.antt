@@ -1,13 +1,14 @@
 -- How a prepared mapping is committed or given up.
-use Rattle.std.specs.Prelude.{◌≡◌, ◌≢◌, ◌⊎◌, ◌∷◌, [], ◌++◌, ◌<◌, ◌-◌, ℕ, Bool, false, true, Option, Some, None, Result, Ok, Err, OnOk, IfErr, EachIndex, slice_index}
+use Rattle.std.specs.Prelude.{◌≡◌, ◌≢◌, ◌⊎◌, ◌∷◌, [], ◌++◌, ◌+◌, ◌<◌, ◌≤◌, ◌-◌, ◌%◌, ℕ, Bool, false, true, Option, Some, None, Result, Ok, Err, OnOk, IfErr, EachIndex, slice_index}
 use Rattle.imago_storage.specs.Calls.{IsFaultless, Later}
 use Rattle.imago_storage.specs.declared.fault.Fault.{Fault}
 use Rattle.imago_storage.specs.declared.storage.Storage.{Ghosts}
 use Rattle.imago_access.specs.declared.mapping.PreparedDataMapping.{PreparedDataMapping}
+use Rattle.qcow2_types.specs.Places.{l2_entries}
 use Rattle.qcow2_metadata.specs.Places.{IsInReach}
 use Rattle.qcow2_alloc.specs.declared.cache.MetadataCaches.{MetadataCaches}
 use Rattle.qcow2_alloc.specs.Going.{WasNotCutOff}
-use Rattle.qcow2_clusters.specs.Naming.{Names, WhyNotNamed}
+use Rattle.qcow2_clusters.specs.Naming.{NamesRun, WhyNotNamed}
 use Rattle.qcow2_clusters.specs.Rest.{lent}
 use Rattle.qcow2_clusters.specs.declared.space.Space.{Space}
 use Rattle.qcow2_image.specs.Holding.{claim_held}
@@ -23,9 +24,12 @@ abbrev pub TakesUnspent : {S : Type 0} (g : Ghosts S) → ℕ → Qcow2 S g → 
 TakesUnspent g claim old None new = (new ≡ old) × (claim_held (holding_in g old.unspent) ≢ Some claim)
 TakesUnspent g claim old (Some u) new = (u.claim ≡ claim) × (old.unspent ≡ Some u) × (new ≡ record old { unspent = None })
 
--- words can name the cluster
-abbrev pub IsNamable : (cluster_bits cluster : ℕ) → Type 0
-IsNamable cluster_bits cluster = (0 < cluster) × IsInReach cluster_bits cluster
+-- words can name the clusters, and those of the guest clusters stand in one table
+pub record IsNamable (cluster_bits guest cluster n : ℕ) : Type 0 where
+  pub some : 0 < cluster
+  pub any : 0 < n
+  pub reach : IsInReach cluster_bits (cluster + (n - 1))
+  pub row : guest % l2_entries cluster_bits + n ≤ l2_entries cluster_bits
 
 -- the room for entries that is held once a cluster is named: less by one, unless that was kept
 abbrev pub held_behind : Bool → ℕ → ℕ
@@ -39,13 +43,13 @@ pub record NamesWith {S : Type 0} (g : Ghosts S) (r : Reserved) (guest : ℕ) (o
   pub caches : MetadataCaches S
   pub between : Space
   pub after : Space
-  pub names : Names g.state r.table guest r.host (lent old.file caches space) result (lent new.file new.caches between)
+  pub names : NamesRun g.state r.table guest r.host r.count (lent old.file caches space) result (lent new.file new.caches between)
   pub there : new.space ≡ Some after
   pub allocator : after.allocator ≡ between.allocator
   pub entries : after.to_free.entries ≡ between.to_free.entries
   pub let_go : OnOk result (after.to_free.held ≡ held_behind r.is_kept between.to_free.held)
 
--- A guest cluster comes to name a host cluster, as far as that may be done: where free space is known, and words can name it.
+-- Guest clusters come to name host clusters, as far as that may be done: where free space is known, and words can name them.
 pub record NamesHost {S : Type 0} (g : Ghosts S) (r : Reserved) (guest : ℕ) (old : Tables S g) (result : Result Unit Fault)
     (new : Tables S g) : Type 0 where
   pub shape : (g.state new.file.image).shape ≡ (g.state old.file.image).shape
@@ -53,13 +57,13 @@ pub record NamesHost {S : Type 0} (g : Ghosts S) (r : Reserved) (guest : ℕ) (o
   pub faults : WasNotCutOff result → IsFaultless (g.state old.file.image) (g.state new.file.image)
   pub header : new.file.header ≡ old.file.header
   pub l1 : new.l1 ≡ old.l1
-  pub known : (space : Space) → old.space ≡ Some space → IsNamable old.file.header.fields.cluster_bits r.host
+  pub known : (space : Space) → old.space ≡ Some space → IsNamable old.file.header.fields.cluster_bits guest r.host r.count
       → NamesWith g r guest old space result new
   pub cause : IfErr result (WhyNotNamed ⊥ (g.state old.file.image).faults (g.state new.file.image).faults)
 
 -- the clusters of a prepared mapping
 abbrev pub reserved_of : {S : Type 0} (g : Ghosts S) → Unspent S g → Reserved
-reserved_of g u = record { table = u.table; host = u.host; is_kept = u.is_kept }
+reserved_of g u = record { table = u.table; host = u.host; count = u.count; is_kept = u.is_kept }
 
 -- what a commit answers, by what naming did: a refusal has spent the mapping
 abbrev pub answer_of : Result Unit Fault → Result Unit (Fault × Option (PreparedDataMapping PreparedMappingState))
@@ -89,14 +93,14 @@ abbrev pub CommitsUnspent : {S : Type 0} (g : Ghosts S) → ℕ → Qcow2 S g
 CommitsUnspent g claim old result new =
     ((claim_held (holding_in g old.unspent) ≢ Some claim) × (result ≡ Ok tt) × (new ≡ old)) ⊎ SpendsUnspent g claim old result new
 
--- A host cluster that wasn't kept waits to be freed then, where room is held for that, and else it leaks.
-abbrev pub GivesBack : (is_kept : Bool) → ℕ → Option Space → Option Space → Type 0
-GivesBack true host old new = new ≡ old
-GivesBack false host None new = new ≡ None
-GivesBack false host (Some space) new = ((space.to_free.held ≡ 0) × (new ≡ Some space))
+-- Host clusters that weren't kept wait to be freed then, where room is held for that, and else they leak.
+abbrev pub GivesBack : (is_kept : Bool) → (host n : ℕ) → Option Space → Option Space → Type 0
+GivesBack true host n old new = new ≡ old
+GivesBack false host n None new = new ≡ None
+GivesBack false host n (Some space) new = ((space.to_free.held ≡ 0) × (new ≡ Some space))
     ⊎ ((0 < space.to_free.held) × (new ≡ Some (record space {
       to_free = record {
-        entries = space.to_free.entries ++ record { first = host; count = 1; metadata = false } ∷ [];
+        entries = space.to_free.entries ++ record { first = host; count = n; metadata = false } ∷ [];
         held = space.to_free.held - 1;
       };
     })))
@@ -107,7 +111,7 @@ pub record DropsUnspent {S : Type 0} (g : Ghosts S) (claim : ℕ) (old new : Qco
   pub there : old.unspent ≡ Some spent
   pub mine : spent.claim ≡ claim
   pub space : Option Space
-  pub given : GivesBack spent.is_kept spent.host old.tables.space space
+  pub given : GivesBack spent.is_kept spent.host spent.count old.tables.space space
   pub file : new.tables.file ≡ old.tables.file
   pub l1 : new.tables.l1 ≡ old.tables.l1
   pub caches : new.tables.caches ≡ old.tables.caches

@@ -25,9 +25,13 @@ pub record LeavesFree {S : Type 0} (g : Ghosts S) (taken : ℕ) (old new : Table
   pub as_large : space new.file.header.fields ≡ space old.file.header.fields
   pub left : (total : ℕ) → 0 < total → HasFreeRun g old (taken + total) → HasFreeRun g new total
 
--- how many clusters in a row are enough for a cluster, with what is made for it
+-- how many clusters in a row are enough for n of them, with what is made for those
+abbrev pub enough_for_run : {S : Type 0} {g : Ghosts S} → Tables S g → (n : ℕ) → ℕ
+enough_for_run t n = room_for t.file.header.fields n
+
+-- and for one
 abbrev pub enough_for_one : {S : Type 0} {g : Ghosts S} → Tables S g → ℕ
-enough_for_one t = room_for t.file.header.fields 1
+enough_for_one t = enough_for_run t 1
 
 -- and for an L1 table that comes to have a word at index i
 abbrev pub enough_for_word : {S : Type 0} {g : Ghosts S} → Tables S g → (i : ℕ) → ℕ

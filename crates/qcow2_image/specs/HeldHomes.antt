@@ -1,8 +1,9 @@
 -- Where the places of an image can be written while a mapping is prepared: laws of the driver.
 use Rattle.std.proofs.Common.{inl, inr, sym, subst, ap, refl, arith, ◌∙◌}
 use Rattle.std.specs.Prelude.{◌≡◌, ◌⊎◌, ℕ, ◌+◌, ◌-◌, ◌*◌, ◌/◌, ◌<◌, ◌≤◌, ltb, nat_le, ◌&&◌, Bool, true, false, Option, Some, None, IsSome, IfSome}
-use Rattle.std.proofs.lemmas.Bool.{cases_Bool, leb-true, ltb-true, le-leb, lt-ltb}
-use Rattle.std.proofs.lemmas.Nat.{div-mul-add, div-add-mod'}
+use Rattle.std.proofs.lemmas.Bool.{and_from, and_parts, cases_Bool, cases_lt, leb-true, ltb-true, le-leb, lt-ltb}
+use Rattle.std.proofs.Math.Nat.{add-mul, mul-le-mul_right}
+use Rattle.std.proofs.lemmas.Nat.{div-add-mod', mod_below, pow_pos}
 use Rattle.imago_storage.specs.declared.storage.Storage.{Ghosts}
 use Rattle.imago_access.specs.Layer.{loose}
 use Rattle.qcow2_types.specs.Bytes.{Bytes}
@@ -11,7 +12,7 @@ use Rattle.qcow2_types.specs.Words.{data_at}
 use Rattle.qcow2_alloc.specs.Quiet.{Metadata, IsSound}
 use Rattle.qcow2_steps.specs.Data.{IsHidden}
 use Rattle.qcow2_steps.proofs.HiddenClusters.{kept-hidden, reserved-hidden}
-use Rattle.qcow2_image.specs.Holding.{Holding, IsHeld, IsOwnAs, claim_held, held_home, held_with, home_or, homes_with, in_run, place_in}
+use Rattle.qcow2_image.specs.Holding.{Holding, IsHeld, IsOwnAs, claim_held, has_guest, held_home, held_place, held_with, home_or, homes_with, in_clusters, in_run}
 use Rattle.qcow2_image.specs.Homes.{cluster-there, home-of, home-there, homeless, housed, mapped, memory_is, words-home}
 use Rattle.qcow2_image.specs.Rooms.{HoldsIn, IsSafe, IsVacant, IsZeroed, HasRoom, rest_of}
 use Rattle.qcow2_image.specs.Seen.{file_of, homes_of, layer_of, memory_of}
@@ -63,29 +64,75 @@ pub first-in : (hold : Holding) → 0 < hold.length → in_run hold hold.offset 
 first-in hold some =
     rw (le-leb hold.offset hold.offset (Prim.omega arith), lt-ltb hold.offset (hold.offset + hold.length) (Prim.omega (arith, some))) refl
 
--- A place of the run lies in the guest cluster.
+-- A place at or behind the first byte of a cluster is in that one or behind it, and one before it is in none of these.
+pub div-from : (c g p : ℕ) → g * c ≤ p → 0 < c → g ≤ p / c
+div-from c g p low some = elim (cases_lt (p / c) g) [
+  | inr from ↦ from
+  | inl less ↦
+      let le : (p / c + 1) * c ≤ g * c = mul-le-mul_right c (Prim.omega (arith, less)) in
+      let split = div-add-mod' p c in
+      let rest = mod_below p c some in
+      absurd (Prim.omega (arith, le, split, rest, low))
+]
+
+pub div-to : (c g p : ℕ) → p < g * c → p / c < g
+div-to c g p high = elim (cases_lt (p / c) g) [
+  | inl less ↦ less
+  | inr from ↦
+      let le : g * c ≤ p / c * c = mul-le-mul_right c from in
+      let split = div-add-mod' p c in
+      absurd (Prim.omega (arith, le, split, high))
+]
+
+-- The places of the guest clusters.
+pub clusters-from : (h : Fields) (hold : Holding) (p : ℕ) → in_clusters h hold p ≡ true
+    → ((hold.guest ≤ p / cluster_size h) × (p / cluster_size h < hold.guest + hold.count)) × (p < h.size)
+clusters-from h hold p is =
+    let both = and_parts (has_guest hold (p / cluster_size h)) (ltb p h.size) is in
+    let guests = and_parts (nat_le hold.guest (p / cluster_size h)) (ltb (p / cluster_size h) (hold.guest + hold.count)) both.0 in (
+      (leb-true hold.guest (p / cluster_size h) guests.0, ltb-true (p / cluster_size h) (hold.guest + hold.count) guests.1),
+      ltb-true p h.size both.1,
+    )
+
+pub clusters-of : (h : Fields) (hold : Holding) (p : ℕ) → (hold.guest ≤ p / cluster_size h) × (p / cluster_size h < hold.guest + hold.count)
+    → p < h.size → in_clusters h hold p ≡ true
+clusters-of h hold p guests low =
+    and_from (has_guest hold (p / cluster_size h)) (ltb p h.size)
+    (and_from (nat_le hold.guest (p / cluster_size h)) (ltb (p / cluster_size h) (hold.guest + hold.count))
+    (le-leb hold.guest (p / cluster_size h) guests.0) (lt-ltb (p / cluster_size h) (hold.guest + hold.count) guests.1))
+    (lt-ltb p h.size low)
+
+-- A place of the run lies in one of the guest clusters.
 pub run-guest : (m : Metadata) (hold : Holding) → IsHeld m hold → (p : ℕ) → in_run hold p ≡ true
-    → p / cluster_size m.header.fields ≡ hold.guest
+    → (hold.guest ≤ p / cluster_size m.header.fields) × (p / cluster_size m.header.fields < hold.guest + hold.count)
 run-guest m hold held p is =
     let c : ℕ = cluster_size m.header.fields in
     let inside = run-from hold p is in
-    let rest : ℕ = p - hold.guest * c in
-    let low : hold.guest * c ≤ p = Prim.omega (arith, held.first, inside.0) in
-    let high : p - hold.guest * c < c = Prim.omega (arith, held.last, inside.1, low) in
-    let split : p ≡ hold.guest * c + (p - hold.guest * c) = Prim.omega (arith, low) in
-    ap (λ x. x / c) split ∙ div-mul-add hold.guest c (p - hold.guest * c) high
+    let parts : (hold.guest + hold.count) * c ≡ hold.guest * c + hold.count * c = add-mul hold.guest hold.count c in (
+      div-from c hold.guest p (Prim.omega (arith, held.first, inside.0)) (pow_pos m.header.fields.cluster_bits),
+      div-to c (hold.guest + hold.count) p (Prim.omega (arith, held.last, inside.1, parts)),
+    )
+
+-- Places of the file lie as far from one another as those of the disk do.
+pub held-linear : (h : Fields) (hold : Holding) (p : ℕ) → hold.guest ≤ p / cluster_size h
+    → held_place h hold p + hold.guest * cluster_size h ≡ hold.host * cluster_size h + p
+held-linear h hold p from =
+    let c : ℕ = cluster_size h in
+    let d : ℕ = p / c - hold.guest in
+    let parts : (hold.host + d) * c ≡ hold.host * c + d * c = add-mul hold.host d c in
+    let back : (hold.guest + d) * c ≡ hold.guest * c + d * c = add-mul hold.guest d c in
+    let whole : hold.guest + d ≡ p / c = Prim.omega (arith, from) in
+    let there : (hold.guest + d) * c ≡ p / c * c = ap (λ x. x * c) whole in
+    Prim.omega (arith, parts, back, there, div-add-mod' p c)
 
 -- The place of the file for a place of the run.
 pub held-at : (m : Metadata) (hold : Holding) → IsHeld m hold → (p : ℕ) → in_run hold p ≡ true
-    → hold.place + (p - hold.offset) ≡ place_in m.header.fields hold.host p
+    → hold.place + (p - hold.offset) ≡ held_place m.header.fields hold p
 held-at m hold held p is =
-    let c : ℕ = cluster_size m.header.fields in
     let inside = run-from hold p is in
-    let one = run-guest m hold held p is in
-    let first = run-guest m hold held hold.offset (first-in hold held.long) in
-    let split = div-add-mod' p c in
-    let split' = div-add-mod' hold.offset c in
-    Prim.omega (arith, held.placed, ap (λ x. x * c) one, ap (λ x. x * c) first, split, split', inside.0)
+    let one = held-linear m.header.fields hold p (run-guest m hold held p is).0 in
+    let first = held-linear m.header.fields hold hold.offset (run-guest m hold held hold.offset (first-in hold held.long)).0 in
+    Prim.omega (arith, held.placed, one, first, inside.0)
 
 -- A place that is held in the run,
 home-held : (hold : Holding) (p : ℕ) (at : ℕ × ℕ) → held_home hold p ≡ Some at
@@ -101,19 +148,21 @@ module _ {S : Type 0} (g : Ghosts S) (d : Qcow2 S g) (safe : IsSafe g d) where
 
   module _ (hold : Holding) (holds : HoldsIn g d.tables hold) where
     -- No place shows what is held for it,
-    hidden : IsHidden (file_of g d.tables) h hold.host
-    hidden = own-hidden hold.is_kept (rest_of g d.tables holds.space) hold.guest hold.host
-        (subst (λ o. IfSome o (λ space. IsSound (rest_of g d.tables space))) holds.there safe.sound) holds.held.own
+    hidden : (i : ℕ) → i < hold.count → IsHidden (file_of g d.tables) h (hold.host + i)
+    hidden i less = own-hidden hold.is_kept (rest_of g d.tables holds.space) (hold.guest + i) (hold.host + i)
+        (subst (λ o. IfSome o (λ space. IsSound (rest_of g d.tables space))) holds.there safe.sound) (holds.held.own i less)
 
     -- so that no place has its home there by its word.
-    elsewhere : (p q at : ℕ) → homes_of g d p ≡ Some (0, at) → at ≡ place_in h hold.host q → ⊥
-    elsewhere p q at home there =
+    elsewhere : (p q at : ℕ) → in_run hold q ≡ true → homes_of g d p ≡ Some (0, at) → at ≡ held_place h hold q → ⊥
+    elsewhere p q at run home there =
         let is = home-there d.mode.writable (memory_of g d.tables) h p (0, at) home in
         let found = home-of h p at (mapped (memory_of g d.tables) h p) is.2 in
-        let same : found.0 ≡ hold.host = sym (cluster-there h at found.0 p found.2) ∙ cluster-there h at hold.host q there in
+        let i : ℕ = q / cluster_size h - hold.guest in
+        let guest = run-guest (rest_of g d.tables holds.space) hold holds.held q run in
+        let same : found.0 ≡ hold.host + i = sym (cluster-there h at found.0 p found.2) ∙ cluster-there h at (hold.host + i) q there in
         let word : mapped (file_of g d.tables) h p ≡ data_at found.0 true =
         subst (λ (m : Bytes). mapped m h p ≡ data_at found.0 true) (memory_is g d.tables) found.1 in
-        hidden.dataless (p / cluster_size h) true (word ∙ ap (λ c. data_at c true) same)
+        (hidden i (Prim.omega (arith, guest.0, guest.1))).dataless (p / cluster_size h) true (word ∙ ap (λ c. data_at c true) same)
 
   -- No two places are written at one place of the file: both by their words,
   module _ (p q : ℕ) (at : ℕ × ℕ) where
@@ -139,7 +188,7 @@ module _ {S : Type 0} (g : Ghosts S) (d : Qcow2 S g) (safe : IsSafe g d) where
   apart hold holds p q at one two =
       let there = home-held hold q at two in
       let place = held-at (rest_of g d.tables holds.space) hold holds.held q there.0 in
-      elsewhere hold holds p q (hold.place + (q - hold.offset)) (one ∙ ap Some there.1) place
+      elsewhere hold holds p q (hold.place + (q - hold.offset)) there.0 (one ∙ ap Some there.1) place
 
   either : (hold : Holding) → HoldsIn g d.tables hold → (p q : ℕ) (at : ℕ × ℕ)
       → homes_with (Some hold) (homes_of g d) p ≡ Some at → homes_with (Some hold) (homes_of g d) q ≡ Some at → p ≡ q

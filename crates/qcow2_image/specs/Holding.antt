@@ -1,10 +1,10 @@
--- What a prepared mapping holds of an image that was opened for writing: a run of one guest cluster, for which a host cluster is reserved,
--- or which kept one for its zeroes.
-use Rattle.std.specs.Prelude.{◌≡◌, ◌≢◌, ⊤, ℕ, ◌+◌, ◌-◌, ◌*◌, ◌/◌, ◌%◌, ◌<◌, ◌≤◌, Bool, true, false, Option, Some, None, if◌then◌else◌, min, ltb, nat_le, ◌==◌, ◌&&◌, ◌||◌}
+-- What a prepared mapping holds of an image that was opened for writing: a run of guest clusters in a row, for which host clusters in a row
+-- are reserved, or which kept them for their zeroes.
+use Rattle.std.specs.Prelude.{◌≡◌, ◌≢◌, ⊤, ℕ, ◌+◌, ◌-◌, ◌*◌, ◌/◌, ◌%◌, ◌<◌, ◌≤◌, Bool, true, false, Option, Some, None, if◌then◌else◌, min, ltb, nat_le, ◌&&◌, ◌||◌}
 use Rattle.imago_access.specs.Layer.{Held, loose, beside, inside}
 use Rattle.qcow2_types.specs.Bytes.{Bytes}
 use Rattle.qcow2_types.specs.Entries.{entry}
-use Rattle.qcow2_types.specs.Header.{Fields, cluster_size}
+use Rattle.qcow2_types.specs.Header.{Fields, cluster_size, words_of_cluster}
 use Rattle.qcow2_types.specs.Words.{Mapping, data_at}
 use Rattle.qcow2_metadata.specs.Places.{IsInReach}
 use Rattle.qcow2_alloc.specs.Quiet.{Metadata}
@@ -12,9 +12,9 @@ use Rattle.qcow2_steps.specs.Data.{IsKeptFor}
 use Rattle.qcow2_steps.specs.Words.{IsReserved}
 use Rattle.qcow2_clusters.specs.Naming.{IsUnder}
 
--- The mapping with this claim: its run in bytes, and where that is in the file; its guest cluster and the cluster of the L2 table over
--- that, the host cluster, and whether the guest cluster kept that for its zeroes; whether all of the run is going to be written, the file
--- as it was when all was copied, and what was written since.
+-- The mapping with this claim: its run in bytes, and where that is in the file; the first of its guest clusters and the cluster of the L2
+-- table over them, the first of their host clusters and how many there are, and whether the guest clusters kept them for their zeroes;
+-- whether all of the run is going to be written, the file as it was when all was copied, and what was written since.
 pub record Holding : Type 0 where
   pub claim : ℕ
   pub offset : ℕ
@@ -23,6 +23,7 @@ pub record Holding : Type 0 where
   pub guest : ℕ
   pub table : ℕ
   pub host : ℕ
+  pub count : ℕ
   pub is_kept : Bool
   pub overwrite : Bool
   pub copied : Bytes
@@ -32,28 +33,36 @@ pub record Holding : Type 0 where
 abbrev pub place_in : Fields → ℕ → ℕ → ℕ
 place_in h c p = c * cluster_size h + p % cluster_size h
 
+-- where it lies in the host cluster that is its guest cluster's: those lie as far behind the first as the guest clusters do
+abbrev pub held_place : Fields → Holding → ℕ → ℕ
+held_place h hold p = place_in h (hold.host + (p / cluster_size h - hold.guest)) p
+
 -- the place is one of the run
 abbrev pub in_run : Holding → ℕ → Bool
 in_run hold p = nat_le hold.offset p && ltb p (hold.offset + hold.length)
 
--- the place is one of the guest cluster, on a disk of this size
-abbrev pub in_cluster : Fields → Holding → ℕ → Bool
-in_cluster h hold p = (p / cluster_size h == hold.guest) && ltb p h.size
+-- the guest cluster is one of those of the run
+abbrev pub has_guest : Holding → ℕ → Bool
+has_guest hold guest = nat_le hold.guest guest && ltb guest (hold.guest + hold.count)
+
+-- the place is one of the guest clusters, on a disk of this size
+abbrev pub in_clusters : Fields → Holding → ℕ → Bool
+in_clusters h hold p = has_guest hold (p / cluster_size h) && ltb p h.size
 
 -- what was copied to a place of the run, unless all of it is going to be written
 abbrev pub copied_to : Fields → Holding → ℕ → Option ℕ
-copied_to h hold p = if hold.overwrite then None else Some (hold.copied (place_in h hold.host p))
+copied_to h hold p = if hold.overwrite then None else Some (hold.copied (held_place h hold p))
 
 -- what was written to it
 abbrev pub written_to : Fields → Bytes → Holding → ℕ → Option ℕ
-written_to h file hold p = if hold.written p then Some (file (place_in h hold.host p)) else None
+written_to h file hold p = if hold.written p then Some (file (held_place h hold p)) else None
 
 -- what is held of a place, over this file
 abbrev pub held_of : Fields → Bytes → Holding → ℕ → Held
 held_of h file hold p =
-    if in_cluster h hold p
+    if in_clusters h hold p
     then (if in_run hold p then inside (copied_to h hold p) (written_to h file hold p) hold.overwrite
-    else beside (hold.copied (place_in h hold.host p)))
+    else beside (hold.copied (held_place h hold p)))
     else loose
 
 abbrev pub held_with : Fields → Bytes → Option Holding → ℕ → Held
@@ -87,22 +96,28 @@ abbrev pub IsOwnAs : (is_kept : Bool) → Metadata → (guest host : ℕ) → Ty
 IsOwnAs true m guest host = IsKeptFor m guest host
 IsOwnAs false m guest host = IsReserved m host
 
--- Of an image at rest: the host cluster is the guest cluster's own, and can be named; the guest cluster isn't written elsewhere, the run
--- lies in it, and what wasn't written has the bytes that were copied.
+-- They are so of n guest clusters in a row, each its own of n clusters in a row.
+abbrev pub AreOwnAs : (is_kept : Bool) (n : ℕ) → Metadata → (guest host : ℕ) → Type 0
+AreOwnAs is_kept n m guest host = (d : ℕ) → d < n → IsOwnAs is_kept m (guest + d) (host + d)
+
+-- Of an image at rest: the host clusters are the guest clusters' own, and can be named; the guest clusters aren't written elsewhere, the
+-- run lies in them, and what wasn't written has the bytes that were copied.
 pub record IsHeld (m : Metadata) (hold : Holding) : Type 0 where
-  pub under : IsUnder m hold.table hold.guest
-  pub own : IsOwnAs hold.is_kept m hold.guest hold.host
-  pub uncopied : IsUncopied (entry m.file m.header.fields hold.guest)
+  pub any : 0 < hold.count
+  pub row : hold.guest % words_of_cluster m.header.fields + hold.count ≤ words_of_cluster m.header.fields
+  pub under : (d : ℕ) → d < hold.count → IsUnder m hold.table (hold.guest + d)
+  pub own : AreOwnAs hold.is_kept hold.count m hold.guest hold.host
+  pub uncopied : (d : ℕ) → d < hold.count → IsUncopied (entry m.file m.header.fields (hold.guest + d))
   pub some : hold.host ≢ 0
-  pub reach : IsInReach m.header.fields.cluster_bits hold.host
-  pub placed : hold.place ≡ place_in m.header.fields hold.host hold.offset
+  pub reach : IsInReach m.header.fields.cluster_bits (hold.host + (hold.count - 1))
+  pub placed : hold.place ≡ held_place m.header.fields hold hold.offset
   pub long : 0 < hold.length
   pub first : hold.guest * cluster_size m.header.fields ≤ hold.offset
-  pub last : hold.offset + hold.length ≤ hold.guest * cluster_size m.header.fields + cluster_size m.header.fields
+  pub last : hold.offset + hold.length ≤ hold.guest * cluster_size m.header.fields + hold.count * cluster_size m.header.fields
   pub on_disk : hold.offset + hold.length ≤ m.header.fields.size
-  pub kept : (p : ℕ) → in_cluster m.header.fields hold p ≡ true → hold.written p ≡ false
-      → m.file (place_in m.header.fields hold.host p) ≡ hold.copied (place_in m.header.fields hold.host p)
-  pub beside : (p : ℕ) → in_cluster m.header.fields hold p ≡ true → in_run hold p ≡ false → hold.written p ≡ false
+  pub kept : (p : ℕ) → in_clusters m.header.fields hold p ≡ true → hold.written p ≡ false
+      → m.file (held_place m.header.fields hold p) ≡ hold.copied (held_place m.header.fields hold p)
+  pub beside : (p : ℕ) → in_clusters m.header.fields hold p ≡ true → in_run hold p ≡ false → hold.written p ≡ false
 
 -- A place of the run that is held, if one is: where it lies in the file, and for how many bytes, up to so many, the run goes on from it.
 abbrev pub HoldsRun : Option Holding → (offset most : ℕ) → Option (ℕ × ℕ) → Type 0

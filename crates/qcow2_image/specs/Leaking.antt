@@ -5,12 +5,12 @@ use Rattle.imago_storage.specs.declared.storage.Storage.{Ghosts}
 use Rattle.qcow2_types.specs.Consistency.{leaks}
 use Rattle.qcow2_types.specs.Counts.{count}
 use Rattle.qcow2_types.specs.References.{refs}
-use Rattle.qcow2_alloc.specs.FreeList.{listed}
-use Rattle.qcow2_alloc.specs.Quiet.{one_at}
+use Rattle.qcow2_alloc.specs.FreeList.{covers, listed}
 use Rattle.qcow2_clusters.specs.declared.space.Space.{Space}
 use Rattle.qcow2_image.specs.Holding.{Holding}
 use Rattle.qcow2_image.specs.Seen.{file_of}
 use Rattle.qcow2_image.specs.Unspent.{holding_in}
+use Rattle.qcow2_image.specs.declared.allocating.Placed.{Placed}
 use Rattle.qcow2_image.specs.declared.qcow2.Qcow2.{Qcow2}
 use Rattle.qcow2_image.specs.declared.mappings.Reserved.{Reserved}
 
@@ -19,14 +19,14 @@ abbrev pub waiting_in : Option Space → ℕ → ℕ
 waiting_in None c = 0
 waiting_in (Some space) c = listed space.to_free.entries c
 
--- how often a cluster is reserved where this is the host cluster of a mapping: one that was kept for zeroes isn't, as a word names it
-abbrev pub reserved_as : (is_kept : Bool) → (host c : ℕ) → ℕ
-reserved_as true host c = 0
-reserved_as false host c = one_at host c
+-- how often a cluster is reserved where these are a mapping's host clusters: those that were kept for zeroes aren't, as words name them
+abbrev pub reserved_as : (is_kept : Bool) → (host n c : ℕ) → ℕ
+reserved_as true host n c = 0
+reserved_as false host n c = covers c (record { first = host; count = n; metadata = false })
 
 abbrev pub reserved_in : Option Holding → ℕ → ℕ
 reserved_in None c = 0
-reserved_in (Some hold) c = reserved_as hold.is_kept hold.host c
+reserved_in (Some hold) c = reserved_as hold.is_kept hold.host hold.count c
 
 -- how often a cluster is pending: it waits to be freed, or is reserved for the mapping that is prepared
 abbrev pub pending : {S : Type 0} (g : Ghosts S) → Qcow2 S g → ℕ → ℕ
@@ -53,12 +53,12 @@ abbrev pub KeepsLeaksBut : {S : Type 0} (g : Ghosts S) → (reserved : ℕ → �
 KeepsLeaksBut g reserved old new = (c : ℕ)
     → counts_in g new c + names_in g old c + pending g old c ≡ counts_in g old c + names_in g new c + pending g new c + reserved c
 
--- what is reserved by a call that answers a host cluster, and whether that was kept
-abbrev pub reserved_by : Result (ℕ × Bool) Fault → ℕ → ℕ
-reserved_by (Ok r) c = reserved_as r.1 r.0 c
+-- what is reserved by a call that puts content in host clusters
+abbrev pub reserved_by : Result Placed Fault → ℕ → ℕ
+reserved_by (Ok r) c = reserved_as r.is_kept r.host r.count c
 reserved_by (Err fault) c = 0
 
 -- and by one that answers the clusters of a mapping
 abbrev pub reserved_with : Result Reserved Fault → ℕ → ℕ
-reserved_with (Ok r) c = reserved_as r.is_kept r.host c
+reserved_with (Ok r) c = reserved_as r.is_kept r.host r.count c
 reserved_with (Err fault) c = 0

@@ -32,6 +32,7 @@ holding g u = record {
   guest = u.guest;
   table = u.table;
   host = u.host;
+  count = u.count;
   is_kept = u.is_kept;
   overwrite = u.overwrite;
   copied = bytes_of (g.state u.copied.value).bytes;

@@ -1,7 +1,7 @@
 // Clusters are allocated for guest clusters that have none of their own.
 ghost use Rattle.std.specs.Prelude.{◌≡◌, ◌<◌, ◌+◌, ◌*◌, ◌/◌, ◌^◌, ℕ, false, None, Some, length, IfSome, IsTrue};
 ghost use Rattle.qcow2_types.specs.Header.{cluster_size};
-ghost use Rattle.qcow2_image.specs.Allocating.{EnsuresTable, EnsuresWord, FillsContent, FlushesFreed, FreesPending, IsShownInReach, LoadsSpace, PlacesContent, StoresContent, TellsKept, TellsShown, failed_cut, kept_by, shown_of, waits_in};
+ghost use Rattle.qcow2_image.specs.Allocating.{EnsuresTable, EnsuresWord, FillsContent, FlushesFreed, FreesPending, IsShownInReach, LoadsSpace, PlacesContent, StoresContent, StoresMost, TellsKept, TellsShown, failed_cut, full_by, kept_by, placed_by, shown_of, waits_in};
 ghost use Rattle.qcow2_image.specs.FreeSpace.{enough_for_one, enough_for_table};
 ghost use Rattle.qcow2_metadata.specs.Places.{IsInReach};
 ghost use Rattle.qcow2_types.specs.Places.{l2_entries};
@@ -14,9 +14,9 @@ use crate::qcow2::Qcow2;
 use crate::reloading::drop_cached;
 use imago_storage::{Fault, Storage};
 use qcow2_alloc::{ImageFile, MetadataCaches};
-use qcow2_clusters::{Space, copy_table, fill, free_waiting, lengthen_l1, make_table, store};
+use qcow2_clusters::{Space, copy_table, fill, free_waiting, lengthen_l1, make_table, store_run};
 use qcow2_metadata::{L1Table, L2Mapping, Table};
-use qcow2_types::{GuestCluster, HostCluster};
+use qcow2_types::{ClusterCount, GuestCluster, HostCluster};
 use std::alloc::Global;
 
 // What a guest cluster shows: zeroes, the layers below, data in a cluster of the file, or what can't be read.
@@ -26,6 +26,36 @@ pub(crate) enum Shown {
     Below,
     Data(HostCluster),
     Barred,
+}
+
+// Where the content of guest clusters in a row is put: the first of host clusters in a row, how many there are, and whether the guest
+// cluster kept that for its zeroes.
+#[derive(Clone, Copy)]
+pub(crate) struct Placed {
+    pub(crate) host: HostCluster,
+    pub(crate) count: ClusterCount,
+    pub(crate) is_kept: bool,
+}
+
+// Whether there was no place for what was to be stored.
+fn is_full(stored: &Result<HostCluster, Fault>) -> bool
+    ensures { result ≡ full_by stored.now }
+{
+    matches!(stored, Err(Fault::Limit(_)))
+}
+
+// What was stored in the first of so many clusters that were free.
+fn as_placed(stored: Result<HostCluster, Fault>, count: ClusterCount) -> Result<Placed, Fault>
+    ensures { result ≡ placed_by count stored }
+{
+    match stored {
+        Ok(host) => Ok(Placed {
+            host,
+            count,
+            is_kept: false,
+        }),
+        Err(fault) => Err(fault),
+    }
 }
 
 // What a guest cluster shows that is mapped so.
@@ -215,26 +245,29 @@ impl<S: Storage> Qcow2<S> {
         }
     }
 
-    // Stores the content of a guest cluster in a host cluster that was free.
+    // Stores the content of a guest cluster in the first of host clusters in a row that were free.
     pub(crate) fn store_content(
         &mut self,
         alloc: Global,
         content: &[u8],
+        count: ClusterCount,
     ) -> Result<HostCluster, Fault>
         requires whole { length content.now ≡ cluster_size self.old.tables.file.header.fields }
+        requires any { 0 < count }
         requires free { self.old.unspent ≡ None }
-        ensures { StoresContent S.Storage content.now self.old result self.new }
+        ensures { StoresContent S.Storage count content.now self.old result self.new }
     {
         let Some(space) = &mut self.tables.space else {
             return Err(Fault::DamagedTable);
         };
         let _dropped = drop_cached(&mut self.tables.caches);
-        let stored = store(
+        let stored = store_run(
             alloc,
             &mut self.tables.file,
             &mut self.tables.caches,
             space,
             content,
+            count,
         );
         self.settle_change(stored)
     }
@@ -259,28 +292,51 @@ impl<S: Storage> Qcow2<S> {
         self.settle_change(filled)
     }
 
-    // Puts the content of a guest cluster in the host cluster that it keeps for its zeroes, if it does, or else in one that was free.
-    // Answers that cluster, and whether it was kept.
+    // Stores it in the first of so many, or in one alone where so many can't be had in a row.
+    fn store_most(
+        &mut self,
+        alloc: Global,
+        content: &[u8],
+        count: ClusterCount,
+    ) -> Result<Placed, Fault>
+        requires whole { length content.now ≡ cluster_size self.old.tables.file.header.fields }
+        requires any { 0 < count }
+        requires free { self.old.unspent ≡ None }
+        ensures { StoresMost S.Storage count content.now self.old result self.new }
+    {
+        let stored = self.store_content(alloc, content, count);
+        if is_full(&stored) {
+            let one = self.store_content(alloc, content, ClusterCount(1));
+            return as_placed(one, ClusterCount(1));
+        }
+        as_placed(stored, count)
+    }
+
+    // Puts the content of a guest cluster in the host cluster that it keeps for its zeroes, if it does, or else in the first of host
+    // clusters in a row that were free, so many at most.
     pub(crate) fn place_content(
         &mut self,
         alloc: Global,
         kept: Option<HostCluster>,
         content: &[u8],
-    ) -> Result<(HostCluster, bool), Fault>
+        count: ClusterCount,
+    ) -> Result<Placed, Fault>
         requires whole { length content.now ≡ cluster_size self.old.tables.file.header.fields }
         requires near { IfSome kept (λ host. IsInReach self.old.tables.file.header.fields.cluster_bits host) }
+        requires any { 0 < count }
         requires free { self.old.unspent ≡ None }
-        ensures { (guest : ℕ) → PlacesContent S.Storage guest kept content.now self.old result self.new }
+        ensures { (guest : ℕ) → PlacesContent S.Storage guest kept count content.now self.old result self.new }
     {
         match kept {
             Some(host) => match self.fill_content(alloc, host, content) {
-                Ok(()) => Ok((host, true)),
+                Ok(()) => Ok(Placed {
+                    host,
+                    count: ClusterCount(1),
+                    is_kept: true,
+                }),
                 Err(fault) => Err(fault),
             },
-            None => match self.store_content(alloc, content) {
-                Ok(host) => Ok((host, false)),
-                Err(fault) => Err(fault),
-            },
+            None => self.store_most(alloc, content, count),
         }
     }
 

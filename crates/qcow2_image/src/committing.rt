@@ -1,5 +1,6 @@
 // Prepared mappings are committed or given up.
 ghost use Rattle.std.specs.Prelude.{◌≡◌, ◌≤◌, ◌-◌, ◌↔◌, IsTrue};
+ghost use Rattle.qcow2_types.specs.Places.{l2_entries};
 ghost use Rattle.qcow2_image.specs.Committing.{CancelsUnspent, CommitsUnspent, GivesBack, IsNamable, NamesHost, TakesUnspent, held_behind};
 
 use crate::mappings::Reserved;
@@ -10,17 +11,29 @@ use crate::unspent::Unspent;
 use imago_access::PreparedDataMapping;
 use imago_storage::{Fault, Storage};
 use qcow2_alloc::ClustersToFreeList;
-use qcow2_clusters::{Space, name};
+use qcow2_clusters::{Space, name_run};
 use qcow2_types::{
     ClusterCount, ClustersToFreeEntry, GuestCluster, HostCluster, MAX_OFFSET, PendingClusters,
 };
 
-// Whether words can name the cluster.
-fn is_nameable(cluster: HostCluster, cluster_bits: u32) -> bool
-    requires { cluster_bits ≤ 21 }
-    ensures { IsTrue result ↔ IsNamable cluster_bits cluster }
+// Whether words can name the clusters, and those of the guest clusters stand in one table.
+fn is_nameable(
+    host: HostCluster,
+    count: ClusterCount,
+    guest: GuestCluster,
+    cluster_bits: u32,
+    words: usize,
+) -> bool
+    requires bits { (9 ≤ cluster_bits) × (cluster_bits ≤ 21) }
+    requires words { words ≡ l2_entries cluster_bits }
+    ensures { IsTrue result ↔ IsNamable cluster_bits guest host count }
 {
-    cluster.0 > 0 && cluster.0 <= MAX_OFFSET >> cluster_bits
+    let row = words - guest.l2_index(cluster_bits);
+    let most = MAX_OFFSET >> cluster_bits;
+    if host.0 == 0 || count.0 == 0 || count.0 > row as u64 || host.0 > most {
+        return false;
+    }
+    count.0 - 1 <= most - host.0
 }
 
 // Lets the room for one entry go, where any is held. For a cluster that was kept none is.
@@ -33,7 +46,7 @@ fn let_go(to_free: &mut ClustersToFreeList, is_kept: bool)
     }
 }
 
-// Has a guest cluster name the host cluster that is reserved for it, or that it kept for its zeroes, in its L2 table.
+// Has guest clusters in a row name the host clusters that are reserved for them, or that they kept for their zeroes, in their L2 table.
 fn name_host<S: Storage>(
     tables: &mut Tables<S>,
     clusters: Reserved,
@@ -41,20 +54,23 @@ fn name_host<S: Storage>(
 ) -> Result<(), Fault>
     ensures { NamesHost S.Storage clusters guest tables.old result tables.new }
 {
-    if !is_nameable(clusters.host, tables.file.header.cluster_bits()) {
+    let cluster_bits = tables.file.header.cluster_bits();
+    let words = tables.file.header.l2_entries();
+    if !is_nameable(clusters.host, clusters.count, guest, cluster_bits, words) {
         return Err(Fault::DamagedTable);
     }
     let Some(mut space) = tables.space.take() else {
         return Err(Fault::DamagedTable);
     };
     let _dropped = drop_cached(&mut tables.caches);
-    let named = name(
+    let named = name_run(
         &mut tables.file,
         &mut tables.caches,
         &mut space,
         clusters.table,
         guest,
         clusters.host,
+        clusters.count,
     );
     match named {
         Ok(()) => {
@@ -69,9 +85,10 @@ fn name_host<S: Storage>(
     }
 }
 
-// Puts a host cluster that nothing is going to name among what waits to be freed, where room is held for that. One that was kept stays so.
-fn give_back(space: &mut Option<Space>, host: HostCluster, is_kept: bool)
-    ensures { GivesBack is_kept host space.old space.new }
+// Puts host clusters in a row that nothing is going to name among what waits to be freed, where room is held for that. What was kept stays
+// so.
+fn give_back(space: &mut Option<Space>, host: HostCluster, count: ClusterCount, is_kept: bool)
+    ensures { GivesBack is_kept host count space.old space.new }
 {
     if is_kept {
         return;
@@ -80,7 +97,7 @@ fn give_back(space: &mut Option<Space>, host: HostCluster, is_kept: bool)
         return;
     };
     if space.to_free.held() > 0 {
-        let entry = ClustersToFreeEntry::data(host, ClusterCount(1));
+        let entry = ClustersToFreeEntry::data(host, count);
         space.to_free.give_back(PendingClusters::new(entry));
     }
 }
@@ -101,8 +118,8 @@ impl<S: Storage> Qcow2<S> {
         if is_it { self.unspent.take() } else { None }
     }
 
-    // Has the guest cluster of a prepared mapping name its host cluster. Whatever keeps it from that marks the image as failed: a part may
-    // be written.
+    // Has the guest clusters of a prepared mapping name their host clusters. Whatever keeps them from that marks the image as failed: a
+    // part may be written.
     pub(crate) fn commit_unspent(
         &mut self,
         state: PreparedMappingState,
@@ -117,6 +134,7 @@ impl<S: Storage> Qcow2<S> {
         let clusters = Reserved {
             table: unspent.table,
             host: unspent.host,
+            count: unspent.count,
             is_kept: unspent.is_kept,
         };
         match name_host(&mut self.tables, clusters, unspent.guest) {
@@ -128,12 +146,17 @@ impl<S: Storage> Qcow2<S> {
         }
     }
 
-    // Gives a prepared mapping up: its host cluster waits to be freed then, unless the guest cluster keeps it for its zeroes.
+    // Gives a prepared mapping up: its host clusters wait to be freed then, unless the guest clusters keep them for their zeroes.
     pub(crate) fn cancel_unspent(&mut self, state: PreparedMappingState)
         ensures { CancelsUnspent S.Storage state.claim self.old self.new }
     {
         if let Some(unspent) = self.take_unspent(state) {
-            give_back(&mut self.tables.space, unspent.host, unspent.is_kept);
+            give_back(
+                &mut self.tables.space,
+                unspent.host,
+                unspent.count,
+                unspent.is_kept,
+            );
         }
     }
 }

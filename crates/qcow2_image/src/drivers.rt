@@ -21,10 +21,10 @@ ghost use Rattle.qcow2_image.specs.Allocating.{waits_in};
 ghost use Rattle.qcow2_image.specs.ImageLayer.{blanks};
 ghost use Rattle.qcow2_image.specs.Leaking.{KeepsLeaks};
 ghost use Rattle.qcow2_image.specs.Looking.{IsWholeRunIn, answer_at};
-ghost use Rattle.qcow2_image.specs.Preparing.{LacksPlace};
 ghost use Rattle.qcow2_image.specs.HeldHomes.{free_loose, one_home, says_room};
 ghost use Rattle.qcow2_image.specs.Unspent.{holding_in};
 ghost use Rattle.qcow2_image.specs.Writing.{begun_itself};
+ghost use Rattle.qcow2_image.specs.Preparing.{IsPartOfRun, LacksPlace};
 ghost use Rattle.qcow2_image.specs.Rooms.{IsUntouched, not_both, covered, of_storages, was_safe};
 ghost use Rattle.qcow2_image.specs.Steps.{Reloads, failed_anew, failed_behind, failed_by};
 
@@ -236,11 +236,12 @@ impl<S: Storage> FormatDriverInstance for Qcow2<S> {
         ensures at_once { RangeAtOnce ⟦<Qcow2<S> as Seen>⟧ offset length result self.old self.new }
         ensures unread { let d = ⟦<Qcow2<S> as Seen>⟧ in
             (length ≡ 0) ⊎ IsSome (own_refusal (d.layer self.old) offset length) → below.new ≡ below.old }
-        // It answers all of the run that can be written, or prepares what lies in the first guest cluster.
+        // It answers all of the run that can be written, or prepares what lies in the first guest clusters, those behind the first of which
+        // are written as a whole.
         ensures whole { let t = self.old.tables in ⟦<Qcow2<S> as Seen>⟧.sees self.old
             → IfOk result (λ m. 0 < length → m.state ≡ None → IsWholeRunIn S.Storage t offset length m.length) }
-        ensures part { let c = cluster_size self.old.tables.file.header.fields in
-            IfOk result (λ m. IsSome m.state → m.length ≡ min length (c - offset % c)) }
+        ensures part { let asked = asking offset length overwrite in
+            IfOk result (λ m. IsSome m.state → IsPartOfRun S.Storage asked m.length self.old) }
         // It is refused with a limit only where the first place can't be written.
         ensures limit { let d = ⟦<Qcow2<S> as Seen>⟧ in
             d.sees self.old → IfErr result (λ e. (n : _) → e ≡ Limit n → (d.layer self.old).home offset ≡ None) }

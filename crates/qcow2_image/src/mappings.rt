@@ -1,49 +1,102 @@
 // Mappings are prepared for guest clusters whose data is in no host cluster of their own.
-ghost use Rattle.std.specs.Prelude.{◌≡◌, ◌<◌, ◌≤◌, ◌+◌, ◌-◌, ◌%◌, false, None, length, IfSome};
+ghost use Rattle.std.specs.Prelude.{◌≡◌, ◌<◌, ◌≤◌, ◌+◌, ◌-◌, ◌*◌, ◌/◌, ◌%◌, ◌^◌, false, None, length, IfSome};
 ghost use Rattle.imago_access.specs.Changes.{asking};
-ghost use Rattle.qcow2_types.specs.Header.{cluster_size};
+ghost use Rattle.qcow2_types.specs.Header.{cluster_size, words_of_cluster};
 ghost use Rattle.qcow2_metadata.specs.Places.{IsInReach};
-ghost use Rattle.qcow2_image.specs.Preparing.{KeepsMapping, PreparesFresh, Reserves, first_run};
+ghost use Rattle.qcow2_image.specs.Preparing.{CoversMost, FindsRun, KeepsMapping, PreparesFresh, PreparesRun, Reserves, run_in};
 
+use crate::lookup::look_up;
 use crate::qcow2::{PreparedMappingState, Qcow2};
 use crate::unspent::{Unspent, Writes};
 use imago_access::{PreparedDataMapping, ReadBelow, SeenBelow};
 use imago_storage::{Fault, Storage};
-use qcow2_types::{GuestCluster, GuestOffset, HostCluster};
+use qcow2_metadata::Header;
+use qcow2_types::{ClusterCount, GuestCluster, GuestOffset, HostCluster};
 use std::alloc::Global;
 use std::snapshot::Snapshot;
 
-// What a guest cluster is to be written in: a host cluster, with the cluster of the L2 table over it. Either the guest cluster kept it for
-// its zeroes, or it is reserved.
+// What guest clusters in a row are to be written in: host clusters in a row, from the first on, with the cluster of the L2 table over the
+// guest clusters. Either those kept them for their zeroes, or they are reserved.
 #[derive(Clone, Copy)]
 pub(crate) struct Reserved {
     pub(crate) table: HostCluster,
     pub(crate) host: HostCluster,
+    pub(crate) count: ClusterCount,
     pub(crate) is_kept: bool,
 }
 
+// How many of a range's guest clusters in a row, from its first on, stand under one L2 table, and are covered whole behind the first. One
+// amid which the disk ends isn't among those: what is behind that end has to be zeroes.
+fn most_covered(header: &Header, offset: u64, length: u64) -> u64
+    requires inside { offset + length ≤ header.now.fields.size }
+    requires some { 0 < length }
+    requires fits { offset + length < 2 ^ 64 }
+    ensures { CoversMost header.now.fields offset length result }
+{
+    let cluster_bits = header.cluster_bits();
+    let guest = GuestOffset(offset).cluster(cluster_bits);
+    let behind = GuestOffset(offset + length).cluster(cluster_bits);
+    let row = (header.l2_entries() - guest.l2_index(cluster_bits)) as u64;
+    behind.0.saturating_sub(guest.0).min(row).max(1)
+}
+
 impl<S: Storage> Qcow2<S> {
-    // How much of a range lies in its first guest cluster.
-    fn first_run(&self, offset: u64, length: u64) -> u64
-        ensures { result ≡ first_run self.now.tables.file.header.fields offset length }
+    // How much of a range lies in the first of its guest clusters, so many of them.
+    fn run_in(&self, count: ClusterCount, offset: u64, length: u64) -> u64
+        requires few { count ≤ words_of_cluster self.now.tables.file.header.fields }
+        requires any { 0 < count }
+        ensures { result ≡ run_in self.now.tables.file.header.fields count offset length }
     {
-        let cluster_bits = self.tables.file.header.cluster_bits();
-        length.min(GuestOffset(offset).remaining_in_cluster(cluster_bits))
+        let within = offset % self.tables.file.header.cluster_size() as u64;
+        let all = count.0 * self.tables.file.header.cluster_size() as u64;
+        length.min(all - within)
     }
 
-    // Has a host cluster for a guest cluster, with this content, under an L2 table: the one that it keeps for its zeroes, if it does, or
-    // else one that is reserved.
+    // How many guest clusters in a row get host clusters in a row, from that of a range's first place on, which has none of its own: those
+    // behind it are mapped as it is, and are written as a whole.
+    fn covered_run(
+        &mut self,
+        offset: u64,
+        length: u64,
+        overwrite: bool,
+    ) -> Result<ClusterCount, Fault>
+        requires inside { offset + length ≤ self.old.tables.file.header.fields.size }
+        requires some { 0 < length }
+        requires runs { self.old.failed ≡ false }
+        ensures { FindsRun S.Storage (asking offset length overwrite) self.old result self.new }
+    {
+        // Its type bounds the size.
+        let _size = self.tables.file.header.size();
+        let most = most_covered(&self.tables.file.header, offset, length);
+        if !overwrite || most == 1 {
+            return Ok(ClusterCount(1));
+        }
+        let guest = GuestOffset(offset).cluster(self.tables.file.header.cluster_bits());
+        match look_up(&mut self.tables, guest, most) {
+            Ok((_mapping, count)) => Ok(ClusterCount(count)),
+            Err(fault) => {
+                self.mark(fault);
+                Err(fault)
+            }
+        }
+    }
+
+    // Has host clusters in a row for guest clusters in a row, so many at most, the first one with this content, under an L2 table: the one
+    // that the first keeps for its zeroes, if it does, or else such that are reserved.
     fn reserve(
         &mut self,
         alloc: Global,
         guest: GuestCluster,
         kept: Option<HostCluster>,
         content: &[u8],
+        count: ClusterCount,
     ) -> Result<Reserved, Fault>
         requires whole { length content.now ≡ cluster_size self.old.tables.file.header.fields }
         requires near { IfSome kept (λ host. IsInReach self.old.tables.file.header.fields.cluster_bits host) }
+        requires any { 0 < count }
+        requires row { let words = words_of_cluster self.old.tables.file.header.fields in guest % words + count ≤ words }
         requires free { self.old.unspent ≡ None }
-        ensures { Reserves S.Storage guest kept content.now self.old result self.new }
+        ensures { Reserves S.Storage guest kept count content.now self.old result self.new }
     {
         match self.load_space(alloc) {
             Ok(()) => {}
@@ -53,21 +106,60 @@ impl<S: Storage> Qcow2<S> {
             Ok(table) => table,
             Err(fault) => return Err(fault),
         };
-        match self.place_content(alloc, kept, content) {
-            Ok(placed) => {
-                let (host, is_kept) = placed;
-                Ok(Reserved {
-                    table,
-                    host,
-                    is_kept,
-                })
+        match self.place_content(alloc, kept, content, count) {
+            Ok(placed) => Ok(Reserved {
+                table,
+                host: placed.host,
+                count: placed.count,
+                is_kept: placed.is_kept,
+            }),
+            Err(fault) => Err(fault),
+        }
+    }
+
+    // Prepares a mapping of what lies in so many guest clusters in a row at most, from that of a range's first place on, whose data is in
+    // no clusters of their own: the host cluster that the first keeps for its zeroes, or such that are reserved. The first has what is
+    // shown there.
+    fn prepare_run<B: ReadBelow>(
+        &mut self,
+        alloc: Global,
+        below: &mut B,
+        offset: u64,
+        length: u64,
+        overwrite: bool,
+        count: ClusterCount,
+    ) -> Result<PreparedDataMapping<PreparedMappingState>, Fault>
+        requires inside { offset + length ≤ self.old.tables.file.header.fields.size }
+        requires some { 0 < length }
+        requires any { 0 < count }
+        requires row { let h = self.old.tables.file.header.fields in
+            offset / cluster_size h % words_of_cluster h + count ≤ words_of_cluster h }
+        requires runs { self.old.failed ≡ false }
+        requires free { self.old.unspent ≡ None }
+        ensures { let asked = asking offset length overwrite in
+            PreparesFresh S.Storage B.SeenBelow asked count (self.old, below.old) result (self.new, below.new) }
+    {
+        let cluster_bits = self.tables.file.header.cluster_bits();
+        let guest = GuestOffset(offset).cluster(cluster_bits);
+        let first = self.run_in(ClusterCount(1), offset, length);
+        let content = match self.content_for(alloc, below, offset, first, overwrite) {
+            Ok(content) => content,
+            Err(fault) => return Err(fault),
+        };
+        let kept = match self.kept_at(guest) {
+            Ok(kept) => kept,
+            Err(fault) => return Err(fault),
+        };
+        match self.reserve(alloc, guest, kept, &content, count) {
+            Ok(clusters) => {
+                let run = self.run_in(clusters.count, offset, length);
+                Ok(self.hold(clusters, offset, run, overwrite))
             }
             Err(fault) => Err(fault),
         }
     }
 
-    // Prepares a mapping of what lies in the first guest cluster of a range, whose data is in no cluster of its own: the host cluster that
-    // it keeps for its zeroes, or one that is reserved for it, has what is shown there.
+    // The same, of as many as can be had at once.
     pub(crate) fn prepare_fresh<B: ReadBelow>(
         &mut self,
         alloc: Global,
@@ -81,21 +173,10 @@ impl<S: Storage> Qcow2<S> {
         requires runs { self.old.failed ≡ false }
         requires free { self.old.unspent ≡ None }
         ensures { let asked = asking offset length overwrite in
-            PreparesFresh S.Storage B.SeenBelow asked (self.old, below.old) result (self.new, below.new) }
+            PreparesRun S.Storage B.SeenBelow asked (self.old, below.old) result (self.new, below.new) }
     {
-        let cluster_bits = self.tables.file.header.cluster_bits();
-        let guest = GuestOffset(offset).cluster(cluster_bits);
-        let run = self.first_run(offset, length);
-        let content = match self.content_for(alloc, below, offset, run, overwrite) {
-            Ok(content) => content,
-            Err(fault) => return Err(fault),
-        };
-        let kept = match self.kept_at(guest) {
-            Ok(kept) => kept,
-            Err(fault) => return Err(fault),
-        };
-        match self.reserve(alloc, guest, kept, &content) {
-            Ok(clusters) => Ok(self.hold(clusters, offset, run, overwrite)),
+        match self.covered_run(offset, length, overwrite) {
+            Ok(count) => self.prepare_run(alloc, below, offset, length, overwrite, count),
             Err(fault) => Err(fault),
         }
     }
@@ -108,13 +189,15 @@ impl<S: Storage> Qcow2<S> {
         length: u64,
         overwrite: bool,
     ) -> PreparedDataMapping<PreparedMappingState>
-        requires reach { IsInReach self.old.tables.file.header.fields.cluster_bits clusters.host }
-        requires row { let c = cluster_size self.old.tables.file.header.fields in length ≤ c - offset % c }
+        requires reach { IsInReach self.old.tables.file.header.fields.cluster_bits (clusters.host + (clusters.count - 1)) }
+        requires any { 0 < clusters.count }
+        requires row { let c = cluster_size self.old.tables.file.header.fields in length ≤ clusters.count * c - offset % c }
         ensures { KeepsMapping S.Storage (asking offset length overwrite) clusters self.old result self.new }
     {
         let Reserved {
             table,
             host,
+            count,
             is_kept,
         } = clusters;
         let cluster_bits = self.tables.file.header.cluster_bits();
@@ -129,6 +212,7 @@ impl<S: Storage> Qcow2<S> {
             guest: guest.cluster(cluster_bits),
             table,
             host,
+            count,
             is_kept,
             overwrite,
             copied: Snapshot::of(&self.tables.file.image),

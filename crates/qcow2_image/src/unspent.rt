@@ -2,7 +2,7 @@
 ghost use Rattle.std.specs.Prelude.{◌≤◌, ◌+◌, ◌^◌};
 
 use imago_storage::Storage;
-use qcow2_types::{GuestCluster, HostCluster};
+use qcow2_types::{ClusterCount, GuestCluster, HostCluster};
 use std::snapshot::Snapshot;
 
 /// The ranges that were written to a prepared mapping, the last one and, for contracts alone, those before.
@@ -13,9 +13,9 @@ pub struct Writes {
     pub(crate) length: u64,
 }
 
-/// A prepared mapping: its run in bytes, and where that is in the file, its guest cluster with the cluster of the L2 table over it, and the
-/// host cluster that is reserved for it, or that it kept for its zeroes. For contracts it keeps the file as it was when the guest cluster's
-/// content was there.
+/// A prepared mapping: its run in bytes, and where that is in the file, the first of its guest clusters with the cluster of the L2 table
+/// over them, and the first of the host clusters that are reserved for them, or that they kept for their zeroes. For contracts it keeps the
+/// file as it was when the guest clusters' content was there.
 #[derive(Drop)]
 pub struct Unspent<S: Storage> {
     pub(crate) claim: u64,
@@ -25,6 +25,7 @@ pub struct Unspent<S: Storage> {
     pub(crate) guest: GuestCluster,
     pub(crate) table: HostCluster,
     pub(crate) host: HostCluster,
+    pub(crate) count: ClusterCount,
     pub(crate) is_kept: bool,
     pub(crate) overwrite: bool,
     pub(crate) copied: Snapshot<S>,

@@ -5,9 +5,9 @@ use Rattle.imago_access.specs.Files.{IsMild}
 use Rattle.imago_access.proofs.Looking.{looked_under_same}
 use Rattle.qcow2_image.specs.Looking.{IsWholeRunIn}
 use Rattle.qcow2_image.specs.Seen.{layer_of}
-use Rattle.qcow2_image.proofs.Prepared.{fresh-cut, fresh-free, fresh-mine, fresh-run, fresh-size, fresh-whole, limit-where, prepares-fresh, unspent-none}
-use Rattle.qcow2_image.proofs.Preparing.{part-why, prepares-mapped, prepares-refused}
-use Rattle.qcow2_image.proofs.Reserving.{fresh-behind, fresh-lacks}
+use Rattle.qcow2_image.proofs.Preparations.Prepared.{fresh-cut, fresh-free, fresh-mine, fresh-run, fresh-size, fresh-whole, limit-where, prepares-fresh, unspent-none}
+use Rattle.qcow2_image.proofs.Preparations.Preparing.{part-why, prepares-mapped, prepares-refused}
+use Rattle.qcow2_image.proofs.Preparations.Reserving.{fresh-lacks, prepared-behind}
 use Rattle.qcow2_image.proofs.drivers.Qcow2FormatDriverInstance.prepare_data_mapping.Goals as goal
 use Rattle.qcow2_image.proofs.KeptLeaks.{leaks-kept}
 
@@ -57,7 +57,7 @@ returns-in-Ok-None-clause-run g c =
     let x = c.args.below.now in
     let y = c.prepare_fresh.new.below in
     let looked = rw c.in-Ok-None.field-0-is at c.in-Ok-None.ensures.keeps in
-    let fresh = fresh-behind st {T = Option (ℕ × ℕ)} u asked c.args.self.now c.home_run.new.self x None looked c.prepare_fresh.result c.prepare_fresh.new.self y c.prepare_fresh.ensures in
+    let fresh = prepared-behind st {T = Option (ℕ × ℕ)} u asked c.args.self.now c.home_run.new.self x None looked c.prepare_fresh.result c.prepare_fresh.new.self y c.prepare_fresh.ensures in
     fresh-run g.row.S st g.S.Storage-dict g.S.Destruct-dict u asked c.args.self.now c.prepare_fresh.new.self x y c.prepare_fresh.result (omega (arith, c.if-length-eq0.false)) c.in-Ok.ensures.inside fresh
 
 pub returns-in-Ok-None-clause-mine : goal.returns-in-Ok-None-clause-mine
@@ -68,7 +68,7 @@ returns-in-Ok-None-clause-mine g c =
     let x = c.args.below.now in
     let y = c.prepare_fresh.new.below in
     let looked = rw c.in-Ok-None.field-0-is at c.in-Ok-None.ensures.keeps in
-    let fresh = fresh-behind st {T = Option (ℕ × ℕ)} u asked c.args.self.now c.home_run.new.self x None looked c.prepare_fresh.result c.prepare_fresh.new.self y c.prepare_fresh.ensures in
+    let fresh = prepared-behind st {T = Option (ℕ × ℕ)} u asked c.args.self.now c.home_run.new.self x None looked c.prepare_fresh.result c.prepare_fresh.new.self y c.prepare_fresh.ensures in
     fresh-mine g.row.S st g.S.Storage-dict g.S.Destruct-dict u asked c.args.self.now c.prepare_fresh.new.self x y c.prepare_fresh.result fresh
 
 pub returns-in-Ok-None-clause-size : goal.returns-in-Ok-None-clause-size
@@ -79,7 +79,7 @@ returns-in-Ok-None-clause-size g c =
     let x = c.args.below.now in
     let y = c.prepare_fresh.new.below in
     let looked = rw c.in-Ok-None.field-0-is at c.in-Ok-None.ensures.keeps in
-    let fresh = fresh-behind st {T = Option (ℕ × ℕ)} u asked c.args.self.now c.home_run.new.self x None looked c.prepare_fresh.result c.prepare_fresh.new.self y c.prepare_fresh.ensures in
+    let fresh = prepared-behind st {T = Option (ℕ × ℕ)} u asked c.args.self.now c.home_run.new.self x None looked c.prepare_fresh.result c.prepare_fresh.new.self y c.prepare_fresh.ensures in
     fresh-size g.row.S st g.S.Storage-dict g.S.Destruct-dict u asked c.args.self.now c.prepare_fresh.new.self x y c.prepare_fresh.result fresh
 
 pub returns-in-Ok-None-clause-free : goal.returns-in-Ok-None-clause-free
@@ -90,7 +90,7 @@ returns-in-Ok-None-clause-free g c =
     let x = c.args.below.now in
     let y = c.prepare_fresh.new.below in
     let looked = rw c.in-Ok-None.field-0-is at c.in-Ok-None.ensures.keeps in
-    let fresh = fresh-behind st {T = Option (ℕ × ℕ)} u asked c.args.self.now c.home_run.new.self x None looked c.prepare_fresh.result c.prepare_fresh.new.self y c.prepare_fresh.ensures in
+    let fresh = prepared-behind st {T = Option (ℕ × ℕ)} u asked c.args.self.now c.home_run.new.self x None looked c.prepare_fresh.result c.prepare_fresh.new.self y c.prepare_fresh.ensures in
     fresh-free g.row.S st g.S.Storage-dict g.S.Destruct-dict u asked c.args.self.now c.prepare_fresh.new.self x y c.prepare_fresh.result c.requires.free fresh
 
 pub returns-in-Ok-None-clause-does : goal.returns-in-Ok-None-clause-does
@@ -101,12 +101,12 @@ returns-in-Ok-None-clause-does g c =
     let x = c.args.below.now in
     let y = c.prepare_fresh.new.below in
     let looked = rw c.in-Ok-None.field-0-is at c.in-Ok-None.ensures.keeps in
-    let fresh = fresh-behind st {T = Option (ℕ × ℕ)} u asked c.args.self.now c.home_run.new.self x None looked c.prepare_fresh.result c.prepare_fresh.new.self y c.prepare_fresh.ensures in
+    let fresh = prepared-behind st {T = Option (ℕ × ℕ)} u asked c.args.self.now c.home_run.new.self x None looked c.prepare_fresh.result c.prepare_fresh.new.self y c.prepare_fresh.ensures in
     prepares-fresh g.row.S st g.S.Storage-dict g.S.Destruct-dict u asked c.args.self.now c.prepare_fresh.new.self x y c.prepare_fresh.result c.requires.free (omega (arith, c.if-length-eq0.false))
     (λ seen. c.in-Ok-None.ensures.none seen c.in-Ok-None.field-0-is) c.in-Ok.ensures.inside c.in-Ok.ensures.writable fresh
 
 pub returns-in-Ok-None-clause-below : goal.returns-in-Ok-None-clause-below
-returns-in-Ok-None-clause-below g c = c.prepare_fresh.ensures.below
+returns-in-Ok-None-clause-below g c = c.prepare_fresh.ensures.prepares.below
 
 pub returns-in-Ok-None-clause-whole : goal.returns-in-Ok-None-clause-whole
 returns-in-Ok-None-clause-whole g c =
@@ -116,7 +116,7 @@ returns-in-Ok-None-clause-whole g c =
     let x = c.args.below.now in
     let y = c.prepare_fresh.new.below in
     let looked = rw c.in-Ok-None.field-0-is at c.in-Ok-None.ensures.keeps in
-    let fresh = fresh-behind st {T = Option (ℕ × ℕ)} u asked c.args.self.now c.home_run.new.self x None looked c.prepare_fresh.result c.prepare_fresh.new.self y c.prepare_fresh.ensures in
+    let fresh = prepared-behind st {T = Option (ℕ × ℕ)} u asked c.args.self.now c.home_run.new.self x None looked c.prepare_fresh.result c.prepare_fresh.new.self y c.prepare_fresh.ensures in
     λ sees. fresh-whole g.row.S st g.S.Storage-dict g.S.Destruct-dict u asked c.args.self.now c.prepare_fresh.new.self x y c.prepare_fresh.result (λ m. IsWholeRunIn st c.args.self.now.tables c.args.offset c.args.length m.length) fresh
 
 pub returns-in-Ok-None-clause-part : goal.returns-in-Ok-None-clause-part
@@ -127,7 +127,7 @@ returns-in-Ok-None-clause-part g c =
     let x = c.args.below.now in
     let y = c.prepare_fresh.new.below in
     let looked = rw c.in-Ok-None.field-0-is at c.in-Ok-None.ensures.keeps in
-    let fresh = fresh-behind st {T = Option (ℕ × ℕ)} u asked c.args.self.now c.home_run.new.self x None looked c.prepare_fresh.result c.prepare_fresh.new.self y c.prepare_fresh.ensures in
+    let fresh = prepared-behind st {T = Option (ℕ × ℕ)} u asked c.args.self.now c.home_run.new.self x None looked c.prepare_fresh.result c.prepare_fresh.new.self y c.prepare_fresh.ensures in
     fresh-cut g.row.S st g.S.Storage-dict g.S.Destruct-dict u asked c.args.self.now c.prepare_fresh.new.self x y c.prepare_fresh.result fresh
 
 pub returns-in-Ok-None-clause-limit : goal.returns-in-Ok-None-clause-limit
@@ -142,8 +142,8 @@ returns-in-Ok-None-clause-full g c =
     let x = c.args.below.now in
     let y = c.prepare_fresh.new.below in
     let looked = rw c.in-Ok-None.field-0-is at c.in-Ok-None.ensures.keeps in
-    let fresh = fresh-behind st {T = Option (ℕ × ℕ)} u asked c.args.self.now c.home_run.new.self x None looked c.prepare_fresh.result c.prepare_fresh.new.self y c.prepare_fresh.ensures in
-    λ safe under. fresh-lacks st u asked c.args.self.now c.prepare_fresh.new.self x y c.prepare_fresh.result fresh safe under
+    let fresh = prepared-behind st {T = Option (ℕ × ℕ)} u asked c.args.self.now c.home_run.new.self x None looked c.prepare_fresh.result c.prepare_fresh.new.self y c.prepare_fresh.ensures in
+    λ safe under. fresh-lacks st u asked fresh.n c.args.self.now c.prepare_fresh.new.self x y c.prepare_fresh.result fresh.prepares safe under
 
 pub returns-in-Err-home_run-clause-leaks : goal.returns-in-Err-home_run-clause-leaks
 returns-in-Err-home_run-clause-leaks g c = λ safe whole. leaks-kept g.S.Storage {T = Option (ℕ × ℕ)} c.args.self.now c.home_run.new.self
@@ -161,5 +161,5 @@ returns-in-Ok-None-clause-leaks g c =
     let x = c.args.below.now in
     let y = c.prepare_fresh.new.below in
     let looked = rw c.in-Ok-None.field-0-is at c.in-Ok-None.ensures.keeps in
-    let fresh = fresh-behind st {T = Option (ℕ × ℕ)} u asked c.args.self.now c.home_run.new.self x None looked c.prepare_fresh.result c.prepare_fresh.new.self y c.prepare_fresh.ensures in
-    λ safe whole. fresh.leaks safe (unspent-none st c.args.self.now.unspent c.requires.free) whole
+    let fresh = prepared-behind st {T = Option (ℕ × ℕ)} u asked c.args.self.now c.home_run.new.self x None looked c.prepare_fresh.result c.prepare_fresh.new.self y c.prepare_fresh.ensures in
+    λ safe whole. fresh.prepares.leaks safe (unspent-none st c.args.self.now.unspent c.requires.free) whole

@@ -1,49 +1,13 @@
-use Rattle.std.proofs.Common.{◌≡◌, ℕ, ◌^◌, ◌/◌, ap, subst, ◌∙◌, Ok, Err}
-use Rattle.imago_access.specs.Changes.{Asked, asking}
-use Rattle.qcow2_types.specs.Header.{cluster_size}
-use Rattle.qcow2_image.specs.Filling.{MakesContent}
-use Rattle.qcow2_image.specs.Preparing.{KeepsMapping, Reserves}
-use Rattle.qcow2_image.proofs.Reserving.{fresh-done, fresh-unfilled, fresh-unreserved, fresh-untold}
+use Rattle.imago_access.specs.Changes.{asking}
+use Rattle.qcow2_image.proofs.Preparations.Reserving.{run-prepared, run-unfound}
 use Rattle.qcow2_image.proofs.qcow2.Qcow2.prepare_fresh.Goals as goal
+
+pub returns-in-Ok : goal.returns-in-Ok
+returns-in-Ok g c =
+    run-prepared g.S.Storage g.B.SeenBelow (asking c.args.offset c.args.length c.args.overwrite) c.in-Ok.count c.args.self.now c.covered_run.new.self
+    c.args.below.now c.in-Ok.ensures c.prepare_run.result c.prepare_run.new.self c.prepare_run.new.below c.prepare_run.ensures
 
 pub returns-in-Err : goal.returns-in-Err
 returns-in-Err g c =
-    let asked : Asked = asking c.args.offset c.args.length c.args.overwrite in
-    fresh-unfilled g.S.Storage g.B.SeenBelow asked (c.args.self.now, c.args.below.now) (c.content_for.new.self, c.content_for.new.below) c.in-Err.fault
-    (subst (λ (n : ℕ). MakesContent g.S.Storage g.B.SeenBelow (record asked { length = n }) (c.args.self.now, c.args.below.now) (Err c.in-Err.fault)
-    (c.content_for.new.self, c.content_for.new.below)) c.first_run-run.ensures c.in-Err.ensures)
-
-pub returns-in-Err-kept_at : goal.returns-in-Err-kept_at
-returns-in-Err-kept_at g c =
-    let asked : Asked = asking c.args.offset c.args.length c.args.overwrite in
-    fresh-untold g.S.Storage g.B.SeenBelow asked c.cluster-guest.result c.in-Ok.content (c.args.self.now, c.args.below.now) c.content_for.new.self c.content_for.new.below
-    (subst (λ (n : ℕ). MakesContent g.S.Storage g.B.SeenBelow (record asked { length = n }) (c.args.self.now, c.args.below.now) (Ok c.in-Ok.content)
-    (c.content_for.new.self, c.content_for.new.below)) c.first_run-run.ensures c.in-Ok.ensures)
-    c.kept_at.new.self c.in-Err-kept_at.fault c.in-Err-kept_at.ensures
-
-pub returns-in-Ok-reserve : goal.returns-in-Ok-reserve
-returns-in-Ok-reserve g c =
-    let asked : Asked = asking c.args.offset c.args.length c.args.overwrite in
-    let guest : c.cluster-guest.result ≡ c.args.offset / cluster_size c.args.self.now.tables.file.header.fields = c.cluster-guest.ensures
-    ∙ ap (λ (b : ℕ). c.args.offset / 2 ^ b) c.cluster_bits-cluster_bits.ensures.value in
-    fresh-done g.S.Storage g.B.SeenBelow asked c.cluster-guest.result c.in-Ok.content (c.args.self.now, c.args.below.now) c.content_for.new.self c.content_for.new.below
-    (subst (λ (n : ℕ). MakesContent g.S.Storage g.B.SeenBelow (record asked { length = n }) (c.args.self.now, c.args.below.now) (Ok c.in-Ok.content)
-    (c.content_for.new.self, c.content_for.new.below)) c.first_run-run.ensures c.in-Ok.ensures)
-    c.in-Ok-kept_at.kept c.kept_at.new.self c.in-Ok-kept_at.ensures guest c.in-Ok-reserve.clusters c.reserve.new.self
-    (subst (λ bytes. Reserves g.S.Storage c.cluster-guest.result c.in-Ok-kept_at.kept bytes c.kept_at.new.self (Ok c.in-Ok-reserve.clusters) c.reserve.new.self)
-    c.deref.ensures.value c.in-Ok-reserve.ensures)
-    c.hold.result c.hold.new.self
-    (subst (λ (n : ℕ). KeepsMapping g.S.Storage (record asked { length = n }) c.in-Ok-reserve.clusters c.reserve.new.self c.hold.result c.hold.new.self) c.first_run-run.ensures c.hold.ensures)
-
-pub returns : goal.returns
-returns g c =
-    let asked : Asked = asking c.args.offset c.args.length c.args.overwrite in
-    let guest : c.cluster-guest.result ≡ c.args.offset / cluster_size c.args.self.now.tables.file.header.fields = c.cluster-guest.ensures
-    ∙ ap (λ (b : ℕ). c.args.offset / 2 ^ b) c.cluster_bits-cluster_bits.ensures.value in
-    fresh-unreserved g.S.Storage g.B.SeenBelow asked c.cluster-guest.result c.in-Ok.content (c.args.self.now, c.args.below.now) c.content_for.new.self c.content_for.new.below
-    (subst (λ (n : ℕ). MakesContent g.S.Storage g.B.SeenBelow (record asked { length = n }) (c.args.self.now, c.args.below.now) (Ok c.in-Ok.content)
-    (c.content_for.new.self, c.content_for.new.below)) c.first_run-run.ensures c.in-Ok.ensures)
-    c.in-Ok-kept_at.kept c.kept_at.new.self c.in-Ok-kept_at.ensures guest
-    c.reserve.new.self c.in-Err-reserve.fault
-    (subst (λ bytes. Reserves g.S.Storage c.cluster-guest.result c.in-Ok-kept_at.kept bytes c.kept_at.new.self (Err c.in-Err-reserve.fault) c.reserve.new.self)
-    c.deref.ensures.value c.in-Err-reserve.ensures)
+    run-unfound g.S.Storage g.B.SeenBelow (asking c.args.offset c.args.length c.args.overwrite) c.args.self.now c.covered_run.new.self
+    c.args.below.now c.in-Err.fault c.in-Err.ensures

@@ -24,7 +24,7 @@ use Rattle.imago_access.proofs.ImageCauses.{failed_left, failed_right}
 use Rattle.imago_access.proofs.Marking.{over_plain}
 use Rattle.qcow2_types.specs.Bytes.{Bytes}
 use Rattle.qcow2_types.specs.Entries.{entry}
-use Rattle.qcow2_types.specs.Header.{Fields, cluster_size}
+use Rattle.qcow2_types.specs.Header.{Fields, cluster_size, words_of_cluster}
 use Rattle.qcow2_metadata.specs.Places.{IsInReach}
 use Rattle.qcow2_clusters.specs.Naming.{TakesNone}
 use Rattle.qcow2_image.specs.contracts.qcow2.Qcow2Seen.TheImpl.{ghosts}
@@ -39,15 +39,15 @@ use Rattle.qcow2_image.specs.Holding.{Holding, IsUncopied, claim_held, place_in}
 use Rattle.qcow2_image.specs.Homes.{memory_is}
 use Rattle.qcow2_image.specs.ImageLayer.{qcow2_fixed}
 use Rattle.qcow2_image.specs.KeepsDisk.{KeepsDisk}
-use Rattle.qcow2_image.specs.Preparing.{HoldsFresh, IsReservedFor, LacksPlace, LeavesMarked, PreparesFresh, first_part, first_run, held_run}
+use Rattle.qcow2_image.specs.Preparing.{HoldsFresh, IsCovered, IsPartOfRun, IsReservedFor, IsRun, LacksPlace, LeavesMarked, PreparesRun, first_part, held_run, run_in, run_part}
 use Rattle.qcow2_image.specs.Rooms.{HasCluster, HoldsIn, IsSafe, ReadsNone}
 use Rattle.qcow2_image.specs.Seen.{IsSeen, file_of, homes_of, layer_in, layer_of, memory_of}
 use Rattle.qcow2_image.specs.Unspent.{covers, holding, holding_in}
 use Rattle.qcow2_image.specs.Writing.{HadNoPlace, Since}
 use Rattle.qcow2_image.specs.Leaking.{KeepsLeaks}
-use Rattle.qcow2_image.proofs.FreshRuns.{fresh-held, fresh-near, fresh-part, fresh-prepared, fresh-uncut, homeless-uncopied}
+use Rattle.qcow2_image.proofs.Preparations.FreshRuns.{fresh-held, fresh-near, fresh-part, fresh-prepared, fresh-uncut, homeless-uncopied}
 use Rattle.qcow2_image.proofs.Needing.{needs-shown, since-as}
-use Rattle.qcow2_image.proofs.Preparing.{part-nowhere, words-none}
+use Rattle.qcow2_image.proofs.Preparations.Preparing.{part-nowhere, words-none}
 use Rattle.qcow2_image.proofs.Steps.{marks-kept}
 
 module _ (R : RattleType) (st : Ghosts R.Denot) (sd : mir.Syntax.Dict) (dd : mir.Syntax.Dict) (old middle : Qcow2 R.Denot st) where
@@ -206,8 +206,8 @@ module _ (R : RattleType) (st : Ghosts R.Denot) (sd : mir.Syntax.Dict) (dd : mir
       }
 
     -- Such a run is held then.
-    module _ (writable : IsTrue old.mode.writable) (k : KeepsDisk st ⊤ old middle)
-        (mapping : PreparedDataMapping PreparedMappingState) (new : Qcow2 R.Denot st) (f : HoldsFresh st u asked (old, x) middle mapping new)
+    module _ (writable : IsTrue old.mode.writable) (k : KeepsDisk st ⊤ old middle) (n : ℕ) (found : IsRun st asked n old)
+        (mapping : PreparedDataMapping PreparedMappingState) (new : Qcow2 R.Denot st) (f : HoldsFresh st u asked n (old, x) middle mapping new)
         (leaks : IsSafe st old → KeepsLeaks st old new) where
       abbrev unspent : Unspent R.Denot st
       unspent = f.holds.unspent
@@ -215,13 +215,27 @@ module _ (R : RattleType) (st : Ghosts R.Denot) (sd : mir.Syntax.Dict) (dd : mir
       abbrev held : Qcow2 R.Denot st
       held = record middle { claims = unspent.claim; unspent = Some unspent }
 
+      abbrev count : ℕ
+      count = f.clusters.count
+
       abbrev run : ℕ
-      run = first_run h asked.offset asked.length
+      run = run_in h f.clusters.count asked.offset asked.length
 
-      run-same : first_part h asked ≡ first_part h' asked
-      run-same = ap (λ (b : ℕ). record asked { length = min asked.length (2 ^ b - asked.offset % 2 ^ b) }) (sym k.bits)
+      run-same : run_part h count asked ≡ run_part h' count asked
+      run-same = ap (λ (b : ℕ). record asked { length = min asked.length (count * 2 ^ b - asked.offset % 2 ^ b) }) (sym k.bits)
 
-      holds-now : holding st unspent ≡ held_run st (first_part h' asked) f.clusters middle unspent.claim (covers unspent.written)
+      -- Its guest clusters are those that were found, or the first of them.
+      row : asked.offset / cluster_size h' % words_of_cluster h' + count ≤ words_of_cluster h'
+      row = subst (λ (b : ℕ). asked.offset / 2 ^ b % (2 ^ b / 8) + count ≤ 2 ^ b / 8) (sym k.bits)
+          (let fits = found.row in let few = f.few in omega (arith, fits, few))
+
+      covered : (i : ℕ) → 0 < i → i < count → IsCovered h' asked (asked.offset / cluster_size h' + i)
+      covered i behind less = let was = found.covered i behind (let few = f.few in omega (arith, less, few)) in record {
+        overwrite = was.overwrite;
+        all = λ p at. was.all p (subst (λ (b : ℕ). p / 2 ^ b ≡ asked.offset / 2 ^ b + i) k.bits at);
+      }
+
+      holds-now : holding st unspent ≡ held_run st (run_part h' count asked) f.clusters middle unspent.claim (covers unspent.written)
       holds-now = f.holds.holds ∙ ap (λ (a : Asked). held_run st a f.clusters middle unspent.claim (covers unspent.written)) run-same
 
       on-disk : asked.offset + asked.length ≤ h'.size
@@ -230,8 +244,8 @@ module _ (R : RattleType) (st : Ghosts R.Denot) (sd : mir.Syntax.Dict) (dd : mir
       guest : asked.offset / cluster_size h ≡ asked.offset / cluster_size h'
       guest = ap (λ (b : ℕ). asked.offset / 2 ^ b) (sym k.bits)
 
-      near : IsInReach h'.cluster_bits f.clusters.host
-      near = subst (λ (b : ℕ). IsInReach b f.clusters.host) (sym k.bits) f.near
+      near : IsInReach h'.cluster_bits (f.clusters.host + (count - 1))
+      near = subst (λ (b : ℕ). IsInReach b (f.clusters.host + (count - 1))) (sym k.bits) f.near
 
       reserved : IsSafe st old → IsReservedFor st (asked.offset / cluster_size h') f.clusters middle.tables
       reserved safe = subst (λ (n : ℕ). IsReservedFor st n f.clusters middle.tables) guest (f.reserved safe)
@@ -242,8 +256,11 @@ module _ (R : RattleType) (st : Ghosts R.Denot) (sd : mir.Syntax.Dict) (dd : mir
           (homeless-uncopied (memory_of st old.tables) h old.mode.writable asked.offset writable (omega (arith, some, inside))
           (words-none (holding_in st old.unspent) (homes_of st old) asked.offset (nowhere safe.seen)))
 
-      uncopied : IsSafe st old → IsUncopied (entry (file_of st middle.tables) h' (asked.offset / cluster_size h'))
-      uncopied safe = subst IsUncopied (ap (entry (file_of st old.tables) h) guest ∙ sym (k.words safe tt (asked.offset / cluster_size h'))) (uncopied-was safe)
+      -- and so have the others none
+      uncopied : IsSafe st old → (i : ℕ) → i < count → IsUncopied (entry (file_of st middle.tables) h' (asked.offset / cluster_size h' + i))
+      uncopied safe i less =
+          subst IsUncopied (ap (λ (n : ℕ). entry (file_of st old.tables) h (n + i)) guest ∙ sym (k.words safe tt (asked.offset / cluster_size h' + i)))
+          (found.uncopied safe.seen (uncopied-was safe) i (let few = f.few in omega (arith, less, few)))
 
       -- each place has what it shows, by the size of clusters and of the disk
       abbrev Filled : ℕ → ℕ → Layer → Type 0
@@ -258,7 +275,8 @@ module _ (R : RattleType) (st : Ghosts R.Denot) (sd : mir.Syntax.Dict) (dd : mir
 
       holds-in : IsSafe st old → HoldsIn st middle.tables (holding st unspent)
       holds-in safe = subst (HoldsIn st middle.tables) (sym holds-now)
-          (fresh-held st middle asked f.clusters unspent.claim (covers unspent.written) f.holds.unwritten some on-disk near (reserved safe) (uncopied safe))
+          (fresh-held st middle asked f.clusters unspent.claim (covers unspent.written) f.holds.unwritten some on-disk f.any row covered near
+          (reserved safe) (uncopied safe))
 
       safe-held : IsSafe st old → IsSafe st held
       safe-held safe = let now = k.safely safe tt in record {
@@ -278,13 +296,13 @@ module _ (R : RattleType) (st : Ghosts R.Denot) (sd : mir.Syntax.Dict) (dd : mir
       abbrev answer : Asked → Run
       answer a = run_at 0 (place_in h' f.clusters.host asked.offset) a.length (Some unspent.claim)
 
-      prepared : IsSafe st old → u.sees_under x → Prepared (at (u.under x)) (layer_of st old) (layer_of st held) asked (answer part)
+      prepared : IsSafe st old → u.sees_under x → Prepared (at (u.under x)) (layer_of st old) (layer_of st held) asked (answer (run_part h count asked))
       prepared safe under =
-          subst (λ (l : Layer). Prepared (at (u.under x)) l (layer_of st held) asked (answer part)) (k.layer safe tt)
+          subst (λ (l : Layer). Prepared (at (u.under x)) l (layer_of st held) asked (answer (run_part h count asked))) (k.layer safe tt)
           (subst (λ (a : Asked). Prepared (at (u.under x)) (layer_of st middle) (layer_of st held) asked (answer a)) (sym run-same)
           (subst (λ (o : Holding). Prepared (at (u.under x)) (layer_of st middle) (layer_in st middle.tables middle.mode middle.number middle.failed (Some o)) asked
-          (answer (first_part h' asked))) (sym holds-now)
-          (fresh-prepared st middle asked f.clusters unspent.claim (covers unspent.written) f.holds.unwritten some on-disk near (reserved safe) (uncopied safe)
+          (answer (run_part h' count asked))) (sym holds-now)
+          (fresh-prepared st middle asked f.clusters unspent.claim (covers unspent.written) f.holds.unwritten some on-disk f.any row covered near (reserved safe) (uncopied safe)
           (at (u.under x)) (filled safe under))))
 
       answered : Prepares sees u asked (Ok (record {
@@ -296,9 +314,9 @@ module _ (R : RattleType) (st : Ghosts R.Denot) (sd : mir.Syntax.Dict) (dd : mir
       answered = record {
         ok = λ safe under. prepared safe under;
         err = λ safe under. tt;
-        uncut = λ safe under. fresh-uncut st old asked f.clusters unspent.claim (covers unspent.written) f.holds.unwritten some inside;
+        uncut = λ safe under. fresh-uncut st old asked f.clusters unspent.claim (covers unspent.written) f.holds.unwritten some inside f.any;
         near = λ safe under p apart. ap (λ (o : Holding). (layer_in st middle.tables middle.mode middle.number middle.failed (Some o)).held p) holds-now
-            ∙ fresh-near st middle asked f.clusters unspent.claim (covers unspent.written) f.holds.unwritten some on-disk p
+            ∙ fresh-near st middle asked f.clusters unspent.claim (covers unspent.written) f.holds.unwritten some on-disk f.any row covered p
             (subst (λ (b : ℕ). IsApart (2 ^ b) asked.offset asked.length p) (sym k.bits) apart);
         room = λ safe under done. let was = takes-disk ⊤ k safe tt in record { kept = was.kept; free = was.free; zeroes = was.zeroes };
         stops = λ safe under. k.stops safe (u.under x);
@@ -323,6 +341,15 @@ module _ (R : RattleType) (st : Ghosts R.Denot) (sd : mir.Syntax.Dict) (dd : mir
       prepares-held = subst (λ (d : Qcow2 R.Denot st). Prepares sees u asked (Ok mapping) (old, x) (d, y)) (sym f.holds.now)
           (subst (λ (m : PreparedDataMapping PreparedMappingState). Prepares sees u asked (Ok m) (old, x) (held, y)) (sym f.holds.answer) answered)
 
+-- The first guest clusters of a run are one.
+pub run-narrower : {S : Type 0} (g : Ghosts S) (asked : Asked) (d : Qcow2 S g) (n k : ℕ) → IsRun g asked n d → 0 < k → k ≤ n → IsRun g asked k d
+run-narrower g asked d n k run any few = record {
+  any = any;
+  row = let fits = run.row in omega (arith, fits, few);
+  covered = λ i behind less. run.covered i behind (omega (arith, less, few));
+  uncopied = λ seen first i less. run.uncopied seen first i (omega (arith, less, few));
+}
+
 -- What is prepared, or refused, in the words of the driver.
 module _ (R : RattleType) (st : Ghosts R.Denot) (sd : mir.Syntax.Dict) (dd : mir.Syntax.Dict) {B : Type 0} (u : GhostsBelow B) (asked : Asked)
     (old new : Qcow2 R.Denot st) (x y : B) where
@@ -330,60 +357,66 @@ module _ (R : RattleType) (st : Ghosts R.Denot) (sd : mir.Syntax.Dict) (dd : mir
   driver = ghosts R st sd dd
 
   abbrev Does : Result (PreparedDataMapping PreparedMappingState) Fault → Type 0
-  Does result = PreparesFresh st u asked (old, x) result (new, y)
+  Does result = PreparesRun st u asked (old, x) result (new, y)
 
   pub prepares-fresh : (result : Result (PreparedDataMapping PreparedMappingState) Fault)
       → claim_held (holding_in st old.unspent) ≡ None → 0 < asked.length → (IsSeen st old.tables → (layer_of st old).home asked.offset ≡ None)
       → asked.offset + asked.length ≤ old.tables.file.header.fields.size → IsTrue old.mode.writable → Does result
       → Prepares driver u asked result (old, x) (new, y)
   prepares-fresh (Ok mapping) free some nowhere inside writable p =
-      prepares-held R st sd dd old p.middle u x y asked free some inside nowhere writable p.keeps mapping new p.ok
-      (λ safe. p.leaks safe (none-unspent st old.unspent (none-held (holding_in st old.unspent) free)) tt)
+      let f = p.prepares in
+      prepares-held R st sd dd old f.middle u x y asked free some inside nowhere writable f.keeps p.n p.run mapping new f.ok
+      (λ safe. f.leaks safe (none-unspent st old.unspent (none-held (holding_in st old.unspent) free)) tt)
   prepares-fresh (Err e) free some nowhere inside writable p =
-      subst (λ (d : Qcow2 R.Denot st). Prepares driver u asked (Err e) (old, x) (d, y)) (sym p.err.0)
-      (prepares-not R st sd dd old p.middle u x y asked free some inside nowhere e p.keeps
-      (λ safe mild. subst (KeepsLeaks st old) p.err.0
-      (p.leaks safe (none-unspent st old.unspent (none-held (holding_in st old.unspent) free)) mild)) p.err.1 p.err.2)
+      let f = p.prepares in
+      subst (λ (d : Qcow2 R.Denot st). Prepares driver u asked (Err e) (old, x) (d, y)) (sym f.err.0)
+      (prepares-not R st sd dd old f.middle u x y asked free some inside nowhere e f.keeps
+      (λ safe mild. subst (KeepsLeaks st old) f.err.0
+      (f.leaks safe (none-unspent st old.unspent (none-held (holding_in st old.unspent) free)) mild)) f.err.1 f.err.2)
 
   pub fresh-size : (result : Result (PreparedDataMapping PreparedMappingState) Fault) → Does result → (layer_of st new).size ≡ (layer_of st old).size
-  fresh-size (Ok mapping) p = ap (λ (d : Qcow2 R.Denot st). d.tables.file.header.fields.size) p.ok.holds.now ∙ p.keeps.size
-  fresh-size (Err e) p = ap (λ (d : Qcow2 R.Denot st). d.tables.file.header.fields.size) p.err.0 ∙ p.keeps.size
+  fresh-size (Ok mapping) p = ap (λ (d : Qcow2 R.Denot st). d.tables.file.header.fields.size) p.prepares.ok.holds.now ∙ p.prepares.keeps.size
+  fresh-size (Err e) p = ap (λ (d : Qcow2 R.Denot st). d.tables.file.header.fields.size) p.prepares.err.0 ∙ p.prepares.keeps.size
 
   pub fresh-free : (result : Result (PreparedDataMapping PreparedMappingState) Fault) → claim_held (holding_in st old.unspent) ≡ None → Does result
       → IsErr result → IsFree (layer_of st new)
   fresh-free (Ok mapping) free p none = absurd (cc none)
-  fresh-free (Err e) free p is = ap (λ (d : Qcow2 R.Denot st). claim_held (holding_in st d.unspent)) p.err.0 ∙ ap (λ v. claim_held (holding_in st v)) p.keeps.unspent ∙ free
+  fresh-free (Err e) free p is = ap (λ (d : Qcow2 R.Denot st). claim_held (holding_in st d.unspent)) p.prepares.err.0 ∙ ap (λ v. claim_held (holding_in st v)) p.prepares.keeps.unspent ∙ free
 
   pub fresh-mine : (result : Result (PreparedDataMapping PreparedMappingState) Fault) → Does result → IfOk result (λ m. IsHeldBy driver m.state (layer_of st new))
   fresh-mine (Err e) p = tt
   fresh-mine (Ok mapping) p =
-      let f = p.ok.holds in
+      let f = p.prepares.ok.holds in
       subst (λ (d : Qcow2 R.Denot st). IsHeldBy driver mapping.state (layer_of st d)) (sym f.now)
-      (subst (λ (m : PreparedDataMapping PreparedMappingState). IsHeldBy driver m.state (layer_of st (record p.middle { claims = f.unspent.claim; unspent = Some f.unspent }))) (sym f.answer)
+      (subst (λ (m : PreparedDataMapping PreparedMappingState). IsHeldBy driver m.state (layer_of st (record p.prepares.middle { claims = f.unspent.claim; unspent = Some f.unspent }))) (sym f.answer)
       ((refl, refl), λ none. absurd (cc none)))
 
   pub fresh-run : (result : Result (PreparedDataMapping PreparedMappingState) Fault) → 0 < asked.length → asked.offset + asked.length ≤ old.tables.file.header.fields.size
       → Does result → IfOk result (λ m. IsMappedRun (layer_of st old) asked.offset asked.length m.length × (m.offset + m.length < 2 ^ 64))
   fresh-run (Err e) some inside p = tt
   fresh-run (Ok mapping) some inside p =
-      let f = p.ok.holds in
-      let run = fresh-part st old asked p.ok.clusters f.unspent.claim (covers f.unspent.written) f.unwritten some inside in
-      let place : f.unspent.place ≡ place_in p.middle.tables.file.header.fields p.ok.clusters.host asked.offset = ap (λ (o : Holding). o.place) f.holds in
-      let length : f.unspent.length ≡ first_run old.tables.file.header.fields asked.offset asked.length = ap (λ (o : Holding). o.length) f.holds in
+      let f = p.prepares.ok.holds in
+      let run = fresh-part st old asked p.prepares.ok.clusters f.unspent.claim (covers f.unspent.written) f.unwritten some inside p.prepares.ok.any in
+      let place : f.unspent.place ≡ place_in p.prepares.middle.tables.file.header.fields p.prepares.ok.clusters.host asked.offset = ap (λ (o : Holding). o.place) f.holds in
+      let length : f.unspent.length ≡ run_in old.tables.file.header.fields p.prepares.ok.clusters.count asked.offset asked.length = ap (λ (o : Holding). o.length) f.holds in
       let near = f.unspent.near in
       subst (λ (m : PreparedDataMapping PreparedMappingState). IsMappedRun (layer_of st old) asked.offset asked.length m.length × (m.offset + m.length < 2 ^ 64)) (sym f.answer)
       ((run.1, λ is. run.0, λ is. omega (arith, run.1, inside)), omega (arith, place, length, near))
 
-  -- It has state, and is the part of the range in its first guest cluster.
+  -- It has state, and is the part of the range in such a run.
   pub fresh-whole : (result : Result (PreparedDataMapping PreparedMappingState) Fault) (P : PreparedDataMapping PreparedMappingState → Type 0) → Does result
       → IfOk result (λ m. 0 < asked.length → m.state ≡ None → P m)
   fresh-whole (Err e) P p = tt
-  fresh-whole (Ok mapping) P p = λ some none. absurd (cc (sym (ap (λ (m : PreparedDataMapping PreparedMappingState). m.state) p.ok.holds.answer) ∙ none))
+  fresh-whole (Ok mapping) P p = λ some none. absurd (cc (sym (ap (λ (m : PreparedDataMapping PreparedMappingState). m.state) p.prepares.ok.holds.answer) ∙ none))
 
   pub fresh-cut : (result : Result (PreparedDataMapping PreparedMappingState) Fault) → Does result
-      → let c = cluster_size old.tables.file.header.fields in IfOk result (λ m. IsSome m.state → m.length ≡ min asked.length (c - asked.offset % c))
+      → IfOk result (λ m. IsSome m.state → IsPartOfRun st asked m.length old)
   fresh-cut (Err e) p = tt
-  fresh-cut (Ok mapping) p = λ some. ap (λ (m : PreparedDataMapping PreparedMappingState). m.length) p.ok.holds.answer
+  fresh-cut (Ok mapping) p = λ some. (
+    p.prepares.ok.clusters.count,
+    run-narrower st asked old p.n p.prepares.ok.clusters.count p.run p.prepares.ok.any p.prepares.ok.few,
+    ap (λ (m : PreparedDataMapping PreparedMappingState). m.length) p.prepares.ok.holds.answer,
+  )
 
 -- What holds of the first place holds where a limit refuses.
 pub limit-where : {T : Type 0} (result : Result T Fault) (P : Type 0) → P → IfErr result (λ e. (n : ℕ) → e ≡ Limit n → P)

@@ -1,8 +1,8 @@
 -- What reserving a cluster and holding it for a guest cluster leave of an image.
-use Rattle.std.proofs.Common.{◌≡◌, ℕ, ◌+◌, ◌-◌, ◌*◌, ◌/◌, ◌%◌, ◌^◌, ◌<◌, refl, ap, sym, subst, ◌∙◌, inl, inr, Bool, List, length, Option, Some, None, Result, Ok, Err, arith}
-use Rattle.std.specs.Prelude.{⊤, ◌⊎◌, ◌≤◌, IfErr, IfSome, IsSome, Vec, min, slice_index}
+use Rattle.std.proofs.Common.{◌≡◌, ℕ, ◌+◌, ◌-◌, ◌*◌, ◌/◌, ◌%◌, ◌^◌, ◌<◌, ◌≤◌, refl, ap, sym, subst, ◌∙◌, inl, inr, Bool, List, length, Option, Some, None, Result, Ok, Err, arith}
+use Rattle.std.specs.Prelude.{⊤, ◌⊎◌, IfErr, IfSome, IsSome, Vec, min, slice_index}
 use Rattle.std.specs.declared.alloc.Global.{Global}
-use Rattle.std.proofs.lemmas.Nat.{mod_below, pow_pos}
+use Rattle.std.proofs.lemmas.Nat.{div-add-mod', div-mul-add, mod_below, pow_pos}
 use Rattle.imago_storage.specs.State.{Rose}
 use Rattle.imago_storage.specs.Disk.{Value, barred, damaged_place}
 use Rattle.imago_storage.specs.Calls.{Cause}
@@ -15,8 +15,8 @@ use Rattle.imago_access.specs.Files.{IsMild, WasNotCutOff}
 use Rattle.imago_access.specs.Layer.{Layer, through}
 use Rattle.imago_access.specs.declared.mapping.PreparedDataMapping.{PreparedDataMapping}
 use Rattle.imago_access.specs.declared.seen.SeenBelow.{Ghosts as GhostsBelow}
-use Rattle.imago_access.proofs.Looking.{looked_under_weaker}
-use Rattle.qcow2_types.specs.Bytes.{bytes_of}
+use Rattle.imago_access.proofs.Looking.{looked_under_same, looked_under_weaker}
+use Rattle.qcow2_types.specs.Bytes.{Bytes, bytes_of}
 use Rattle.qcow2_types.specs.Entries.{entry, l2_table}
 use Rattle.qcow2_types.specs.Header.{Fields, Header, cluster_size, words_of_cluster}
 use Rattle.qcow2_types.specs.Words.{damaged, is_copied}
@@ -25,25 +25,28 @@ use Rattle.qcow2_metadata.specs.Tables.{TableValue}
 use Rattle.qcow2_alloc.specs.Crowding.{space}
 use Rattle.qcow2_image.specs.Allocating.{EnsuresTable, HasKept, HasOwnTable, LoadsSpace, PlacesContent, TellsKept, WhyNotAllocated, WhyNotReserved, failed_cut, kept_by, kept_for}
 use Rattle.qcow2_image.specs.Filling.{IsInFirst, IsLeft, IsNeededFor, MakesContent, NeedsShown, RefusesCopy, WhyNotCopied}
-use Rattle.qcow2_image.specs.FreeSpace.{HasFreeRun, HasNoPlace, IsForTable, LacksFreeRun, LacksTable, enough_for_one, enough_for_table}
-use Rattle.qcow2_image.specs.Holding.{place_in}
+use Rattle.qcow2_alloc.specs.Quiet.{Metadata}
+use Rattle.qcow2_clusters.specs.Naming.{IsUnder}
+use Rattle.qcow2_image.specs.FreeSpace.{HasFreeRun, HasNoPlace, IsForTable, LacksFreeRun, LacksTable, enough_for_run, enough_for_table}
+use Rattle.qcow2_image.specs.Holding.{IsUncopied, place_in}
 use Rattle.qcow2_image.specs.KeepsDisk.{KeepsDisk, KeepsDiskWhere}
-use Rattle.qcow2_image.specs.Preparing.{HoldsFresh, IsReservedFor, KeepsMapping, LacksPlace, LacksPlaceBeside, LeavesMarked, PreparesFresh, Reserves, first_part}
+use Rattle.qcow2_image.specs.Preparing.{FindsRun, HoldsFresh, IsCovered, IsReservedFor, IsRun, KeepsMapping, LacksPlace, LacksPlaceBeside, LeavesMarked, PreparesFresh, PreparesRun, Reserves, first_part, run_part}
 use Rattle.qcow2_image.specs.Leaking.{KeepsLeaks, reserved_as}
 use Rattle.qcow2_image.specs.Looking.{WhyNotLooked}
-use Rattle.qcow2_image.specs.Rooms.{IsSafe}
+use Rattle.qcow2_image.specs.Rooms.{IsSafe, rest_of}
 use Rattle.qcow2_image.specs.Seen.{IsSeen, file_of, layer_of}
 use Rattle.qcow2_image.specs.Steps.{KeepsImage}
+use Rattle.qcow2_image.specs.declared.allocating.Placed.{Placed}
 use Rattle.qcow2_image.specs.declared.mappings.Reserved.{Reserved}
 use Rattle.qcow2_image.specs.declared.qcow2.PreparedMappingState.{PreparedMappingState}
 use Rattle.qcow2_image.specs.declared.qcow2.Qcow2.{Qcow2}
 use Rattle.qcow2_image.specs.declared.tables.Tables.{Tables}
 use Rattle.qcow2_image.proofs.FileWords.{top-word}
-use Rattle.qcow2_image.proofs.FreeRuns.{asked-as, full-behind, full-more, full-since, lacks-as-file, lacks-as-words, quarter-enough, quarter-some, run-fewer, run-same, safe-short, some-enough}
+use Rattle.qcow2_image.proofs.FreeRuns.{asked-as, full-behind, full-more, full-since, lacks-as-file, lacks-as-words, quarter-enough, quarter-some, run-enough, run-fewer, run-same, safe-short, words-some}
 use Rattle.qcow2_image.proofs.KeepingDisks.{keeps-disk-both, keeps-disk-same, keeps-disk-then, keeps-image-disk}
 use Rattle.qcow2_image.proofs.KeptClusters.{kept-behind}
 use Rattle.qcow2_image.proofs.Leaks.{leaks-all, leaks-both, leaks-but, leaks-held, leaks-then}
-use Rattle.qcow2_image.proofs.Preparing.{never-damaged}
+use Rattle.qcow2_image.proofs.Preparations.Preparing.{never-damaged}
 use Rattle.qcow2_image.proofs.Steps.{keeps-as, keeps-both}
 use Rattle.qcow2_image.proofs.KeptLeaks.{leaks-kept}
 
@@ -155,31 +158,32 @@ module _ {S : Type 0} (g : Ghosts S) where
     inl what,
     inr (
       near,
-      (let enough = quarter-enough g mid guest safe near in
+      (let enough = quarter-enough g mid guest 1 safe (words-some g mid safe) near in
           full-more g asked (enough_for_table mid.tables guest) (space mid.tables.file.header.fields / 4) number mid.tables new.tables
           (omega (arith, enough)) full),
     ),
   )
 
-  lacks-cluster : (guest table : ℕ) (kept : Option ℕ) (number : ℕ) (first mid new : Qcow2 S g) → IsSafe g first → IsSafe g mid
-      → IsSome first.tables.space → EnsuresTable g (enough_for_table first.tables guest) guest first (Ok table) mid → kept ≡ None
-      → LacksFreeRun g 1 (enough_for_one mid.tables) mid.tables new.tables number
+  lacks-cluster : (guest table : ℕ) (kept : Option ℕ) (n number : ℕ) (first mid new : Qcow2 S g) → IsSafe g first → IsSafe g mid
+      → IsSome first.tables.space → n ≤ words_of_cluster first.tables.file.header.fields
+      → EnsuresTable g (enough_for_table first.tables guest) guest first (Ok table) mid → kept ≡ None
+      → LacksFreeRun g 1 (enough_for_run mid.tables n) mid.tables new.tables number
       → LacksPlaceBeside g guest kept first.tables new.tables number
-  lacks-cluster guest table kept number first mid new safe safe' some t none full =
+  lacks-cluster guest table kept n number first mid new safe safe' some few t none full =
       let row : guest / words_of_cluster mid.tables.file.header.fields ≡ guest / words_of_cluster first.tables.file.header.fields =
       ap (λ (b : ℕ). guest / (2 ^ b / 8)) t.keeps.bits in
       let near = subst (λ k. k + 1 ≤ 2 ^ 22) row (safe-short g mid (guest / words_of_cluster mid.tables.file.header.fields) safe' (t.there safe some).1) in
       let leaves = t.leaves safe in
-      let one : enough_for_one mid.tables ≡ enough_for_one first.tables = ap (λ n. n / 16 + 3 * 1) leaves.as_large in
-      let enough = quarter-enough g first guest safe near in (
+      let same : enough_for_run mid.tables n ≡ enough_for_run first.tables n = ap (λ k. k / 16 + 3 * n) leaves.as_large in
+      let enough = quarter-enough g first guest n safe few near in (
         1,
         inr (none, refl),
         inr (
           near,
-          full-more g 1 (enough_for_table first.tables guest + enough_for_one first.tables) (space first.tables.file.header.fields / 4) number
+          full-more g 1 (enough_for_table first.tables guest + enough_for_run first.tables n) (space first.tables.file.header.fields / 4) number
               first.tables new.tables enough
-              (full-behind g 1 (enough_for_table first.tables guest) (enough_for_one first.tables) number first.tables mid.tables new.tables
-              (some-enough first.tables) leaves (subst (λ n. LacksFreeRun g 1 n mid.tables new.tables number) one full)),
+              (full-behind g 1 (enough_for_table first.tables guest) (enough_for_run first.tables n) number first.tables mid.tables new.tables
+              (run-enough g first n safe) leaves (subst (λ k. LacksFreeRun g 1 k mid.tables new.tables number) same full)),
         ),
       )
 
@@ -200,13 +204,14 @@ module _ {S : Type 0} (g : Ghosts S) where
   which-host host (Some x) P is = is.0
 
   -- Reserving a cluster is refused where the free space isn't known,
-  pub reserve-unloaded : (guest : ℕ) (kept : Option ℕ) (bytes : List ℕ) (old new : Qcow2 S g) (e : Fault) → LoadsSpace g old (Err e) new
-      → Reserves g guest kept bytes old (Err e) new
-  reserve-unloaded guest kept bytes old new e l = record {
+  pub reserve-unloaded : (guest : ℕ) (kept : Option ℕ) (n : ℕ) (bytes : List ℕ) (old new : Qcow2 S g) (e : Fault) → LoadsSpace g old (Err e) new
+      → Reserves g guest kept n bytes old (Err e) new
+  reserve-unloaded guest kept n bytes old new e l = record {
     keeps = keeps-known (IsMild e) guest kept old new l.keeps;
     leaks = λ known whole. leaks-but g old new l.leaks;
     marked = quiet-marked {T = Unit} old new e l.same;
     near = tt;
+    many = tt;
     which = tt;
     reserved = λ known. tt;
     own = λ known. tt;
@@ -215,13 +220,14 @@ module _ {S : Type 0} (g : Ghosts S) where
   }
 
   -- where there is no table,
-  pub reserve-tableless : (guest : ℕ) (kept : Option ℕ) (bytes : List ℕ) (old mid new : Qcow2 S g) (e : Fault) → LoadsSpace g old (Ok tt) mid
-      → EnsuresTable g (enough_for_table mid.tables guest) guest mid (Err e) new → Reserves g guest kept bytes old (Err e) new
-  reserve-tableless guest kept bytes old mid new e l t = record {
+  pub reserve-tableless : (guest : ℕ) (kept : Option ℕ) (n : ℕ) (bytes : List ℕ) (old mid new : Qcow2 S g) (e : Fault) → LoadsSpace g old (Ok tt) mid
+      → EnsuresTable g (enough_for_table mid.tables guest) guest mid (Err e) new → Reserves g guest kept n bytes old (Err e) new
+  reserve-tableless guest kept n bytes old mid new e l t = record {
     keeps = keeps-known (IsMild e) guest kept old new (keeps-disk-both g ⊤ (IsMild e) old mid new tt l.keeps t.keeps);
     leaks = λ known whole. leaks-but g old new (leaks-both g old mid new l.leaks (t.leaks (l.keeps.safely known.safe tt) whole));
     marked = cut-marked old new e mid.failed t.marks;
     near = tt;
+    many = tt;
     which = tt;
     reserved = λ known. tt;
     own = λ known. tt;
@@ -237,27 +243,30 @@ module _ {S : Type 0} (g : Ghosts S) where
   }
 
   -- and where the bytes aren't put anywhere.
-  pub reserve-unplaced : (guest table : ℕ) (kept : Option ℕ) (bytes : List ℕ) (old first mid new : Qcow2 S g) (e : Fault)
+  pub reserve-unplaced : (guest table : ℕ) (kept : Option ℕ) (n : ℕ) (bytes : List ℕ) (old first mid new : Qcow2 S g) (e : Fault)
+      → n ≤ words_of_cluster old.tables.file.header.fields
       → LoadsSpace g old (Ok tt) first → EnsuresTable g (enough_for_table first.tables guest) guest first (Ok table) mid
-      → PlacesContent g guest kept bytes mid (Err e) new
-      → Reserves g guest kept bytes old (Err e) new
-  reserve-unplaced guest table kept bytes old first mid new e l t s =
+      → PlacesContent g guest kept n bytes mid (Err e) new
+      → Reserves g guest kept n bytes old (Err e) new
+  reserve-unplaced guest table kept n bytes old first mid new e few l t s =
       let there = keeps-disk-both g ⊤ ⊤ old first mid tt l.keeps t.keeps in record {
         keeps = keeps-then (IsMild e) guest kept old mid new there s.keeps;
         leaks = λ known whole. leaks-then g (λ c. 0) old mid new (leaks-both g old first mid l.leaks (t.leaks (l.keeps.safely known.safe tt) tt))
             (s.leaks (kept-behind g guest kept old mid there known) whole);
         marked = cut-marked old new e mid.failed s.marks;
         near = tt;
+        many = tt;
         which = tt;
         reserved = λ known. tt;
         own = λ known. tt;
         stored = λ known. tt;
-        cause = why-allocated (λ number. (kept ≡ None) × LacksFreeRun g 1 (enough_for_one mid.tables) mid.tables new.tables number)
+        cause = why-allocated (λ number. (kept ≡ None) × LacksFreeRun g 1 (enough_for_run mid.tables n) mid.tables new.tables number)
             (LacksPlaceBeside g guest kept old.tables new.tables) old mid new e there (t.known l.known)
             (λ number safe full.
             let safe' = l.keeps.safely safe tt in
             lacks-loaded guest kept number old first new l safe safe'
-            (lacks-cluster guest table kept number first mid new safe' (there.safely safe tt) l.known t full.0 full.1))
+            (lacks-cluster guest table kept n number first mid new safe' (there.safely safe tt) l.known
+            (subst (λ (b : ℕ). n ≤ 2 ^ b / 8) (sym l.keeps.bits) few) t full.0 full.1))
             s.cause;
       }
 
@@ -279,21 +288,36 @@ module _ {S : Type 0} (g : Ghosts S) where
       ∙ top-word (file_of g mid.tables) h mid.tables.l1 safe.seen.l1 (guest / words_of_cluster h) inside)
       ∙ own
 
-  -- Else the guest cluster has it.
-  pub reserve-done : (guest table host : ℕ) (is_kept : Bool) (kept : Option ℕ) (bytes : List ℕ) (old first mid new : Qcow2 S g)
+  -- Guest clusters in a row that stand in one table have it.
+  under-row : (m : Metadata) (table guest n : ℕ) → guest % words_of_cluster m.header.fields + n ≤ words_of_cluster m.header.fields
+      → IsUnder m table guest → (i : ℕ) → i < n → IsUnder m table (guest + i)
+  under-row m table guest n fits under i less =
+      let w : ℕ = words_of_cluster m.header.fields in
+      let parts : guest + i ≡ guest / w * w + (guest % w + i) = (let whole = div-add-mod' guest w in omega (arith, whole)) in
+      let row : (guest + i) / w ≡ guest / w = ap (λ x. x / w) parts ∙ div-mul-add (guest / w) w (guest % w + i) (omega (arith, fits, less)) in
+      record {
+        inside = rw row under.inside;
+        there = rw row under.there;
+        some = under.some;
+      }
+
+  -- Else the guest clusters have them.
+  pub reserve-done : (guest table : ℕ) (r : Placed) (kept : Option ℕ) (n : ℕ) (bytes : List ℕ) (old first mid new : Qcow2 S g)
+      → guest % words_of_cluster old.tables.file.header.fields + n ≤ words_of_cluster old.tables.file.header.fields
       → LoadsSpace g old (Ok tt) first → EnsuresTable g (enough_for_table first.tables guest) guest first (Ok table) mid
-      → PlacesContent g guest kept bytes mid (Ok (host, is_kept)) new
-      → Reserves g guest kept bytes old (Ok (record { table = table; host = host; is_kept = is_kept })) new
-  reserve-done guest table host is_kept kept bytes old first mid new l t s =
+      → PlacesContent g guest kept n bytes mid (Ok r) new
+      → Reserves g guest kept n bytes old (Ok (record { table = table; host = r.host; count = r.count; is_kept = r.is_kept })) new
+  reserve-done guest table r kept n bytes old first mid new fits l t s =
       let there = keeps-disk-both g ⊤ ⊤ old first mid tt l.keeps t.keeps in
       let all = keeps-then ⊤ guest kept old mid new there s.keeps in record {
         keeps = all;
-        leaks = λ known whole. leaks-then g (reserved_as is_kept host) old mid new
+        leaks = λ known whole. leaks-then g (reserved_as r.is_kept r.host r.count) old mid new
             (leaks-both g old first mid l.leaks (t.leaks (l.keeps.safely known.safe tt) tt))
             (s.leaks (kept-behind g guest kept old mid there known) tt);
         marked = tt;
-        near = subst (λ (b : ℕ). IsInReach b host) there.bits s.near;
-        which = (s.which.0, which-host host kept (new.tables.space ≡ mid.tables.space) s.which.1);
+        many = s.many;
+        near = subst (λ (b : ℕ). IsInReach b (r.host + (r.count - 1))) there.bits s.near;
+        which = (s.which.0, which-host r.host kept (new.tables.space ≡ mid.tables.space) s.which.1);
         reserved = λ known.
             let safe' = l.keeps.safely known.safe tt in
             let made = t.there safe' l.known in
@@ -304,14 +328,15 @@ module _ {S : Type 0} (g : Ghosts S) where
             record {
               space = own.0;
               there = own.1;
-              under = record {
-                inside = subst (λ (n : ℕ). n < new.tables.file.header.fields.l1_entries) (sym row)
-                    (subst (λ (n : ℕ). guest / words_of_cluster mid.tables.file.header.fields < n) (sym s.top.entries) made.1);
-                there = s.top.tables (known', tt) (guest / words_of_cluster new.tables.file.header.fields)
-                    ∙ ap (λ (n : ℕ). l2_table (file_of g mid.tables) mid.tables.file.header.fields n) row ∙ made.2
-                    ∙ ap (λ (b : ℕ). table * 2 ^ b) (sym s.keeps.bits);
-                some = made.0;
-              };
+              under = under-row (rest_of g new.tables own.0) table guest r.count
+                  (subst (λ (b : ℕ). guest % (2 ^ b / 8) + r.count ≤ 2 ^ b / 8) (sym all.bits) (let few = s.many.1 in omega (arith, fits, few))) (record {
+                    inside = subst (λ (n : ℕ). n < new.tables.file.header.fields.l1_entries) (sym row)
+                        (subst (λ (n : ℕ). guest / words_of_cluster mid.tables.file.header.fields < n) (sym s.top.entries) made.1);
+                    there = s.top.tables (known', tt) (guest / words_of_cluster new.tables.file.header.fields)
+                        ∙ ap (λ (n : ℕ). l2_table (file_of g mid.tables) mid.tables.file.header.fields n) row ∙ made.2
+                        ∙ ap (λ (b : ℕ). table * 2 ^ b) (sym s.keeps.bits);
+                    some = made.0;
+                  });
               some = own.2;
               own = own.3;
               room = own.4;
@@ -319,14 +344,14 @@ module _ {S : Type 0} (g : Ghosts S) where
         own = λ known. own-still guest mid new (there.safely known.safe tt) (all.safely known tt) s.top.l1 s.keeps.bits s.top.entries
             (t.there (l.keeps.safely known.safe tt) l.known).1 (t.own (l.keeps.safely known.safe tt) l.known);
         stored = λ known i less.
-            ap (λ (b : ℕ). file_of g new.tables (host * 2 ^ b + i)) (sym there.bits) ∙ s.content (kept-behind g guest kept old mid there known) i less;
+            ap (λ (b : ℕ). file_of g new.tables (r.host * 2 ^ b + i)) (sym there.bits) ∙ s.content (kept-behind g guest kept old mid there known) i less;
         cause = tt;
       }
 
   -- A mapping isn't prepared where there is no content for it,
-  pub fresh-unfilled : {B : Type 0} (u : GhostsBelow B) (asked : Asked) (old new : Qcow2 S g × B) (e : Fault)
-      → MakesContent g u (first_part old.0.tables.file.header.fields asked) old (Err e) new → PreparesFresh g u asked old (Err e) new
-  fresh-unfilled u asked old new e m = record {
+  pub fresh-unfilled : {B : Type 0} (u : GhostsBelow B) (asked : Asked) (n : ℕ) (old new : Qcow2 S g × B) (e : Fault)
+      → MakesContent g u (first_part old.0.tables.file.header.fields asked) old (Err e) new → PreparesFresh g u asked n old (Err e) new
+  fresh-unfilled u asked n old new e m = record {
     middle = new.0;
     keeps = keeps-image-disk {T = Vec ℕ Global} g old.0 new.0 (Err e) m.keeps;
     leaks = λ safe free whole. leaks-kept g {T = Vec ℕ Global} old.0 new.0 (Err e) m.keeps;
@@ -350,13 +375,13 @@ module _ {S : Type 0} (g : Ghosts S) where
   why-unkept full old new guest DamagedTable known why = λ safe. never-damaged (file_of g old.tables) old.tables.file.header safe.consistent guest (known safe.seen)
   why-unkept full old new guest e known why = absurd why
 
-  module _ {B : Type 0} (u : GhostsBelow B) (asked : Asked) (guest : ℕ) (content : Vec ℕ Global) (old : Qcow2 S g × B) (first : Qcow2 S g) (y : B)
+  module _ {B : Type 0} (u : GhostsBelow B) (asked : Asked) (guest n : ℕ) (content : Vec ℕ Global) (old : Qcow2 S g × B) (first : Qcow2 S g) (y : B)
       (m : MakesContent g u (first_part old.0.tables.file.header.fields asked) old (Ok content) (first, y)) where
     made : KeepsDisk g ⊤ old.0 first
     made = keeps-image-disk {T = Vec ℕ Global} g old.0 first (Ok content) m.keeps
 
     -- where it isn't known what the guest cluster keeps,
-    pub fresh-untold : (new : Qcow2 S g) (e : Fault) → TellsKept g guest first (Err e) new → PreparesFresh g u asked old (Err e) (new, y)
+    pub fresh-untold : (new : Qcow2 S g) (e : Fault) → TellsKept g guest first (Err e) new → PreparesFresh g u asked n old (Err e) (new, y)
     fresh-untold new e t = record {
       middle = new;
       keeps = keeps-disk-both g ⊤ (IsMild e) old.0 first new tt made (keeps-image-disk {T = Option ℕ} g first new (Err e) t.keeps);
@@ -372,7 +397,7 @@ module _ {S : Type 0} (g : Ghosts S) where
       );
     }
 
-  module _ {B : Type 0} (u : GhostsBelow B) (asked : Asked) (guest : ℕ) (content : Vec ℕ Global) (old : Qcow2 S g × B) (first : Qcow2 S g) (y : B)
+  module _ {B : Type 0} (u : GhostsBelow B) (asked : Asked) (guest n : ℕ) (content : Vec ℕ Global) (old : Qcow2 S g × B) (first : Qcow2 S g) (y : B)
       (m : MakesContent g u (first_part old.0.tables.file.header.fields asked) old (Ok content) (first, y))
       (kept : Option ℕ) (mid : Qcow2 S g) (t : TellsKept g guest first (Ok kept) mid) where
     abbrev h : Fields
@@ -382,11 +407,11 @@ module _ {S : Type 0} (g : Ghosts S) where
     told = keeps-image-disk {T = Option ℕ} g first mid (Ok kept) t.keeps
 
     looked : KeepsDisk g ⊤ old.0 mid
-    looked = keeps-disk-both g ⊤ ⊤ old.0 first mid tt (made u asked guest content old first y m) told
+    looked = keeps-disk-both g ⊤ ⊤ old.0 first mid tt (made u asked guest n content old first y m) told
 
     known-there : IsSafe g old.0 → HasKept g guest kept mid
     known-there safe =
-        let there = (made u asked guest content old first y m).safely safe tt in
+        let there = (made u asked guest n content old first y m).safely safe tt in
         record { safe = looked.safely safe tt; is = t.kept there.seen ∙ ap kept_by (sym (told.words there tt guest)) }
 
     kept-before : IsSafe g old.0 → kept ≡ kept_for g guest old.0.tables
@@ -401,7 +426,7 @@ module _ {S : Type 0} (g : Ghosts S) where
         keeps-disk-then g (IsSafe g old.0) (IsSafe g old.0) (HasKept g guest kept mid) ⊤ ok old.0 mid new tt (λ safe. safe) known-there looked k
 
     -- and where no cluster is reserved.
-    pub fresh-unreserved : (is : guest ≡ asked.offset / cluster_size h) (new : Qcow2 S g) (e : Fault) → Reserves g guest kept content.items mid (Err e) new → PreparesFresh g u asked old (Err e) (new, y)
+    pub fresh-unreserved : (is : guest ≡ asked.offset / cluster_size h) (new : Qcow2 S g) (e : Fault) → Reserves g guest kept n content.items mid (Err e) new → PreparesFresh g u asked n old (Err e) (new, y)
     fresh-unreserved is new e r = record {
       middle = new;
       keeps = keeps-reserved (IsMild e) new r.keeps;
@@ -416,13 +441,14 @@ module _ {S : Type 0} (g : Ghosts S) where
             (λ number safe lacks. subst (λ k. LacksPlace g k old.0.tables new.tables number) is
             (subst (λ o. LacksPlaceBeside g guest o old.0.tables new.tables number) (kept-before safe)
             (lacks-looked {T = Vec ℕ Global} content guest kept number old.0 first new.tables m.keeps
-            ((made u asked guest content old first y m).safely safe tt)
+            ((made u asked guest n content old first y m).safely safe tt)
             (lacks-looked {T = Option ℕ} kept guest kept number first mid new.tables t.keeps (looked.safely safe tt) lacks)))) r.cause),
       );
     }
 
     -- Else it is prepared.
-    module _ (is : guest ≡ asked.offset / cluster_size h) (clusters : Reserved) (middle : Qcow2 S g) (r : Reserves g guest kept content.items mid (Ok clusters) middle) where
+    module _ (is : guest ≡ asked.offset / cluster_size h) (any : 0 < n) (clusters : Reserved) (middle : Qcow2 S g)
+        (r : Reserves g guest kept n content.items mid (Ok clusters) middle) where
       bits : mid.tables.file.header.fields.cluster_bits ≡ h.cluster_bits
       bits = looked.bits
 
@@ -435,19 +461,21 @@ module _ {S : Type 0} (g : Ghosts S) where
           ap (λ (b : ℕ). file_of g middle.tables (clusters.host * 2 ^ b + p % cluster_size h)) (sym bits)
           ∙ r.stored (known-there safe) (p % cluster_size h) inside
 
-      pub fresh-done : (mapping : PreparedDataMapping PreparedMappingState) (new : Qcow2 S g) → KeepsMapping g (first_part h asked) clusters middle mapping new
-          → PreparesFresh g u asked old (Ok mapping) (new, y)
+      pub fresh-done : (mapping : PreparedDataMapping PreparedMappingState) (new : Qcow2 S g)
+          → KeepsMapping g (run_part h clusters.count asked) clusters middle mapping new → PreparesFresh g u asked n old (Ok mapping) (new, y)
       fresh-done mapping new holds = record {
         middle = middle;
         keeps = keeps-reserved ⊤ middle r.keeps;
-        leaks = λ safe free whole. leaks-held g (first_part h asked) clusters old.0 middle new mapping
-            (leaks-then g (reserved_as clusters.is_kept clusters.host) old.0 mid middle looked-leaks (r.leaks (known-there safe) tt)) holds
+        leaks = λ safe free whole. leaks-held g (run_part h clusters.count asked) clusters old.0 middle new mapping
+            (leaks-then g (reserved_as clusters.is_kept clusters.host clusters.count) old.0 mid middle looked-leaks (r.leaks (known-there safe) tt)) holds
             (r.keeps.unspent ∙ looked.unspent ∙ free);
         below = m.below;
         ok = record {
           clusters = clusters;
           holds = holds;
-          near = subst (λ (b : ℕ). IsInReach b clusters.host) bits r.near;
+          any = r.many.0;
+          few = r.many.1;
+          near = subst (λ (b : ℕ). IsInReach b (clusters.host + (clusters.count - 1))) bits r.near;
           reserved = λ safe. subst (λ (n : ℕ). IsReservedFor g n clusters middle.tables) is (r.reserved (known-there safe));
           filled = λ safe under p first left. subst (λ (b : ℕ). IsCopied (at (u.under old.1)) (layer_of g old.0) p b) (sym (stored safe p))
               (m.ok.shows safe under p first left);
@@ -456,7 +484,7 @@ module _ {S : Type 0} (g : Ghosts S) where
       }
 
   -- Behind a call that only looks it is prepared from there.
-  module _ {T B : Type 0} (u : GhostsBelow B) (asked : Asked) (old mid : Qcow2 S g) (x : B) (v : T) (k : KeepsImage g old (Ok v) mid) where
+  module _ {T B : Type 0} (u : GhostsBelow B) (asked : Asked) (n : ℕ) (old mid : Qcow2 S g) (x : B) (v : T) (k : KeepsImage g old (Ok v) mid) where
     abbrev was : Fields
     was = old.tables.file.header.fields
 
@@ -469,12 +497,14 @@ module _ {S : Type 0} (g : Ghosts S) where
     looked-on : KeepsDisk g ⊤ old mid
     looked-on = keeps-image-disk {T = T} g old mid (Ok v) k
 
-    holds-behind : (middle new : Qcow2 S g) (mapping : PreparedDataMapping PreparedMappingState) → HoldsFresh g u asked (mid, x) middle mapping new
-        → HoldsFresh g u asked (old, x) middle mapping new
+    holds-behind : (middle new : Qcow2 S g) (mapping : PreparedDataMapping PreparedMappingState) → HoldsFresh g u asked n (mid, x) middle mapping new
+        → HoldsFresh g u asked n (old, x) middle mapping new
     holds-behind middle new mapping f = record {
       clusters = f.clusters;
-      holds = subst (λ (h : Fields). KeepsMapping g (first_part h asked) f.clusters middle mapping new) fields f.holds;
-      near = subst (λ (h : Fields). IsInReach h.cluster_bits f.clusters.host) fields f.near;
+      any = f.any;
+      few = f.few;
+      holds = subst (λ (h : Fields). KeepsMapping g (run_part h f.clusters.count asked) f.clusters middle mapping new) fields f.holds;
+      near = subst (λ (h : Fields). IsInReach h.cluster_bits (f.clusters.host + (f.clusters.count - 1))) fields f.near;
       reserved = λ safe. subst (λ (h : Fields). IsReservedFor g (asked.offset / cluster_size h) f.clusters middle.tables) fields
           (f.reserved (looked-on.safely safe tt));
       filled = λ safe under. subst (λ (l : Layer). (p : ℕ) → IsInFirst was asked p → IsLeft (first_part was asked) p
@@ -504,7 +534,7 @@ module _ {S : Type 0} (g : Ghosts S) where
         }
 
     leaks-behind : (result : Result (PreparedDataMapping PreparedMappingState) Fault) (new : Qcow2 S g) (y : B)
-        → PreparesFresh g u asked (mid, x) result (new, y) → IsSafe g old → old.unspent ≡ None → WasNotCutOff result → KeepsLeaks g old new
+        → PreparesFresh g u asked n (mid, x) result (new, y) → IsSafe g old → old.unspent ≡ None → WasNotCutOff result → KeepsLeaks g old new
     leaks-behind result new y p safe free whole = leaks-both g old mid new (leaks-kept g {T = T} old mid (Ok v) k)
         (p.leaks (looked-on.safely safe tt) (k.unspent ∙ free) whole)
 
@@ -516,7 +546,7 @@ module _ {S : Type 0} (g : Ghosts S) where
         (lacks-looked {T = T} v guest (kept_for g guest mid.tables) number old mid new k (looked-on.safely safe tt) lacks)
 
     pub fresh-behind : (result : Result (PreparedDataMapping PreparedMappingState) Fault) (new : Qcow2 S g) (y : B)
-        → PreparesFresh g u asked (mid, x) result (new, y) → PreparesFresh g u asked (old, x) result (new, y)
+        → PreparesFresh g u asked n (mid, x) result (new, y) → PreparesFresh g u asked n (old, x) result (new, y)
     fresh-behind (Ok mapping) new y p = record {
       middle = p.middle;
       keeps = keeps-disk-both g ⊤ ⊤ old mid p.middle tt looked-on p.keeps;
@@ -545,15 +575,70 @@ module _ {S : Type 0} (g : Ghosts S) where
     }
 
   -- There was no place for the first guest cluster of a range where that is refused with a limit.
-  pub fresh-lacks : {B : Type 0} (u : GhostsBelow B) (asked : Asked) (old new : Qcow2 S g) (x y : B)
-      (result : Result (PreparedDataMapping PreparedMappingState) Fault) → PreparesFresh g u asked (old, x) result (new, y) → IsSafe g old → u.sees_under x
-      → IfErr result (λ e. (n : ℕ) → e ≡ Limit n
-      → LacksPlace g (asked.offset / cluster_size old.tables.file.header.fields) old.tables new.tables n)
-  fresh-lacks u asked old new x y (Ok mapping) p safe under = tt
-  fresh-lacks u asked old new x y (Err e) p safe under = λ n same. elim p.err.2 [
+  pub fresh-lacks : {B : Type 0} (u : GhostsBelow B) (asked : Asked) (n : ℕ) (old new : Qcow2 S g) (x y : B)
+      (result : Result (PreparedDataMapping PreparedMappingState) Fault) → PreparesFresh g u asked n (old, x) result (new, y) → IsSafe g old
+      → u.sees_under x → IfErr result (λ e. (number : ℕ) → e ≡ Limit number
+      → LacksPlace g (asked.offset / cluster_size old.tables.file.header.fields) old.tables new.tables number)
+  fresh-lacks u asked n old new x y (Ok mapping) p safe under = tt
+  fresh-lacks u asked n old new x y (Err e) p safe under = λ number same. elim p.err.2 [
     | inl own ↦
-        let lacks : LacksPlace g (asked.offset / cluster_size old.tables.file.header.fields) old.tables p.middle.tables n =
+        let lacks : LacksPlace g (asked.offset / cluster_size old.tables.file.header.fields) old.tables p.middle.tables number =
         subst (λ (f : Fault). WhyNotReserved g (LacksPlace g (asked.offset / cluster_size old.tables.file.header.fields) old.tables p.middle.tables) old p.middle f) same own safe in
-        subst (λ (d : Qcow2 S g). LacksPlace g (asked.offset / cluster_size old.tables.file.header.fields) old.tables d.tables n) (sym p.err.0) lacks
+        subst (λ (d : Qcow2 S g). LacksPlace g (asked.offset / cluster_size old.tables.file.header.fields) old.tables d.tables number) (sym p.err.0) lacks
     | inr below ↦ absurd (subst (λ (f : Fault). WhyNotCopied g u (first_part old.tables.file.header.fields asked) (old, x) y f) same (below.cause safe under))
   ]
+
+  -- A run that a call finds which only looks is one of the image before it.
+  module _ {T B : Type 0} (u : GhostsBelow B) (asked : Asked) (old mid : Qcow2 S g) (x : B) (v : T) (k : KeepsImage g old (Ok v) mid) where
+    run-behind : (n : ℕ) → IsRun g asked n mid → IsRun g asked n old
+    run-behind n run =
+        let same : mid.tables.file.header.fields ≡ old.tables.file.header.fields = ap (λ (H : Header). H.fields) k.tables.header in
+        let bytes : file_of g mid.tables ≡ file_of g old.tables = ap bytes_of k.tables.kept.bytes in record {
+          any = run.any;
+          row = subst (λ (h : Fields). asked.offset / cluster_size h % words_of_cluster h + n ≤ words_of_cluster h) same run.row;
+          covered = subst (λ (h : Fields). (i : ℕ) → 0 < i → i < n → IsCovered h asked (asked.offset / cluster_size h + i)) same run.covered;
+          uncopied = λ seen. subst (λ (h : Fields). IsUncopied (entry (file_of g old.tables) h (asked.offset / cluster_size h))
+              → (i : ℕ) → i < n → IsUncopied (entry (file_of g old.tables) h (asked.offset / cluster_size h + i))) same
+              (subst (λ (b : Bytes). IsUncopied (entry b mid.tables.file.header.fields (asked.offset / cluster_size mid.tables.file.header.fields))
+              → (i : ℕ) → i < n → IsUncopied (entry b mid.tables.file.header.fields (asked.offset / cluster_size mid.tables.file.header.fields + i))) bytes
+              (run.uncopied (k.tables.seen seen)));
+        }
+
+    pub prepared-behind : (result : Result (PreparedDataMapping PreparedMappingState) Fault) (new : Qcow2 S g) (y : B)
+        → PreparesRun g u asked (mid, x) result (new, y) → PreparesRun g u asked (old, x) result (new, y)
+    prepared-behind result new y p = record {
+      n = p.n;
+      run = run-behind p.n p.run;
+      prepares = fresh-behind {T = T} u asked p.n old mid x v k result new y p.prepares;
+    }
+
+  -- One is prepared that was found,
+  pub run-prepared : {B : Type 0} (u : GhostsBelow B) (asked : Asked) (n : ℕ) (old mid : Qcow2 S g) (x : B) → FindsRun g asked old (Ok n) mid
+      → (result : Result (PreparedDataMapping PreparedMappingState) Fault) (new : Qcow2 S g) (y : B)
+      → PreparesFresh g u asked n (mid, x) result (new, y) → PreparesRun g u asked (old, x) result (new, y)
+  run-prepared u asked n old mid x found result new y p = record {
+    n = n;
+    run = found.ok;
+    prepares = fresh-behind {T = ℕ} u asked n old mid x n found.keeps result new y p;
+  }
+
+  -- or none is.
+  pub run-unfound : {B : Type 0} (u : GhostsBelow B) (asked : Asked) (old new : Qcow2 S g) (x : B) (e : Fault) → FindsRun g asked old (Err e) new
+      → PreparesRun g u asked (old, x) (Err e) (new, x)
+  run-unfound u asked old new x e found = record {
+    n = 1;
+    run = found.one;
+    prepares = record {
+      middle = new;
+      keeps = keeps-image-disk {T = ℕ} g old new (Err e) found.keeps;
+      leaks = λ safe free whole. leaks-kept g {T = ℕ} old new (Err e) found.keeps;
+      below = looked_under_same u (IsMild e) x;
+      ok = tt;
+      err = (
+        refl,
+        quiet-marked {T = ℕ} old new e found.keeps,
+        inl (why-unkept (LacksPlace g (asked.offset / cluster_size old.tables.file.header.fields) old.tables new.tables) old new
+            (asked.offset / cluster_size old.tables.file.header.fields) e found.known_cause found.cause),
+      );
+    };
+  }
