@@ -110,6 +110,7 @@ module _ {S : Type 0} (state : S → StorageState) (c : Clusters S) (empty : Are
       faults = a.faults;
       held = held;
       named = tt;
+      unused = λ ready. tt;
       reserved = λ ready. tt;
       stored = λ ready. tt;
       leaves = λ ready. tt;

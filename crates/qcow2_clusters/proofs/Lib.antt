@@ -7,13 +7,14 @@ pub mod LeavingRoom
 pub mod AllocatingRuns
 pub mod StoringRuns
 pub mod StoringSettled
+pub mod WritingRuns
+pub mod ReachingEnds
 pub mod FillingKept
 pub mod LoneTables
 pub mod NamedWords
 pub mod NamedRuns
 pub mod FewerWaiting
 pub mod NamedAtRest
-pub mod NamedOnce
 pub mod NamingTables
 pub mod MakingTables
 pub mod CopyingTables

@@ -43,7 +43,7 @@ whole-fits content n size some whole =
     omega (arith, whole, le)
 
 -- why it couldn't be written
-why-written : (ready : Type 0) (full : ℕ → Type 0) (before mid after : ℕ) → before ≤ mid → (fault : Fault) → Cause mid after fault
+pub why-written : (ready : Type 0) (full : ℕ → Type 0) (before mid after : ℕ) → before ≤ mid → (fault : Fault) → Cause mid after fault
     → WhyNotAllocated ready full before after fault
 why-written ready full before mid after later Memory why = tt
 why-written ready full before mid after later Storage why = rose_behind before mid after later why
@@ -157,6 +157,7 @@ module _ {S : Type 0} (state : S → StorageState) (c : Clusters S) (empty : Are
       faults = λ whole. faultless-then (a.faults tt) (put-faultless (storage state mid) (state after.image) place content (Ok tt) put tt);
       held = held;
       named = run-named state c empty room n mid entry a some;
+      unused = run-unused state c empty room n mid entry a;
       reserved = λ ready. subst (λ (H : Header). AreReserved n (record m2 { header = H }) x) (sym header) (still ready);
       stored = λ ready i lt. subst (λ n. m2.file (x * n + i) ≡ slice_index content i) size (bytes-there ready i lt);
       leaves = λ ready. subst (λ (H : Header). LeavesRoom (room_for c.file.header.fields n) (resting state c) (mark_in c) (record m2 { header = H }) (mark_in mid))
@@ -178,6 +179,7 @@ module _ {S : Type 0} (state : S → StorageState) (c : Clusters S) (empty : Are
     faults = λ mild. absurd (never mild);
     held = refl;
     named = tt;
+    unused = λ ready. tt;
     reserved = λ ready. tt;
     stored = λ ready. tt;
     leaves = λ ready. tt;

@@ -200,6 +200,7 @@ module _ {S : Type 0} (state : S → StorageState) (n : ℕ) (content : List ℕ
     held = room;
     l1 = l1-kept state c result c' (run_handed_by n result) (λ _. 0) all-quietly;
     named = settled-if-ok state was mid.file mid.caches result after new settles _ stored.named;
+    unused = λ ready. settled-if-ok state was mid.file mid.caches result after new settles _ (stored.unused ready);
     reserved = reserved-if result refl;
     stored = bytes-if result refl;
     leaves = leaves-if result refl;

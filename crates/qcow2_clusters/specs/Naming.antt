@@ -142,25 +142,3 @@ pub record NamesRun {S : Type 0} (state : S → StorageState) (table guest x n :
       (d * cluster_size c.file.header.fields) (cluster_size c.file.header.fields))
   pub cause : IfErr result (WhyNotNamed (IsReady state c × AreNameable n (resting state c) table guest x)
       (storage state c).faults (storage state c').faults)
-
--- The same of one guest cluster.
-pub record Names {S : Type 0} (state : S → StorageState) (table guest x : ℕ) (c : Clusters S) (result : Result Unit Fault)
-    (c' : Clusters S) : Type 0 where
-  pub progress : IsNameable (resting state c) table guest x → Progresses (result ≡ Ok tt)
-      (naming (resting state c) guest x) (storage state c) (resting state c) (storage state c') (resting state c')
-  pub rests : Rests state c result c'
-  pub header : c'.file.header ≡ c.file.header
-  pub held : c'.space.to_free.held ≡ c.space.to_free.held
-  pub l1 : IsNameable (resting state c) table guest x → KeepsL1 state c result c'
-  pub marked : IsNameable (resting state c) table guest x → KeepsMarked state c result c'
-  pub waits : IsReady state c → IsNameable (resting state c) table guest x
-      → OnOk result (c'.space.to_free.entries ≡ c.space.to_free.entries ++ listed_of (given_for (resting state c) guest x))
-  pub named : IsReady state c → IsNameable (resting state c) table guest x
-      → OnOk result (entry (resting state c').file c.file.header.fields guest ≡ data_at x true)
-  pub bytes : IsReady state c → IsNameable (resting state c) table guest x
-      → OnOk result ((q : ℕ) → q / cluster_size c.file.header.fields ≡ x → (resting state c').file q ≡ (resting state c).file q)
-  pub used : IsReady state c → IsNameable (resting state c) table guest x
-      → OnOk result ((d : ℕ) → IsUsed (resting state c) d → Same (resting state c).file (resting state c').file
-      (d * cluster_size c.file.header.fields) (cluster_size c.file.header.fields))
-  pub cause : IfErr result (WhyNotNamed (IsReady state c × IsNameable (resting state c) table guest x)
-      (storage state c).faults (storage state c').faults)

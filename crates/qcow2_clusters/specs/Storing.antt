@@ -1,18 +1,20 @@
 -- How bytes are stored in a cluster that was free.
-use Rattle.std.specs.Prelude.{◌≡◌, ◌≢◌, ⊤, ◌+◌, ◌-◌, ◌*◌, ◌<◌, ◌≤◌, ℕ, List, length, slice_index, Result, Ok, Err, IfOk, IfErr, OnOk}
+use Rattle.std.specs.Prelude.{◌≡◌, ◌≢◌, ⊤, ◌+◌, ◌-◌, ◌*◌, ◌<◌, ◌≤◌, ℕ, List, length, slice_index, Result, Ok, Err, IfOk, IfErr, IsTrue, OnOk}
 use Rattle.imago_storage.specs.State.{StorageState, Rose}
 use Rattle.imago_storage.specs.Calls.{IsFaultless, Later}
+use Rattle.imago_storage.specs.Through.{Put}
 use Rattle.imago_storage.specs.declared.fault.Fault.{Fault}
 use Rattle.imago_storage.specs.declared.fault.Fault.TheVariants.{Counter, DamagedTable, Limit, Memory, Storage}
 use Rattle.qcow2_types.specs.Header.{cluster_size}
 use Rattle.qcow2_metadata.specs.Places.{IsInReach}
+use Rattle.qcow2_alloc.specs.declared.file.ImageFile.{ImageFile}
 use Rattle.qcow2_alloc.specs.Allocating.{MovedTable}
 use Rattle.qcow2_alloc.specs.Caches.{HasRoomOf}
 use Rattle.qcow2_alloc.specs.Crowding.{room_for}
 use Rattle.qcow2_alloc.specs.FreeList.{covers}
 use Rattle.qcow2_alloc.specs.Going.{WasNotCutOff}
 use Rattle.qcow2_alloc.specs.MakingRoom.{run_of}
-use Rattle.qcow2_alloc.specs.Quiet.{Metadata, Quietly, one_at}
+use Rattle.qcow2_alloc.specs.Quiet.{IsUsed, Metadata, Quietly, one_at}
 use Rattle.qcow2_alloc.specs.Freeing.{IsMarked}
 use Rattle.qcow2_steps.specs.Words.{IsReserved}
 use Rattle.qcow2_clusters.specs.Progress.{Progresses, handing}
@@ -58,6 +60,10 @@ run_handed_by n (Err fault) c = 0
 abbrev pub AreReserved : ℕ → Metadata → ℕ → Type 0
 AreReserved n m first = (d : ℕ) → first ≤ d → d < first + n → IsReserved m d
 
+-- None of n clusters in a row is used.
+abbrev pub AreUnused : ℕ → Metadata → ℕ → Type 0
+AreUnused n m first = (d : ℕ) → first ≤ d → d < first + n → IsUsed m d → ⊥
+
 -- Bytes are written to n clusters in a row that were free, and what is modified for that waits to be written.
 pub record StoresRunUnsettled {S : Type 0} (state : S → StorageState) (n : ℕ) (content : List ℕ) (c : Clusters S)
     (result : Result ℕ Fault) (c' : Clusters S) : Type 0 where
@@ -69,6 +75,7 @@ pub record StoresRunUnsettled {S : Type 0} (state : S → StorageState) (n : ℕ
   pub faults : WasNotCutOff result → IsFaultless (storage state c) (storage state c')
   pub held : c'.space.to_free.held ≡ held_by result c.space.to_free.held
   pub named : IfOk result (λ x. (x ≢ 0) × IsInReach c.file.header.fields.cluster_bits (x + (n - 1)))
+  pub unused : IsReady state c → IfOk result (AreUnused n (resting state c))
   pub reserved : IsReady state c → IfOk result (AreReserved n (changed state c'))
   pub stored : IsReady state c → IfOk result (λ x. (i : ℕ) → i < length content
       → (changed state c').file (x * cluster_size c.file.header.fields + i) ≡ slice_index content i)
@@ -88,6 +95,7 @@ pub record StoresRun {S : Type 0} (state : S → StorageState) (n : ℕ) (conten
   pub held : c'.space.to_free.held ≡ held_by result c.space.to_free.held
   pub l1 : KeepsL1 state c result c'
   pub named : IfOk result (λ x. (x ≢ 0) × IsInReach c.file.header.fields.cluster_bits (x + (n - 1)))
+  pub unused : IsReady state c → IfOk result (AreUnused n (resting state c))
   pub reserved : IsReady state c → IfOk result (AreReserved n (resting state c'))
   pub stored : IsReady state c → IfOk result (λ x. (i : ℕ) → i < length content
       → (resting state c').file (x * cluster_size c.file.header.fields + i) ≡ slice_index content i)
@@ -114,3 +122,20 @@ pub record Stores {S : Type 0} (state : S → StorageState) (content : List ℕ)
   pub marked : KeepsMarked state c result c'
   pub cause : IfErr result (WhyNotAllocated (IsReady state c) (IsFull 1 (resting state c) (mark_in c) (resting state c') (mark_in c'))
       (storage state c).faults (storage state c').faults)
+
+-- The file is as long as the end of n clusters in a row.
+abbrev pub ReachesEnd : {S : Type 0} → (S → StorageState) → (x n : ℕ) → (before after : ImageFile S) → Type 0
+ReachesEnd state x n before after = (x + n) * cluster_size before.header.fields ≤ length (state after.image).bytes
+
+-- It is made so long: bytes may be written in these clusters, and no byte of it changes.
+pub record ReachesRun {S : Type 0} (state : S → StorageState) (x n : ℕ) (before : ImageFile S) (result : Result Unit Fault)
+    (after : ImageFile S) : Type 0 where
+  pub place : ℕ
+  pub bytes : List ℕ
+  pub low : x * cluster_size before.header.fields ≤ place
+  pub high : place + length bytes ≤ (x + n) * cluster_size before.header.fields
+  pub put : Put (state before.image) (state after.image) place bytes result
+  pub header : after.header ≡ before.header
+  pub same : IsTrue (state before.image).shape.keeps
+      → OnOk result ((p : ℕ) → slice_index (state after.image).bytes p ≡ slice_index (state before.image).bytes p)
+  pub long : OnOk result (ReachesEnd state x n before after)

@@ -1,8 +1,9 @@
 // The content of a guest cluster is written to the cluster that it keeps for its zeroes.
-ghost use Rattle.std.specs.Prelude.{◌≡◌, length};
+ghost use Rattle.std.specs.Prelude.{◌≡◌, OnOk, length};
 ghost use Rattle.qcow2_types.specs.Header.{cluster_size};
 ghost use Rattle.qcow2_metadata.specs.Places.{IsInReach};
 ghost use Rattle.qcow2_clusters.specs.Filling.{FillsFile};
+ghost use Rattle.qcow2_clusters.specs.Storing.{ReachesEnd};
 
 use crate::storing::write_cluster;
 use imago_storage::{Fault, Storage};
@@ -22,7 +23,8 @@ pub fn fill<S: Storage>(
 ) -> Result<(), Fault>
     requires reach { IsInReach file.old.header.fields.cluster_bits cluster }
     requires whole { length content.now ≡ cluster_size file.old.header.fields }
-    ensures { FillsFile S.state cluster content.now file.old result file.new }
+    ensures fills { FillsFile S.state cluster content.now file.old result file.new }
+    ensures reaches { OnOk result (ReachesEnd S.state cluster 1 file.old file.new) }
 {
     write_cluster(alloc, file, cluster, content)
 }

@@ -123,8 +123,8 @@ fn give_up_l1(to_free: &mut ClustersToFreeList, l1: &L1Table)
 /// Has the header name a longer L1 table, in clusters that were free: it has a word at this index, the words of the old one, and else words
 /// that name nothing. The clusters of the old one, if it had any, wait to be freed then. Nothing may be cached before, and nothing is then.
 ///
-/// It refuses with `Fault::Limit` where the table would have more than 2^22 words, of which it tells the number, or, as `store` does, only
-/// where a sixteenth of the space and three times its clusters weren't free in a row; with `Fault::Memory` and `Fault::Storage`, after
+/// It refuses with `Fault::Limit` where the table would have more than 2^22 words, of which it tells the number, or, as `store_run` does,
+/// only where a sixteenth of the space and three times its clusters weren't free in a row; with `Fault::Memory` and `Fault::Storage`, after
 /// which the header in the file may name the new table; and with `Fault::Counter` and `Fault::DamagedTable`, which no sound image has.
 pub fn lengthen_l1<S: Storage>(
     alloc: Global,

@@ -17,6 +17,6 @@ pub use filling::fill;
 pub use freeing::free_waiting;
 pub use lengthening::lengthen_l1;
 pub use making_tables::{copy_table, make_table};
-pub use naming::{name, name_run};
+pub use naming::name_run;
 pub use space::Space;
-pub use storing::{store, store_run};
+pub use storing::store_run;

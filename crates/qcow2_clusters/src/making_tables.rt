@@ -101,8 +101,8 @@ fn place_table<S: Storage>(
 /// Makes an L2 table in which nothing is mapped, in a cluster that was free, and has the word at an index of the L1 table name it, which
 /// named none. Nothing may be cached before, and nothing is then.
 ///
-/// It refuses with `Fault::Limit` as `store` does; with `Fault::Memory` and `Fault::Storage`, after which the L1 table in memory may not be
-/// the file's; and with `Fault::Counter` and `Fault::DamagedTable`, which no sound image has.
+/// It refuses with `Fault::Limit` as `store_run` does; with `Fault::Memory` and `Fault::Storage`, after which the L1 table in memory may
+/// not be the file's; and with `Fault::Counter` and `Fault::DamagedTable`, which no sound image has.
 pub fn make_table<S: Storage>(
     alloc: Global,
     file: &mut ImageFile<S>,

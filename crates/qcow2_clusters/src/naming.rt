@@ -5,7 +5,7 @@ ghost use Rattle.qcow2_metadata.specs.Places.{IsInReach};
 ghost use Rattle.qcow2_alloc.specs.Allocators.{UsesTable};
 ghost use Rattle.qcow2_alloc.specs.Caches.{cached_file};
 ghost use Rattle.qcow2_clusters.specs.Rest.{AreEmpty, HasEntries, lent};
-ghost use Rattle.qcow2_clusters.specs.Naming.{Names, NamesIn, NamesRun, NamesWord, NamesWords, PutsOff, listing};
+ghost use Rattle.qcow2_clusters.specs.Naming.{NamesIn, NamesRun, NamesWord, NamesWords, PutsOff, listing};
 
 use crate::settling::settle;
 use crate::space::Space;
@@ -156,25 +156,4 @@ pub fn name_run<S: Storage>(
         count,
     );
     settle(file, caches, named)
-}
-
-/// Has a guest cluster name a host cluster as its data, as copied, as `name_run` does of one. It refuses as that does, and leaves what that
-/// leaves.
-pub fn name<S: Storage>(
-    file: &mut ImageFile<S>,
-    caches: &mut MetadataCaches<S>,
-    space: &mut Space,
-    table: HostCluster,
-    guest: GuestCluster,
-    cluster: HostCluster,
-) -> Result<(), Fault>
-    requires rest { AreEmpty caches.old }
-    requires room { HasEntries caches.old }
-    requires some { 0 < cluster }
-    requires reach { IsInReach file.old.header.fields.cluster_bits cluster }
-    ensures { Names S.state table guest cluster (lent file.old caches.old space.old) result (lent file.new caches.new space.new) }
-{
-    // Its contract says that a table has words.
-    let _bits = file.header.cluster_bits();
-    name_run(file, caches, space, table, guest, cluster, ClusterCount(1))
 }

@@ -1,11 +1,11 @@
 // Bytes are stored in clusters that were free.
-ghost use Rattle.std.specs.Prelude.{◌≡◌, ◌≤◌, ◌<◌, ◌*◌, ℕ, List, OnOk, length};
+ghost use Rattle.std.specs.Prelude.{◌≡◌, ◌≤◌, ◌<◌, ◌+◌, ◌-◌, ◌*◌, ◌^◌, ℕ, List, IfOk, OnOk, length};
 ghost use Rattle.imago_storage.specs.Through.{Put};
 ghost use Rattle.qcow2_types.specs.Header.{cluster_size};
 ghost use Rattle.qcow2_metadata.specs.Places.{IsInReach};
 ghost use Rattle.qcow2_clusters.specs.Rest.{AreEmpty, Clusters, HasEntries, lent};
 ghost use Rattle.qcow2_clusters.specs.Settling.{AreUnpinned};
-ghost use Rattle.qcow2_clusters.specs.Storing.{Stores, StoresRun, StoresRunUnsettled};
+ghost use Rattle.qcow2_clusters.specs.Storing.{ReachesEnd, ReachesRun, Stores, StoresRun, StoresRunUnsettled};
 
 use crate::settling::settle;
 use crate::space::Space;
@@ -25,6 +25,7 @@ pub(crate) fn write_cluster<S: Storage>(
     requires whole { length content.now ≡ cluster_size file.old.header.fields }
     ensures put { Put (S.state file.old.image) (S.state file.new.image) (cluster * cluster_size file.old.header.fields) content.now result }
     ensures header { file.new.header ≡ file.old.header }
+    ensures reaches { OnOk result (ReachesEnd S.state cluster 1 file.old file.new) }
 {
     let place = cluster.offset(file.header.cluster_bits());
     file.image.write(alloc, content, place.0)
@@ -91,9 +92,31 @@ pub(crate) fn settle_stored<S: Storage>(
     }
 }
 
-/// Stores the content of a guest cluster in the first of host clusters in a row that were free, which nothing names yet. What stands in the
-/// others is left open. Room is held for them then on the list of clusters to free, as `ClustersToFreeList::hold` does. Nothing may be
-/// cached before, and nothing is then.
+// Has the file reach the end of clusters in a row: where it is shorter, zeroes are written behind its end, in the last of them.
+fn reach_end<S: Storage>(
+    alloc: Global,
+    file: &mut ImageFile<S>,
+    first: HostCluster,
+    count: ClusterCount,
+) -> Result<(), Fault>
+    requires reach { IsInReach file.old.header.fields.cluster_bits (first + (count - 1)) }
+    requires near { first + count < 2 ^ 64 }
+    requires any { 0 < count }
+    ensures { ReachesRun S.state first count file.old result file.new }
+{
+    let size = file.header.cluster_size() as u64;
+    let end = (first + count).offset(file.header.cluster_bits()).0;
+    let long = file.image.size();
+    if end <= long {
+        return Ok(());
+    }
+    let from = long.max(end.saturating_sub(size));
+    file.image.write_zeroes(alloc, from, end - from)
+}
+
+/// Stores the content of a guest cluster in the first of host clusters in a row that were free, which nothing names yet. The file reaches
+/// the end of the last one then, so that words may name each; what stands in those behind the first is left open. Room is held for them
+/// then on the list of clusters to free, as `ClustersToFreeList::hold` does. Nothing may be cached before, and nothing is then.
 ///
 /// It refuses with `Fault::Limit` only where a sixteenth of the space and three times as many clusters weren't free in a row as the call
 /// began, and tells why the first such run that is free by then can't be taken, as `Allocator::allocate_clusters` does; with
@@ -111,14 +134,22 @@ pub fn store_run<S: Storage>(
     requires room { HasEntries caches.old }
     requires whole { length content.now ≡ cluster_size file.old.header.fields }
     requires any { 0 < count }
-    ensures { StoresRun S.state count content.now (lent file.old caches.old space.old) result (lent file.new caches.new space.new) }
+    ensures stores { StoresRun S.state count content.now (lent file.old caches.old space.old) result (lent file.new caches.new space.new) }
+    ensures reaches { IfOk result (λ first. ReachesEnd S.state first count file.old file.new) }
 {
     let stored = allocate_and_write(alloc, file, caches, space, content, count);
-    settle_stored(file, caches, space, stored)
+    let first = settle_stored(file, caches, space, stored)?;
+    match reach_end(alloc, file, first, count) {
+        Ok(()) => Ok(first),
+        Err(fault) => {
+            space.to_free.release();
+            Err(fault)
+        }
+    }
 }
 
-/// Stores the content of a guest cluster in a host cluster that was free, as `store_run` does of one, and refuses as that does.
-pub fn store<S: Storage>(
+// Stores the content of a guest cluster in a host cluster that was free, as `store_run` does of one, and refuses as that does.
+pub(crate) fn store<S: Storage>(
     alloc: Global,
     file: &mut ImageFile<S>,
     caches: &mut MetadataCaches<S>,

@@ -40,7 +40,7 @@ use Rattle.qcow2_clusters.specs.MakingTables.{CopiesTable, HasTable, IsTableless
 use Rattle.qcow2_clusters.specs.Progress.{Kind, Progresses, handing}
 use Rattle.qcow2_clusters.specs.Rest.{Clusters, IsReady, lent, resting}
 use Rattle.qcow2_clusters.specs.Room as room
-use Rattle.qcow2_clusters.specs.Storing.{AreReserved, Rests, StoresRun, handed_by, held_by, run_handed_by}
+use Rattle.qcow2_clusters.specs.Storing.{AreReserved, ReachesEnd, Rests, StoresRun, handed_by, held_by, run_handed_by}
 use Rattle.qcow2_clusters.specs.Storing as clusters
 use Rattle.qcow2_clusters.specs.declared.space.Space.{Space}
 use Rattle.qcow2_image.specs.Allocating.{EnsuresTable, EnsuresWord, FillsContent, FreesPending, HasKept, KeepsTop, LoadsSpace, PlacesContent, StoresContent, StoresMost, WhyNotAllocated, WhyNotFilled, WhyNotFreed, failed_cut, full_by, placed_by, waits_in}
@@ -308,7 +308,8 @@ if-err (Err e) P Q each holds = each e holds
 module _ {S : Type 0} (g : Ghosts S) (old : Qcow2 S g) (mid : Tables S g) (space space' : Space) (caches : MetadataCaches S) (n : ℕ)
     (bytes : List ℕ) (result : Result ℕ Fault) (there : old.tables.space ≡ Some space) (there' : mid.space ≡ Some space') (l1 : mid.l1 ≡ old.tables.l1)
     (free : old.unspent ≡ None) (some : 0 < n)
-    (stores : StoresRun g.state n bytes (lent old.tables.file caches space) result (lent mid.file mid.caches space')) where
+    (stores : StoresRun g.state n bytes (lent old.tables.file caches space) result (lent mid.file mid.caches space'))
+    (reaches : IfOk result (λ x. ReachesEnd g.state x n old.tables.file mid.file)) where
   abbrev stored_now : Qcow2 S g
   stored_now = record old { tables = mid; failed = failed_cut result old.failed }
 
@@ -337,6 +338,7 @@ module _ {S : Type 0} (g : Ghosts S) (old : Qcow2 S g) (mid : Tables S g) (space
     };
     named = stores.named;
     reserved = λ safe. reserved-now result (stores.reserved (ready g old mid space space' caches result there there' stores.rests safe)) stores.held;
+    reaches = reaches;
     content = λ safe. stores.stored (ready g old mid space space' caches result there there' stores.rests safe);
     cause = if-err result _ (WhyNotAllocated g (LacksFreeRun g n (enough_for_run old.tables n) old.tables mid) old stored_now) (λ e.
         allocated-why g old stored_now (IsReady g.state (lent old.tables.file caches space))
@@ -360,6 +362,7 @@ module _ {S : Type 0} (g : Ghosts S) (n : ℕ) (bytes : List ℕ) (old : Qcow2 S
     many = (some, omega arith);
     named = s.named;
     reserved = s.reserved;
+    reaches = s.reaches;
     content = s.content;
     cause = tt;
   }
@@ -387,6 +390,7 @@ module _ {S : Type 0} (g : Ghosts S) (n : ℕ) (bytes : List ℕ) (old : Qcow2 S
     many = tt;
     named = tt;
     reserved = λ safe. tt;
+    reaches = tt;
     content = λ safe. tt;
     cause = most-why new e is s.cause;
   }
@@ -412,6 +416,7 @@ module _ {S : Type 0} (g : Ghosts S) (n : ℕ) (bytes : List ℕ) (old : Qcow2 S
       many = (omega arith, omega (arith, some));
       named = (s.named.0, subst (λ (b : ℕ). IsInReach b (host + (1 - 1))) full.keeps.bits s.named.1);
       reserved = λ safe. s.reserved (full.keeps.safely safe tt);
+      reaches = subst (λ (b : ℕ). (host + 1) * 2 ^ b ≤ length (g.state new.tables.file.image).bytes) full.keeps.bits s.reaches;
       content = λ safe i less. ap (λ (b : ℕ). file_of g new.tables (host * 2 ^ b + i)) (sym full.keeps.bits) ∙ s.content (full.keeps.safely safe tt) i less;
       cause = tt;
     }
@@ -441,6 +446,7 @@ module _ {S : Type 0} (g : Ghosts S) (n : ℕ) (bytes : List ℕ) (old : Qcow2 S
       many = tt;
       named = tt;
       reserved = λ safe. tt;
+      reaches = tt;
       content = λ safe. tt;
       cause = alone-why e s.cause;
     }
@@ -452,6 +458,10 @@ module _ {S : Type 0} (g : Ghosts S) (n : ℕ) (bytes : List ℕ) (old : Qcow2 S
   most-behind mid new (Err (Limit number)) (Err e) is s t = most-neither mid new number s e t
   most-behind mid new stored one is s t = absurd (cc is)
 
+  pub most-once : (new : Qcow2 S g) (stored : Result ℕ Fault) → n ≡ 1 → StoresContent g n bytes old stored new → StoresMost g n bytes old (placed_by n stored) new
+  most-once new (Ok host) one s = most-stored new host s
+  most-once new (Err e) one s = most-unstored new e (inl one) s
+
   pub most-done : (new : Qcow2 S g) (stored : Result ℕ Fault) → full_by stored ≡ false → StoresContent g n bytes old stored new
       → StoresMost g n bytes old (placed_by n stored) new
   most-done new (Ok host) is s = most-stored new host s
@@ -461,7 +471,8 @@ module _ {S : Type 0} (g : Ghosts S) (n : ℕ) (bytes : List ℕ) (old : Qcow2 S
 module _ {S : Type 0} (g : Ghosts S) (old : Qcow2 S g) (mid : Tables S g) (space : Space) (caches : MetadataCaches S) (guest host : ℕ)
     (bytes : List ℕ) (result : Result Unit Fault) (there : old.tables.space ≡ Some space) (there' : mid.space ≡ Some space)
     (l1 : mid.l1 ≡ old.tables.l1) (free : old.unspent ≡ None)
-    (fills : Fills g.state guest host bytes (lent old.tables.file caches space) result (lent mid.file mid.caches space)) where
+    (fills : Fills g.state guest host bytes (lent old.tables.file caches space) result (lent mid.file mid.caches space))
+    (reaches : OnOk result (ReachesEnd g.state host 1 old.tables.file mid.file)) where
   abbrev filled_now : Qcow2 S g
   filled_now = record old { tables = mid; failed = failed_cut result old.failed }
 
@@ -504,6 +515,7 @@ module _ {S : Type 0} (g : Ghosts S) (old : Qcow2 S g) (mid : Tables S g) (space
     };
     space = there' ∙ sym there;
     known = known-now result;
+    reaches = reaches;
     content = λ known. fills.stored known.safe.keeps;
     cause = if-err result _ (WhyNotFilled g old filled_now) fill-why fills.cause;
   }
@@ -542,6 +554,7 @@ module _ {S : Type 0} (g : Ghosts S) (guest : ℕ) (bytes : List ℕ) (old new :
         (subst (λ i. IsOwnAs true (rest_of g new.tables one.0) i (host + 0)) (let same : guest ≡ guest + 0 = omega arith in same)
         (subst (λ i. IsOwnAs true (rest_of g new.tables one.0) guest i) (let same : host ≡ host + 0 = omega arith in same) one.3)) in
         (one.0, one.1, one.2, first, one.4);
+    reaches = f.reaches;
     content = f.content;
     cause = tt;
   }
@@ -566,6 +579,7 @@ module _ {S : Type 0} (g : Ghosts S) (guest : ℕ) (bytes : List ℕ) (old new :
     near = tt;
     which = tt;
     own = λ known. tt;
+    reaches = tt;
     content = λ known. tt;
     cause = filling-why (lacks-beside n (Some host)) e f.cause;
   }
@@ -608,6 +622,7 @@ module _ {S : Type 0} (g : Ghosts S) (guest : ℕ) (bytes : List ℕ) (old new :
         let there = s.reserved known.safe in
         let own = own-free (rest_of g new.tables there.0) r.host r.count there.2 in
         (there.0, there.1, s.named.0, subst (λ is. AreOwnAs is r.count (rest_of g new.tables there.0) guest r.host) (sym s.unkept) own, λ is. there.3);
+    reaches = s.reaches;
     content = λ known. s.content known.safe;
     cause = tt;
   }
@@ -620,6 +635,7 @@ module _ {S : Type 0} (g : Ghosts S) (guest : ℕ) (bytes : List ℕ) (old new :
     near = tt;
     which = tt;
     own = λ known. tt;
+    reaches = tt;
     content = λ known. tt;
     cause = why-full g (LacksFreeRun g 1 (enough_for_run old.tables n) old.tables new.tables) (lacks-beside n None) old new e
         (λ number safe full. (refl, full)) s.cause;

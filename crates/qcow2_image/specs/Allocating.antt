@@ -15,7 +15,7 @@ use Rattle.qcow2_types.specs.Words.{Mapping, damaged, data_at, is_copied, packed
 use Rattle.qcow2_types.specs.Words as words
 use Rattle.qcow2_metadata.specs.Places.{IsInReach}
 use Rattle.qcow2_metadata.specs.Tables.{padded}
-use Rattle.qcow2_clusters.specs.Storing.{AreReserved, run_handed_by}
+use Rattle.qcow2_clusters.specs.Storing.{AreReserved, ReachesEnd, run_handed_by}
 use Rattle.qcow2_image.specs.FreeSpace.{HasNoPlace, IsForTable, IsForWord, LacksFreeRun, LeavesFree, enough_for_run, enough_for_word}
 use Rattle.qcow2_image.specs.Holding.{AreOwnAs, place_in}
 use Rattle.qcow2_image.specs.KeepsDisk.{KeepsDisk, KeepsDiskWhere}
@@ -174,7 +174,8 @@ pub record KeepsTop {S : Type 0} (g : Ghosts S) (sure : Type 0) (old new : Qcow2
   pub tables : sure → (i : ℕ)
       → l2_table (file_of g new.tables) new.tables.file.header.fields i ≡ l2_table (file_of g old.tables) old.tables.file.header.fields i
 
--- Bytes are stored in the first of n clusters in a row that were free: they are reserved then, and can be named.
+-- Bytes are stored in the first of n clusters in a row that were free: they are reserved then, and can be named, and the file reaches the
+-- end of the last one.
 pub record StoresContent {S : Type 0} (g : Ghosts S) (n : ℕ) (bytes : List ℕ) (old : Qcow2 S g) (result : Result ℕ Fault) (new : Qcow2 S g)
     : Type 0 where
   pub keeps : KeepsDisk g (WasNotCutOff result) old new
@@ -184,6 +185,7 @@ pub record StoresContent {S : Type 0} (g : Ghosts S) (n : ℕ) (bytes : List ℕ
   pub named : IfOk result (λ x. (x ≢ 0) × IsInReach old.tables.file.header.fields.cluster_bits (x + (n - 1)))
   pub reserved : IsSafe g old → IfOk result (λ x. (space : Space) × (new.tables.space ≡ Some space)
       × AreReserved n (rest_of g new.tables space) x × (0 < space.to_free.held))
+  pub reaches : IfOk result (λ x. ReachesEnd g.state x n old.tables.file new.tables.file)
   pub content : IsSafe g old → IfOk result (λ x. (i : ℕ) → i < length bytes
       → file_of g new.tables (x * cluster_size old.tables.file.header.fields + i) ≡ slice_index bytes i)
   pub cause : IfErr result (WhyNotAllocated g (LacksFreeRun g n (enough_for_run old.tables n) old.tables new.tables) old new)
@@ -210,6 +212,7 @@ pub record StoresMost {S : Type 0} (g : Ghosts S) (n : ℕ) (bytes : List ℕ) (
   pub named : IfOk result (λ r. (r.host ≢ 0) × IsInReach old.tables.file.header.fields.cluster_bits (r.host + (r.count - 1)))
   pub reserved : IsSafe g old → IfOk result (λ r. (space : Space) × (new.tables.space ≡ Some space)
       × AreReserved r.count (rest_of g new.tables space) r.host × (0 < space.to_free.held))
+  pub reaches : IfOk result (λ r. ReachesEnd g.state r.host r.count old.tables.file new.tables.file)
   pub content : IsSafe g old → IfOk result (λ r. (i : ℕ) → i < length bytes
       → file_of g new.tables (r.host * cluster_size old.tables.file.header.fields + i) ≡ slice_index bytes i)
   pub cause : IfErr result (WhyNotAllocated g (LacksFreeRun g 1 (enough_for_run old.tables n) old.tables new.tables) old new)
@@ -230,6 +233,7 @@ pub record FillsContent {S : Type 0} (g : Ghosts S) (guest host : ℕ) (bytes : 
   pub top : KeepsTop g (HasKept g guest (Some host) old × WasNotCutOff result) old new
   pub space : new.tables.space ≡ old.tables.space
   pub known : OnOk result (IsSome new.tables.space)
+  pub reaches : OnOk result (ReachesEnd g.state host 1 old.tables.file new.tables.file)
   pub content : HasKept g guest (Some host) old → OnOk result ((i : ℕ) → i < length bytes
       → file_of g new.tables (host * cluster_size old.tables.file.header.fields + i) ≡ slice_index bytes i)
   pub cause : IfErr result (WhyNotFilled g old new)
@@ -248,6 +252,7 @@ pub record PlacesContent {S : Type 0} (g : Ghosts S) (guest : ℕ) (kept : Optio
       × IfSome kept (λ host. (r.host ≡ host) × (new.tables.space ≡ old.tables.space)))
   pub own : HasKept g guest kept old → IfOk result (λ r. (space : Space) × (new.tables.space ≡ Some space) × (r.host ≢ 0)
       × AreOwnAs r.is_kept r.count (rest_of g new.tables space) guest r.host × (r.is_kept ≡ false → 0 < space.to_free.held))
+  pub reaches : IfOk result (λ r. ReachesEnd g.state r.host r.count old.tables.file new.tables.file)
   pub content : HasKept g guest kept old → IfOk result (λ r. (i : ℕ) → i < length bytes
       → file_of g new.tables (r.host * cluster_size old.tables.file.header.fields + i) ≡ slice_index bytes i)
   pub cause : IfErr result (WhyNotAllocated g

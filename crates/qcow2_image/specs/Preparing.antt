@@ -15,6 +15,7 @@ use Rattle.qcow2_types.specs.Words.{damaged}
 use Rattle.qcow2_metadata.specs.Places.{IsInReach}
 use Rattle.qcow2_alloc.specs.Crowding.{space}
 use Rattle.qcow2_clusters.specs.Naming.{IsUnder}
+use Rattle.qcow2_clusters.specs.Storing.{ReachesEnd}
 use Rattle.qcow2_clusters.specs.declared.space.Space.{Space}
 use Rattle.qcow2_image.specs.Allocating.{HasKept, HasOwnTable, WhyNotReserved, kept_for}
 use Rattle.qcow2_image.specs.Filling.{IsInFirst, IsLeft, RefusesCopy}
@@ -26,7 +27,7 @@ use Rattle.qcow2_image.specs.Leaking.{KeepsLeaks, KeepsLeaksBut, reserved_with}
 use Rattle.qcow2_image.specs.Rooms.{IsSafe, rest_of}
 use Rattle.qcow2_image.specs.Seen.{IsSeen, file_of, layer_of}
 use Rattle.qcow2_image.specs.Steps.{KeepsImage}
-use Rattle.qcow2_image.specs.Unspent.{covers, holding}
+use Rattle.qcow2_image.specs.Unspent.{covers, holding, holding_in}
 use Rattle.qcow2_image.specs.declared.mappings.Reserved.{Reserved}
 use Rattle.qcow2_image.specs.declared.qcow2.PreparedMappingState.{PreparedMappingState}
 use Rattle.qcow2_image.specs.declared.qcow2.Qcow2.{Qcow2}
@@ -79,6 +80,7 @@ pub record Reserves {S : Type 0} (g : Ghosts S) (guest : ℕ) (kept : Option ℕ
   pub which : IfOk result (λ r. (r.is_kept ≡ is_some kept) × IfSome kept (λ host. r.host ≡ host))
   pub reserved : HasKept g guest kept old → IfOk result (λ r. IsReservedFor g guest r new.tables)
   pub own : HasKept g guest kept old → IfOk result (λ r. HasOwnTable g guest new.tables)
+  pub reaches : IfOk result (λ r. ReachesEnd g.state r.host r.count old.tables.file new.tables.file)
   pub stored : HasKept g guest kept old → IfOk result (λ r. (i : ℕ) → i < length content
       → file_of g new.tables (r.host * cluster_size old.tables.file.header.fields + i) ≡ slice_index content i)
   pub cause : IfErr result (WhyNotReserved g (LacksPlaceBeside g guest kept old.tables new.tables) old new)
@@ -143,6 +145,11 @@ pub record IsRun {S : Type 0} (g : Ghosts S) (asked : Asked) (n : ℕ) (d : Qcow
   pub uncopied : IsSeen g d.tables → let h = d.tables.file.header.fields in let first = asked.offset / cluster_size h in
       IsUncopied (entry (file_of g d.tables) h first) → (i : ℕ) → i < n → IsUncopied (entry (file_of g d.tables) h (first + i))
 
+-- The file is as long as the end of the clusters that are held for what is prepared, so that words may come to name them.
+abbrev pub ReachesHeld : {S : Type 0} (g : Ghosts S) → Qcow2 S g → Type 0
+ReachesHeld g d = IfSome (holding_in g d.unspent) (λ held.
+    (held.host + held.count) * cluster_size d.tables.file.header.fields ≤ length (g.state d.tables.file.image).bytes)
+
 -- so many bytes are the part of a range in such a run
 abbrev pub IsPartOfRun : {S : Type 0} (g : Ghosts S) → Asked → ℕ → Qcow2 S g → Type 0
 IsPartOfRun g asked length d = (n : ℕ) × IsRun g asked n d × (length ≡ run_in d.tables.file.header.fields n asked.offset asked.length)
@@ -167,6 +174,7 @@ pub record HoldsFresh {S B : Type 0} (g : Ghosts S) (u : GhostsBelow B) (asked :
   pub few : clusters.count ≤ n
   pub holds : KeepsMapping g (run_part old.0.tables.file.header.fields clusters.count asked) clusters middle mapping new
   pub near : IsInReach old.0.tables.file.header.fields.cluster_bits (clusters.host + (clusters.count - 1))
+  pub reaches : ReachesEnd g.state clusters.host clusters.count old.0.tables.file middle.tables.file
   pub reserved : IsSafe g old.0
       → IsReservedFor g (asked.offset / cluster_size old.0.tables.file.header.fields) clusters middle.tables
   pub filled : IsSafe g old.0 → u.sees_under old.1 → let h = old.0.tables.file.header.fields in

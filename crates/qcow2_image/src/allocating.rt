@@ -305,6 +305,9 @@ impl<S: Storage> Qcow2<S> {
         ensures { StoresMost S.Storage count content.now self.old result self.new }
     {
         let stored = self.store_content(alloc, content, count);
+        if count.0 == 1 {
+            return as_placed(stored, count);
+        }
         if is_full(&stored) {
             let one = self.store_content(alloc, content, ClusterCount(1));
             return as_placed(one, ClusterCount(1));

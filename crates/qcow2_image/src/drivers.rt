@@ -24,7 +24,7 @@ ghost use Rattle.qcow2_image.specs.Looking.{IsWholeRunIn, answer_at};
 ghost use Rattle.qcow2_image.specs.HeldHomes.{free_loose, one_home, says_room};
 ghost use Rattle.qcow2_image.specs.Unspent.{holding_in};
 ghost use Rattle.qcow2_image.specs.Writing.{begun_itself};
-ghost use Rattle.qcow2_image.specs.Preparing.{IsPartOfRun, LacksPlace};
+ghost use Rattle.qcow2_image.specs.Preparing.{IsPartOfRun, LacksPlace, ReachesHeld};
 ghost use Rattle.qcow2_image.specs.Rooms.{IsUntouched, not_both, covered, of_storages, was_safe};
 ghost use Rattle.qcow2_image.specs.Steps.{Reloads, failed_anew, failed_behind, failed_by};
 
@@ -242,6 +242,8 @@ impl<S: Storage> FormatDriverInstance for Qcow2<S> {
             → IfOk result (λ m. 0 < length → m.state ≡ None → IsWholeRunIn S.Storage t offset length m.length) }
         ensures part { let asked = asking offset length overwrite in
             IfOk result (λ m. IsSome m.state → IsPartOfRun S.Storage asked m.length self.old) }
+        // Then the file is as long as the end of the clusters that are held for it: no word comes to name what lies behind its end.
+        ensures reaches { IfOk result (λ m. IsSome m.state → ReachesHeld S.Storage self.new) }
         // It is refused with a limit only where the first place can't be written.
         ensures limit { let d = ⟦<Qcow2<S> as Seen>⟧ in
             d.sees self.old → IfErr result (λ e. (n : _) → e ≡ Limit n → (d.layer self.old).home offset ≡ None) }

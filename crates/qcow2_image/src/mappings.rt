@@ -194,15 +194,9 @@ impl<S: Storage> Qcow2<S> {
         requires row { let c = cluster_size self.old.tables.file.header.fields in length ≤ clusters.count * c - offset % c }
         ensures { KeepsMapping S.Storage (asking offset length overwrite) clusters self.old result self.new }
     {
-        let Reserved {
-            table,
-            host,
-            count,
-            is_kept,
-        } = clusters;
         let cluster_bits = self.tables.file.header.cluster_bits();
         let guest = GuestOffset(offset);
-        let place = host.relative_offset(guest, cluster_bits).0;
+        let place = clusters.host.relative_offset(guest, cluster_bits).0;
         self.claims = self.claims.wrapping_add(1);
         self.unspent = Some(Unspent {
             claim: self.claims,
@@ -210,10 +204,10 @@ impl<S: Storage> Qcow2<S> {
             length,
             place,
             guest: guest.cluster(cluster_bits),
-            table,
-            host,
-            count,
-            is_kept,
+            table: clusters.table,
+            host: clusters.host,
+            count: clusters.count,
+            is_kept: clusters.is_kept,
             overwrite,
             copied: Snapshot::of(&self.tables.file.image),
             written: Writes::none(),

@@ -1,5 +1,5 @@
 -- What a preparation leaves that reserves a cluster, in the words of the driver.
-use Rattle.std.proofs.Common.{◌≡◌, ℕ, ◌+◌, ◌*◌, ◌/◌, ◌%◌, ◌^◌, ◌<◌, ◌≤◌, refl, arith, ap, sym, subst, ◌∙◌, inl, inr, Option, Some, None, Result, Ok, Err}
+use Rattle.std.proofs.Common.{◌≡◌, ℕ, ◌+◌, ◌*◌, ◌/◌, ◌%◌, ◌^◌, ◌<◌, ◌≤◌, refl, arith, ap, sym, subst, ◌∙◌, inl, inr, List, length, Option, Some, None, Result, Ok, Err}
 use Rattle.std.specs.Prelude.{⊤, ◌⊎◌, ◌++◌, ◌-◌, min, IsTrue, IsErr, IsSome, IfOk, IfErr}
 use Rattle.std.specs.Borrow.{RattleType}
 use Rattle.imago_storage.specs.Disk.{barred, damaged_place}
@@ -39,7 +39,7 @@ use Rattle.qcow2_image.specs.Holding.{Holding, IsUncopied, claim_held, place_in}
 use Rattle.qcow2_image.specs.Homes.{memory_is}
 use Rattle.qcow2_image.specs.ImageLayer.{qcow2_fixed}
 use Rattle.qcow2_image.specs.KeepsDisk.{KeepsDisk}
-use Rattle.qcow2_image.specs.Preparing.{HoldsFresh, IsCovered, IsPartOfRun, IsReservedFor, IsRun, LacksPlace, LeavesMarked, PreparesRun, first_part, held_run, run_in, run_part}
+use Rattle.qcow2_image.specs.Preparing.{HoldsFresh, IsCovered, IsPartOfRun, IsReservedFor, IsRun, LacksPlace, LeavesMarked, PreparesRun, ReachesHeld, first_part, held_run, run_in, run_part}
 use Rattle.qcow2_image.specs.Rooms.{HasCluster, HoldsIn, IsSafe, ReadsNone}
 use Rattle.qcow2_image.specs.Seen.{IsSeen, file_of, homes_of, layer_in, layer_of, memory_of}
 use Rattle.qcow2_image.specs.Unspent.{covers, holding, holding_in}
@@ -417,6 +417,17 @@ module _ (R : RattleType) (st : Ghosts R.Denot) (sd : mir.Syntax.Dict) (dd : mir
     run-narrower st asked old p.n p.prepares.ok.clusters.count p.run p.prepares.ok.any p.prepares.ok.few,
     ap (λ (m : PreparedDataMapping PreparedMappingState). m.length) p.prepares.ok.holds.answer,
   )
+
+  -- The file reaches the end of what is held.
+  pub fresh-reaches : (result : Result (PreparedDataMapping PreparedMappingState) Fault) → Does result
+      → IfOk result (λ m. IsSome m.state → ReachesHeld st new)
+  fresh-reaches (Err e) p = tt
+  fresh-reaches (Ok mapping) p = λ some.
+      let f = p.prepares.ok.holds in
+      let file : List ℕ = (st.state p.prepares.middle.tables.file.image).bytes in
+      subst (λ (d : Qcow2 R.Denot st). ReachesHeld st d) (sym f.now)
+      (subst (λ (b : ℕ). (f.unspent.host + f.unspent.count) * 2 ^ b ≤ length file) (sym p.prepares.keeps.bits)
+      (subst (λ (o : Holding). (o.host + o.count) * cluster_size old.tables.file.header.fields ≤ length file) (sym f.holds) p.prepares.ok.reaches))
 
 -- What holds of the first place holds where a limit refuses.
 pub limit-where : {T : Type 0} (result : Result T Fault) (P : Type 0) → P → IfErr result (λ e. (n : ℕ) → e ≡ Limit n → P)

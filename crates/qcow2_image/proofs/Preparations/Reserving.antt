@@ -215,6 +215,7 @@ module _ {S : Type 0} (g : Ghosts S) where
     which = tt;
     reserved = λ known. tt;
     own = λ known. tt;
+    reaches = tt;
     stored = λ known. tt;
     cause = why-loaded (LacksPlaceBeside g guest kept old.tables new.tables) old new e l.cause l.known_cause;
   }
@@ -231,6 +232,7 @@ module _ {S : Type 0} (g : Ghosts S) where
     which = tt;
     reserved = λ known. tt;
     own = λ known. tt;
+    reaches = tt;
     stored = λ known. tt;
     cause = why-allocated
         (HasNoPlace g (IsForTable g guest mid.tables) (guest / words_of_cluster mid.tables.file.header.fields)
@@ -259,6 +261,7 @@ module _ {S : Type 0} (g : Ghosts S) where
         which = tt;
         reserved = λ known. tt;
         own = λ known. tt;
+        reaches = tt;
         stored = λ known. tt;
         cause = why-allocated (λ number. (kept ≡ None) × LacksFreeRun g 1 (enough_for_run mid.tables n) mid.tables new.tables number)
             (LacksPlaceBeside g guest kept old.tables new.tables) old mid new e there (t.known l.known)
@@ -317,6 +320,7 @@ module _ {S : Type 0} (g : Ghosts S) where
         marked = tt;
         many = s.many;
         near = subst (λ (b : ℕ). IsInReach b (r.host + (r.count - 1))) there.bits s.near;
+        reaches = subst (λ (b : ℕ). (r.host + r.count) * 2 ^ b ≤ length (g.state new.tables.file.image).bytes) there.bits s.reaches;
         which = (s.which.0, which-host r.host kept (new.tables.space ≡ mid.tables.space) s.which.1);
         reserved = λ known.
             let safe' = l.keeps.safely known.safe tt in
@@ -476,6 +480,7 @@ module _ {S : Type 0} (g : Ghosts S) where
           any = r.many.0;
           few = r.many.1;
           near = subst (λ (b : ℕ). IsInReach b (clusters.host + (clusters.count - 1))) bits r.near;
+          reaches = subst (λ (b : ℕ). (clusters.host + clusters.count) * 2 ^ b ≤ length (g.state middle.tables.file.image).bytes) bits r.reaches;
           reserved = λ safe. subst (λ (n : ℕ). IsReservedFor g n clusters middle.tables) is (r.reserved (known-there safe));
           filled = λ safe under p first left. subst (λ (b : ℕ). IsCopied (at (u.under old.1)) (layer_of g old.0) p b) (sym (stored safe p))
               (m.ok.shows safe under p first left);
@@ -505,6 +510,7 @@ module _ {S : Type 0} (g : Ghosts S) where
       few = f.few;
       holds = subst (λ (h : Fields). KeepsMapping g (run_part h f.clusters.count asked) f.clusters middle mapping new) fields f.holds;
       near = subst (λ (h : Fields). IsInReach h.cluster_bits (f.clusters.host + (f.clusters.count - 1))) fields f.near;
+      reaches = subst (λ (h : Fields). (f.clusters.host + f.clusters.count) * cluster_size h ≤ length (g.state middle.tables.file.image).bytes) fields f.reaches;
       reserved = λ safe. subst (λ (h : Fields). IsReservedFor g (asked.offset / cluster_size h) f.clusters middle.tables) fields
           (f.reserved (looked-on.safely safe tt));
       filled = λ safe under. subst (λ (l : Layer). (p : ℕ) → IsInFirst was asked p → IsLeft (first_part was asked) p

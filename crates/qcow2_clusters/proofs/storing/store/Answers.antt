@@ -6,4 +6,4 @@ pub returns : goal.returns
 returns g c =
     let new = c.store_run.new in
     one-stored g.S.Storage.state c.args.content.now (lent c.args.file.now c.args.caches.now c.args.space.now) c.store_run.result
-    (lent new.file new.caches new.space) c.store_run.ensures
+    (lent new.file new.caches new.space) c.store_run.ensures.stores

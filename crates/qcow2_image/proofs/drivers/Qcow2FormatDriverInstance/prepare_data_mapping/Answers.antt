@@ -5,7 +5,7 @@ use Rattle.imago_access.specs.Files.{IsMild}
 use Rattle.imago_access.proofs.Looking.{looked_under_same}
 use Rattle.qcow2_image.specs.Looking.{IsWholeRunIn}
 use Rattle.qcow2_image.specs.Seen.{layer_of}
-use Rattle.qcow2_image.proofs.Preparations.Prepared.{fresh-cut, fresh-free, fresh-mine, fresh-run, fresh-size, fresh-whole, limit-where, prepares-fresh, unspent-none}
+use Rattle.qcow2_image.proofs.Preparations.Prepared.{fresh-cut, fresh-free, fresh-mine, fresh-reaches, fresh-run, fresh-size, fresh-whole, limit-where, prepares-fresh, unspent-none}
 use Rattle.qcow2_image.proofs.Preparations.Preparing.{part-why, prepares-mapped, prepares-refused}
 use Rattle.qcow2_image.proofs.Preparations.Reserving.{fresh-lacks, prepared-behind}
 use Rattle.qcow2_image.proofs.drivers.Qcow2FormatDriverInstance.prepare_data_mapping.Goals as goal
@@ -129,6 +129,17 @@ returns-in-Ok-None-clause-part g c =
     let looked = rw c.in-Ok-None.field-0-is at c.in-Ok-None.ensures.keeps in
     let fresh = prepared-behind st {T = Option (ℕ × ℕ)} u asked c.args.self.now c.home_run.new.self x None looked c.prepare_fresh.result c.prepare_fresh.new.self y c.prepare_fresh.ensures in
     fresh-cut g.row.S st g.S.Storage-dict g.S.Destruct-dict u asked c.args.self.now c.prepare_fresh.new.self x y c.prepare_fresh.result fresh
+
+pub returns-in-Ok-None-clause-reaches : goal.returns-in-Ok-None-clause-reaches
+returns-in-Ok-None-clause-reaches g c =
+    let st = g.S.Storage in
+    let asked = asking c.args.offset c.args.length c.args.overwrite in
+    let u = g.B.SeenBelow in
+    let x = c.args.below.now in
+    let y = c.prepare_fresh.new.below in
+    let looked = rw c.in-Ok-None.field-0-is at c.in-Ok-None.ensures.keeps in
+    let fresh = prepared-behind st {T = Option (ℕ × ℕ)} u asked c.args.self.now c.home_run.new.self x None looked c.prepare_fresh.result c.prepare_fresh.new.self y c.prepare_fresh.ensures in
+    fresh-reaches g.row.S st g.S.Storage-dict g.S.Destruct-dict u asked c.args.self.now c.prepare_fresh.new.self x y c.prepare_fresh.result fresh
 
 pub returns-in-Ok-None-clause-limit : goal.returns-in-Ok-None-clause-limit
 returns-in-Ok-None-clause-limit g c = λ sees. limit-where c.prepare_fresh.result ((layer_of g.S.Storage c.args.self.now).home c.args.offset ≡ None)

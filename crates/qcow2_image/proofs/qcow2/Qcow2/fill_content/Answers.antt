@@ -15,4 +15,4 @@ returns g c = λ guest.
     subst (λ (r : Result Unit Fault). FillsContent g.S.Storage guest c.args.host bytes old r c.settle_change.new.self) (sym c.settle_change.ensures.same)
     (subst (λ (d : Qcow2 g.row.S.Denot g.S.Storage). FillsContent g.S.Storage guest c.args.host bytes old c.fill-filled.result d) (sym c.settle_change.ensures.marks)
     (filled g.S.Storage old _ some.0 caches guest c.args.host bytes c.fill-filled.result some.1 some.1 refl c.requires.free
-    (c.fill-filled.ensures guest caches some.0 c.drop_cached-dropped.ensures.empty)))
+    (c.fill-filled.ensures.fills guest caches some.0 c.drop_cached-dropped.ensures.empty) c.fill-filled.ensures.reaches))
