@@ -63,12 +63,12 @@ module _ {S : Type 0} (state : S → StorageState) where
       rw (other name x (All-head (IsOther name) x before others))
       (ap (λ files. extra_bytes state x ∷ files) (rest_is name given taken behind before named (All-tail (IsOther name) x before others)))
 
-  taken_first : (files left : List (String Global × S)) (name : List ℕ) (taken : S) → TakesFirst files name taken left
+  pub taken_first : (files left : List (String Global × S)) (name : List ℕ) (taken : S) → TakesFirst files name taken left
       → first_named name (map (extra_bytes state) files) ≡ (state taken).bytes
   taken_first files left name taken t =
       ap (λ xs. first_named name (map (extra_bytes state) xs)) t.where_is ∙ first_is name t.given taken t.behind t.before t.named t.first
 
-  left_is : (files left : List (String Global × S)) (name : List ℕ) (taken : S) → TakesFirst files name taken left
+  pub left_is : (files left : List (String Global × S)) (name : List ℕ) (taken : S) → TakesFirst files name taken left
       → without_first name (map (extra_bytes state) files) ≡ map (extra_bytes state) left
   left_is files left name taken t =
       ap (λ xs. without_first name (map (extra_bytes state) xs)) t.where_is ∙ rest_is name t.given taken t.behind t.before t.named t.first

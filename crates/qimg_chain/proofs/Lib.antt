@@ -8,7 +8,9 @@ mod FilesShown
 mod FilesTaken
 mod FirstCauses
 mod FitFiles
+mod FlushedFiles
 mod FurtherTaken
+mod HandedIn
 mod ImageKinds
 mod Narrowing
 mod Opened

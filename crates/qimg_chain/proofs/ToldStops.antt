@@ -24,7 +24,7 @@ use Rattle.qimg_chain.specs.ToldStops.{GoesOnTelling, IsLeftIn}
 pub stops-in : (P Q : List ℕ → Type 0) (a b : StorageState) → ((f : List ℕ) → P f → Q f) → StopsIn P a b → StopsIn Q a b
 stops-in P Q a b weaker stops = record { files = stops.files; told = stops.told; each = All-weaker P Q weaker stops.files stops.each }
 
-either-way : (b : Bool) (P Q : Type 0) → Either b P Q → (R : Type 0) → (P → R) → (Q → R) → R
+pub either-way : (b : Bool) (P Q : Type 0) → Either b P Q → (R : Type 0) → (P → R) → (Q → R) → R
 either-way true P Q p R first second = first p
 either-way false P Q q R first second = second q
 
@@ -61,7 +61,7 @@ module _ {D St : Type 0} (g : Ghosts D St) where
 
   -- ---- A list of them.
 
-  later-run : (list : List Call) (answers : List Answer) (old new : Moment D St) → Run g list answers old new → IsLater (image old) (image new)
+  pub later-run : (list : List Call) (answers : List Answer) (old new : Moment D St) → Run g list answers old new → IsLater (image old) (image new)
   later-run [] [] old new same = subst (λ (m : Moment D St). IsLater (image old) (image m)) (sym same) (is_later_same (image old))
   later-run (call ∷ list) (answer ∷ answers) old new run =
       is_later_both (image old) (image run.0) (image new) (later-one call answer old run.0 run.1) run.3

@@ -6,6 +6,7 @@ pub mod Extras
 pub mod FileLayers
 pub mod FileMeanings
 pub mod FilesByName
+pub mod FlushedFiles
 pub mod FurtherFiles
 pub mod Headline
 pub mod ImageDrivers

@@ -1,5 +1,7 @@
-//! Laws of scripts and arguments, of why files don't form a chain, of files that do, of both reads of them, and of stops that are told.
-ghost use Rattle.std.specs.Prelude.{◌≡◌, ◌∷◌, [], ℕ, Bool, List, None, length, true, false};
+//! Laws of scripts and arguments, of why files don't form a chain, of files that do, of both reads of them, of what they mean behind a
+//! flush, and of stops that are told.
+ghost use Rattle.std.specs.Global.{Global};
+ghost use Rattle.std.specs.Prelude.{◌≡◌, ◌∷◌, [], ℕ, Bool, List, None, Option, Result, Vec, length, true, false};
 ghost use Rattle.imago_access.specs.ChainLooks.{ChainReads};
 ghost use Rattle.imago_access.specs.Running.{chain_disk};
 ghost use Rattle.imago_access.specs.declared.format.Format.TheVariants.{Qcow2, Raw};
@@ -14,21 +16,25 @@ ghost use Rattle.qcow2_types.specs.Bytes.{bytes_of};
 ghost use Rattle.qcow2_types.specs.Consistency.{IsConsistent};
 ghost use Rattle.qcow2_types.specs.Header.{Header};
 ghost use Rattle.qimg_calls.specs.Held.{holding};
-ghost use Rattle.qimg_calls.specs.Runs.{moment};
-ghost use Rattle.qimg_calls.specs.Since.{Since};
+ghost use Rattle.qimg_calls.specs.Runs.{Driven, moment};
+ghost use Rattle.qimg_calls.specs.Since.{Since, flushed};
 ghost use Rattle.qimg_calls.specs.declared.call.Answer.{Answer};
 ghost use Rattle.qimg_calls.specs.declared.call.Call.{Call};
 ghost use Rattle.qimg_core.specs.declared.plain.ChainFile.{ChainFile};
 ghost use Rattle.qimg_chain.specs.Arguments.{Asked, AskFor};
 ghost use Rattle.qimg_chain.specs.Chains.{IsFit, OfTop};
 ghost use Rattle.qimg_chain.specs.FileMeanings.{IsDiskOf, files_bytes};
+ghost use Rattle.qimg_chain.specs.FlushedFiles.{EachFlushMeans, HandedMeanToo, IsChainOf};
+ghost use Rattle.qimg_chain.specs.Headline.{RunFrom, ToOpen};
 ghost use Rattle.qimg_chain.specs.PlainReads.{IsPlainlyRead};
 ghost use Rattle.qimg_chain.specs.Refusals.{FirstCause, FormChain};
 ghost use Rattle.qimg_chain.specs.Script.{IsLine};
+ghost use Rattle.qimg_chain.specs.ScriptRuns.{answers_of, calls_of};
 ghost use Rattle.qimg_chain.specs.ToldStops.{GoesOnTelling, IsLeftIn, IsLoggedImage, OpensTelling, StopsConsistent};
+ghost use Rattle.qimg_chain.specs.declared.run.fault.RunFault.{RunFault};
 ghost use Rattle.qimg_chain.specs.declared.script.line.Line.{Line};
 
-use crate::chain::ImageDriver;
+use crate::chain::{ImageDriver, NamesFiles};
 use imago_access::{FormatDriverInstance, Seen};
 use imago_storage::{LogStorage, MemStorage, Storage};
 
@@ -79,6 +85,26 @@ pub fn a_plain_read_and_a_read_agree<S: Storage, T: Storage, D: FormatDriverInst
     ensures again { (files : List (ChainFile T)) (old new : D × List D) (offset n : ℕ) (buf : List ℕ)
         → IsDiskOf (chain_disk D.layer old) (files_bytes T.state files) → ChainReads D.Seen offset n buf old new
         → IsDiskOf (chain_disk D.layer new) (files_bytes T.state files) }
+{}
+
+/// Behind each flush in a list of calls that was done with nothing prepared, where no call before it was cut off, the files of a chain mean
+/// its disk by themselves: the top's as they then are, over those below as they were at opening, which haven't changed. So it is of a chain
+/// as `open_chain` opens it and `qimg_calls::drive` drives it, and of each flush in a script, as `run_files` says what is run.
+pub fn files_mean_the_disk_behind_a_flush<S: Storage, D: NamesFiles>()
+    ensures list { (writable : Bool) (number : ℕ) (files : List (ChainFile S)) (since : Since) (list : List Call) (answers : List Answer)
+        (opened new : D × List D) (driven : Driven D.Seen since list answers opened new)
+        → IsChainOf D.Seen D.names S.state writable number files opened
+        → EachFlushMeans D.Seen D.names opened list answers (moment (holding opened None) since) driven.last }
+    ensures script { (what : ToOpen) (input before after : Option (List ℕ)) (result : Result (Option (Vec ℕ Global)) RunFault)
+        (ran : RunFrom D.Seen D.names what input before after result) (fit : OfTop (IsFit mem_state) what.files)
+        → let replies = ran.scripted.replies in let start = moment (holding ran.opened None) (flushed (chain_disk D.layer ran.opened)) in
+        EachFlushMeans D.Seen D.names ran.opened (calls_of replies) (answers_of replies) start (ran.headline fit).last }
+{}
+
+/// Wherever the files of a chain of images mean its disk so, those do that were handed in, with the bytes that the top's now has. A VMDK
+/// top is taken with its further files by the names by which it asks for them.
+pub fn files_handed_in_mean_the_disk_too<S: Storage>()
+    ensures { HandedMeanToo ⟦<ImageDriver<S> as Seen>⟧ ⟦<ImageDriver<S> as NamesFiles>⟧.names S.state }
 {}
 
 /// Over a chain that tells its stops each file that a stop leaves in a list of calls, none of them cut off, is one that its call may leave

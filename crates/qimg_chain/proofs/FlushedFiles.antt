@@ -1,0 +1,165 @@
+-- Behind a flush the files of a chain mean its disk by themselves.
+use Rattle.std.proofs.Common.{◌≡◌, ◌⊎◌, ◌∙◌, ◌∷◌, ◌<◌, ◌≤◌, [], ℕ, zero, suc, List, ap, arith, inl, inr, refl, subst, sym, take}
+use Rattle.std.specs.Prelude.{Bool, None, Some, false, is_some, map, slice_get, true}
+use Rattle.std.proofs.lemmas.Bool.{lt-ltb}
+use Rattle.imago_storage.specs.Disk.{Value, byte}
+use Rattle.imago_storage.specs.State.{StorageState}
+use Rattle.imago_storage.specs.declared.fault.Fault.TheVariants.{BadArgument}
+use Rattle.imago_access.specs.Chain.{Each, at, disk_of}
+use Rattle.imago_access.specs.Files.{IsKept, Pairs, files_of}
+use Rattle.imago_access.specs.Layer.{Fixed, Layer, IsFree, through, unmapped}
+use Rattle.imago_access.specs.Stops.{IsMeant, IsWritten}
+use Rattle.imago_access.specs.declared.seen.Seen.{Ghosts}
+use Rattle.imago_access.proofs.FilePairs.{kept_all_both, kept_all_same}
+use Rattle.qimg_calls.specs.Calls.{Either, GoesOn, is_out_of_place}
+use Rattle.qimg_calls.specs.Held.{holding, state_of}
+use Rattle.qimg_calls.specs.Runs.{AllGoOn, Goes, Made, Moment, Run, moment}
+use Rattle.qimg_calls.specs.Since.{Since}
+use Rattle.qimg_calls.specs.declared.call.Answer.{Answer}
+use Rattle.qimg_calls.specs.declared.call.Answer.TheVariants as told
+use Rattle.qimg_calls.specs.declared.call.Call.{Call}
+use Rattle.qimg_calls.specs.declared.call.Call.TheVariants as calls
+use Rattle.qimg_core.specs.declared.plain.ChainFile.{ChainFile}
+use Rattle.qimg_chain.specs.Chains.{AreInPlace, AreLayers, IsInPlace}
+use Rattle.qimg_chain.specs.FileMeanings.{FileBytes, FindsByNames, MeansFile, driver_bytes, file_meaning, value_of}
+use Rattle.qimg_chain.specs.FlushedFiles.{EachFlushMeans, FilesMeanDisk, FlushesAt, IsChainOf, ShowDisk}
+use Rattle.qimg_chain.proofs.FilesShown.{over}
+use Rattle.qimg_chain.proofs.ToldStops.{either-way, later-run}
+
+-- ---- Layers over others.
+
+-- a layer that shows those below it, if there are any
+pub shows-below : (below : List Layer) (old layer : Layer) → IsInPlace below old → layer.fixed ≡ old.fixed
+    → (p : ℕ) → (layer.fixed.blank ≡ unmapped) ⊎ (at below p ≡ byte 0)
+shows-below [] old layer place same p = inr refl
+shows-below (next ∷ below) old layer place same p = inl (ap (λ (x : Fixed). x.blank) same ∙ place)
+
+-- A layer whose file means what it says, over layers that show what files mean.
+written-over : (layer : Layer) (below : List Layer) (bytes : List ℕ) (file : FileBytes) (files : List FileBytes) → IsMeant layer bytes
+    → MeansFile layer bytes file → ((p : ℕ) → at below p ≡ value_of files p)
+    → ((p : ℕ) → (layer.fixed.blank ≡ unmapped) ⊎ (at below p ≡ byte 0)) → ShowDisk layer.fixed.exact (disk_of below layer) (file ∷ files)
+written-over layer below bytes file files written means same backed =
+    let shows = λ (p : ℕ) (v : Value) (inside : p < layer.size) (known : (layer.fixed.blank ≡ unmapped) ⊎ (v ≡ byte 0)).
+    ap (λ c. through c v) (sym (written.cell p inside)) ∙ means.cell p v known in
+    let long : layer.size ≤ (file_meaning file).size = omega (arith, written.size, means.size) in
+    record {
+      size = long;
+      value = λ p inside. rw (sym (same p), lt-ltb p layer.size inside, lt-ltb p (file_meaning file).size (omega (arith, inside, long)))
+          (shows p (at below p) inside (backed p));
+      exactly = λ exact. over layer below file files (record { size = sym (written.exactly exact) ∙ means.size; cell = shows }) same backed;
+    }
+
+module _ {D St : Type 0} (g : Ghosts D St) (names : D → ℕ → List ℕ) where
+  -- Layers just opened show what their files mean.
+  shown : {S : Type 0} (state : S → StorageState) (writable : Bool) (number : ℕ) (files : List (ChainFile S)) (ds : List D)
+      → AreLayers g state writable number files ds → AreInPlace (map g.layer ds) → Each (FindsByNames g names) ds
+      → (p : ℕ) → at (map g.layer ds) p ≡ value_of (map (driver_bytes g names) ds) p
+  shown state writable number files [] are places named p = refl
+  shown state writable number [] (d ∷ ds) are places named p = absurd are
+  shown state writable number (file ∷ files) (d ∷ ds) are places named p =
+      let layer = g.layer d in
+      let opened = are.0.opened in
+      let shows = λ (q : ℕ) (v : Value) (inside : q < layer.size) (known : (layer.fixed.blank ≡ unmapped) ⊎ (v ≡ byte 0)).
+      ap (λ c. through c v) (sym (opened.meant.cell q inside)) ∙ named.0.cell q v known in
+      (over layer (map g.layer ds) (driver_bytes g names d) (map (driver_bytes g names) ds)
+      (record { size = opened.size_is ∙ named.0.size; cell = shows })
+      (shown state false 0 files ds are.1 places.1 named.1) (shows-below (map g.layer ds) layer layer places.0 refl)).value p
+
+  pub below-shown : {S : Type 0} (state : S → StorageState) (writable : Bool) (number : ℕ) (files : List (ChainFile S)) (c : D × List D)
+      → IsChainOf g names state writable number files c → (p : ℕ) → at (map g.layer c.1) p ≡ value_of (map (driver_bytes g names) c.1) p
+  below-shown state writable number [] c is p = absurd is.layers
+  below-shown state writable number (file ∷ files) c is p = shown state false 0 files c.1 is.layers.1 is.places.1 is.named.1 p
+
+  -- ---- What a list of calls keeps.
+
+  -- What never changes of the top, the layers below, and their files.
+  record Keeps (opened : D × List D) (m : Moment D St) : Type 0 where
+    fixed : (g.layer m.now.drivers.0).fixed ≡ (g.layer opened.0).fixed
+    below : map g.layer m.now.drivers.1 ≡ map g.layer opened.1
+    files : Pairs IsKept (files_of g opened.1) (files_of g m.now.drivers.1)
+
+  keeps-made : (opened : D × List D) (call : Call) (answer : Answer) (old new : Moment D St) → GoesOn answer → Made g call answer old new
+      → Keeps opened old → Keeps opened new
+  keeps-made opened call answer old new on made keeps = record {
+    fixed = made.fixed ∙ keeps.fixed;
+    below = made.below on ∙ keeps.below;
+    files = kept_all_both (files_of g opened.1) (files_of g old.now.drivers.1) (files_of g new.now.drivers.1) keeps.files made.files;
+  }
+
+  keeps-one : (opened : D × List D) (call : Call) (answer : Answer) (old new : Moment D St) → GoesOn answer → Goes g call answer old new
+      → Keeps opened old → Keeps opened new
+  keeps-one opened call answer old new on goes keeps = either-way (is_out_of_place (is_some old.now.kept) call) _ _ goes (Keeps opened new)
+      (λ out. subst (Keeps opened) (sym out.1) keeps) (λ made. keeps-made opened call answer old new on made keeps)
+
+  -- ---- Behind a flush.
+
+  -- A flush is never out of place.
+  flush-made : (kept : Bool) (answer : Answer) (old new : Moment D St) → Either (is_out_of_place kept calls.Flush)
+      ((answer ≡ told.Refused BadArgument) × (new ≡ old)) (Made g calls.Flush answer old new) → Made g calls.Flush answer old new
+  flush-made true answer old new goes = goes
+  flush-made false answer old new goes = goes
+
+  module _ (finds : (d : D) → g.safe d → FindsByNames g names d) (opened : D × List D)
+      (places : AreInPlace (map g.layer (opened.0 ∷ opened.1)))
+      (shows : (p : ℕ) → at (map g.layer opened.1) p ≡ value_of (map (driver_bytes g names) opened.1) p) where
+    means-behind : (old new : Moment D St) → Keeps opened old → Made g calls.Flush told.Done old new → state_of old.now.kept ≡ None
+        → FilesMeanDisk g names opened new.now.drivers
+    means-behind old new keeps made none =
+        let now = new.now.drivers in
+        let kept = keeps-made opened calls.Flush told.Done old new tt made keeps in
+        let stays : g.layer now.0 ≡ g.layer old.now.drivers.0 = made.moves.0.3.0 in
+        let free : IsFree (g.layer now.0) = made.kept.free (ap state_of made.moves.1 ∙ none) in
+        let written : IsWritten g now.0 = made.moves.0.3.1 (subst IsFree stays free) in
+        let same : (p : ℕ) → at (map g.layer now.1) p ≡ value_of (map (driver_bytes g names) opened.1) p =
+        λ p. ap (λ layers. at layers p) kept.below ∙ shows p in
+        let backed : (p : ℕ) → ((g.layer now.0).fixed.blank ≡ unmapped) ⊎ (at (map g.layer now.1) p ≡ byte 0) =
+        λ p. subst (λ layers. ((g.layer now.0).fixed.blank ≡ unmapped) ⊎ (at layers p ≡ byte 0)) (sym kept.below)
+        (shows-below (map g.layer opened.1) (g.layer opened.0) (g.layer now.0) places.0 kept.fixed p) in
+        record {
+          means = written-over (g.layer now.0) (map g.layer now.1) (g.image now.0).bytes (driver_bytes g names now.0)
+              (map (driver_bytes g names) opened.1) written (finds now.0 (made.ready tt).intact.is_safe) same backed;
+          below = kept.files;
+          fixed = kept.fixed;
+        }
+
+    flushes : (list : List Call) (answers : List Answer) (old last : Moment D St) (place : ℕ) → Keeps opened old
+        → Run g list answers old last → slice_get list place ≡ Some calls.Flush → slice_get answers place ≡ Some told.Done
+        → AllGoOn (take place answers) → FlushesAt g names opened list answers old last place
+    flushes [] answers old last place keeps run is done on = absurd (cc is)
+    flushes (call ∷ list) [] old last place keeps run is done on = absurd run
+    flushes (call ∷ list) (answer ∷ answers) old last zero keeps run is done on =
+        let mid = run.0 in
+        let is_flush : call ≡ calls.Flush = cc is in
+        let is_done : answer ≡ told.Done = cc done in
+        let goes = subst (λ (a : Answer). Goes g calls.Flush a old mid) is_done
+        (subst (λ (c : Call). Goes g c answer old mid) is_flush run.1) in
+        let made = flush-made (is_some old.now.kept) told.Done old mid goes in record {
+          before = old;
+          behind = mid;
+          run = refl;
+          made = made;
+          rest = run.2 (subst GoesOn (sym is_done) tt);
+          means = means-behind old mid keeps made;
+        }
+    flushes (call ∷ list) (answer ∷ answers) old last (suc place) keeps run is done on =
+        let mid = run.0 in
+        let later = flushes list answers mid last place (keeps-one opened call answer old mid on.0 run.1 keeps) (run.2 on.0) is done on.1 in
+        record {
+          before = later.before;
+          behind = later.behind;
+          run = (mid, run.1, (λ _. later.run), later-run g (take place list) (take place answers) mid later.before later.run);
+          made = later.made;
+          rest = later.rest;
+          means = later.means;
+        }
+
+  -- Each flush in a list of calls over a chain that was opened so.
+  pub each-flush : {S : Type 0} (state : S → StorageState) (writable : Bool) (number : ℕ) (files : List (ChainFile S)) (since : Since)
+      (list : List Call) (answers : List Answer) (opened : D × List D) (last : Moment D St) → ((d : D) → g.safe d → FindsByNames g names d)
+      → IsChainOf g names state writable number files opened → Run g list answers (moment (holding opened None) since) last
+      → EachFlushMeans g names opened list answers (moment (holding opened None) since) last
+  each-flush state writable number files since list answers opened last finds is run place is_flush is_done on =
+      let start = moment (holding opened None) since in
+      let keeps : Keeps opened start = record { fixed = refl; below = refl; files = kept_all_same (files_of g opened.1) } in
+      flushes finds opened is.places (below-shown state writable number files opened is) list answers start last place keeps run is_flush
+      is_done on

@@ -1,0 +1,78 @@
+-- What the files of a chain mean by themselves behind a flush.
+use Rattle.std.specs.Prelude.{◌≡◌, ◌≢◌, ◌<◌, ◌≤◌, ℕ, suc, Bool, IsTrue, List, ◌∷◌, None, Some, drop, map, slice_get, take}
+use Rattle.imago_storage.specs.Disk.{Disk}
+use Rattle.imago_storage.specs.State.{StorageState}
+use Rattle.imago_access.specs.Chain.{Each}
+use Rattle.imago_access.specs.Files.{IsKept, Pairs, files_of}
+use Rattle.imago_access.specs.Layers.{chain}
+use Rattle.imago_access.specs.Running.{chain_disk}
+use Rattle.imago_access.specs.declared.format.Format.TheVariants.{Vmdk}
+use Rattle.imago_access.specs.declared.seen.Seen.{Ghosts}
+use Rattle.qimg_calls.specs.Held.{state_of}
+use Rattle.qimg_calls.specs.Runs.{AllGoOn, Made, Moment, Run}
+use Rattle.qimg_calls.specs.declared.call.Answer.{Answer}
+use Rattle.qimg_calls.specs.declared.call.Answer.TheVariants as told
+use Rattle.qimg_calls.specs.declared.call.Call.{Call}
+use Rattle.qimg_calls.specs.declared.call.Call.TheVariants as calls
+use Rattle.qimg_core.specs.declared.plain.ChainFile.{ChainFile}
+use Rattle.qimg_chain.specs.Chains.{AreInPlace, AreLayers}
+use Rattle.qimg_chain.specs.FileMeanings.{FileBytes, FindsByNames, IsDiskOf, driver_bytes, file_bytes, files_bytes, size_of, value_of}
+
+-- A chain was opened over these files. To each layer its file means what it means with the further files found by the names of its driver.
+pub record IsChainOf {S D St : Type 0} (g : Ghosts D St) (names : D → ℕ → List ℕ) (state : S → StorageState) (writable : Bool)
+    (number : ℕ) (files : List (ChainFile S)) (c : D × List D) : Type 0 where
+  pub layers : AreLayers g state writable number files (chain c)
+  pub places : AreInPlace (map g.layer (chain c))
+  pub named : Each (FindsByNames g names) (chain c)
+
+-- the files of a chain: the top's as they now are, over those below as they were at opening
+abbrev pub files_now : {D St : Type 0} → Ghosts D St → (D → ℕ → List ℕ) → D × List D → D × List D → List FileBytes
+files_now g names opened now = driver_bytes g names now.0 ∷ map (driver_bytes g names) opened.1
+
+-- Files show each place of a disk, and no other where the top's states the size of its disk. Else it may be longer, as writes are padded
+-- to whole units.
+pub record ShowDisk (states_size : Bool) (disk : Disk) (files : List FileBytes) : Type 0 where
+  pub size : disk.size ≤ size_of files
+  pub value : (p : ℕ) → p < disk.size → disk.value p ≡ value_of files p
+  pub exactly : IsTrue states_size → IsDiskOf disk files
+
+-- A chain's files mean its disk by themselves. Since it was opened no file below has changed, nor what never changes of the top.
+pub record FilesMeanDisk {D St : Type 0} (g : Ghosts D St) (names : D → ℕ → List ℕ) (opened now : D × List D) : Type 0 where
+  pub means : ShowDisk (g.layer now.0).fixed.exact (chain_disk g.layer now) (files_now g names opened now)
+  pub below : Pairs IsKept (files_of g opened.1) (files_of g now.1)
+  pub fixed : (g.layer now.0).fixed ≡ (g.layer opened.0).fixed
+
+-- the file of a layer with other bytes
+abbrev pub with_image : FileBytes → List ℕ → FileBytes
+with_image file bytes = record file { bytes = bytes }
+
+-- The files that were handed in mean the disk, with the bytes that the top's now has: a VMDK image by the names by which it asks for its
+-- further files.
+pub record HandedMeanDisk {S D St : Type 0} (g : Ghosts D St) (names : D → ℕ → List ℕ) (state : S → StorageState)
+    (file : ChainFile S) (below : List (ChainFile S)) (now : D × List D) : Type 0 where
+  pub named : ShowDisk (g.layer now.0).fixed.exact (chain_disk g.layer now) (driver_bytes g names now.0 ∷ files_bytes state below)
+  pub alone : file.format ≢ Vmdk → ShowDisk (g.layer now.0).fixed.exact (chain_disk g.layer now)
+      (with_image (file_bytes state file) (g.image now.0).bytes ∷ files_bytes state below)
+
+-- so they do wherever a chain's files do
+abbrev pub HandedMeanToo : {S D St : Type 0} → Ghosts D St → (D → ℕ → List ℕ) → (S → StorageState) → Type 0
+HandedMeanToo {S = S} {D = D} g names state = (writable : Bool) (number : ℕ) (file : ChainFile S) (below : List (ChainFile S))
+    (opened now : D × List D) → IsChainOf g names state writable number (file ∷ below) opened → FilesMeanDisk g names opened now
+    → HandedMeanDisk g names state file below now
+
+-- The call at a place of a list is a flush that was done, between two moments. Behind it the files mean the disk, if nothing was prepared.
+pub record FlushesAt {D St : Type 0} (g : Ghosts D St) (names : D → ℕ → List ℕ) (opened : D × List D) (list : List Call)
+    (answers : List Answer) (start last : Moment D St) (place : ℕ) : Type 0 where
+  pub before : Moment D St
+  pub behind : Moment D St
+  pub run : Run g (take place list) (take place answers) start before
+  pub made : Made g calls.Flush told.Done before behind
+  pub rest : Run g (drop (suc place) list) (drop (suc place) answers) behind last
+  pub means : state_of before.now.kept ≡ None → FilesMeanDisk g names opened behind.now.drivers
+
+-- each flush of a list that was done, where no call before it was cut off
+abbrev pub EachFlushMeans : {D St : Type 0} → Ghosts D St → (D → ℕ → List ℕ) → D × List D → List Call → List Answer → Moment D St
+    → Moment D St → Type 0
+EachFlushMeans g names opened list answers start last =
+    (place : ℕ) → slice_get list place ≡ Some calls.Flush → slice_get answers place ≡ Some told.Done → AllGoOn (take place answers)
+    → FlushesAt g names opened list answers start last place
