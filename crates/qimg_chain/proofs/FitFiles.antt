@@ -48,10 +48,10 @@ module _ {S : Type 0} (state : S → StorageState) where
 
   -- ---- An image in a storage that begins to tell its stops.
 
-  pub logged-alone : (writable : Bool) (file : ChainFile S) → IsLoggedImage state file → FormChain state writable (file ∷ [])
-  logged-alone writable file is =
+  pub logged-alone : (writable : Bool) (file : ChainFile S) (is : IsLoggedImage state file) → is.header.backing_name ≡ None → FormChain state writable (file ∷ [])
+  logged-alone writable file is none =
       let same = ap (λ (s : StorageState). s.bytes) is.logged in
-      image-alone writable file is.header is.format (subst (λ (f : List ℕ). IsConsistent (bytes_of f) is.header) (sym same) is.sound) is.alone
+      image-alone writable file is.header is.format (subst (λ (f : List ℕ). IsConsistent (bytes_of f) is.header) (sym same) is.sound) none
 
   pub logged-fits : (file : ChainFile S) → IsLoggedImage state file → OfTop (IsFit state) (file ∷ [])
   logged-fits file is =

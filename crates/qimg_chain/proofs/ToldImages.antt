@@ -1,5 +1,5 @@
 -- An image in a storage that begins to tell its stops opens as a chain that tells them.
-use Rattle.std.proofs.Common.{◌≡◌, ◌∙◌, ℕ, List, [], arith, refl, sym, subst, ap}
+use Rattle.std.proofs.Common.{◌≡◌, ◌∙◌, ℕ, List, [], ◌∷◌, arith, refl, sym, subst, ap}
 use Rattle.std.specs.Prelude.{Bool, IsTrue}
 use Rattle.imago_storage.specs.State.{Shape, StorageState}
 use Rattle.imago_access.specs.declared.format.Format.TheVariants.{Qcow2}
@@ -12,7 +12,7 @@ use Rattle.qcow2_types.specs.Consistency.{Consistent}
 use Rattle.qimg_calls.specs.Since.{flushed}
 use Rattle.qimg_core.specs.declared.plain.ChainFile.{ChainFile}
 use Rattle.qimg_chain.specs.Chains.{IsSoundAs}
-use Rattle.qimg_chain.specs.ToldStops.{IsLoggedImage, OpensTelling, StopsConsistent}
+use Rattle.qimg_chain.specs.ToldStops.{AreLoggedFiles, OpensTelling, StopsConsistent}
 use Rattle.qimg_chain.proofs.FitFiles.{logged-fits, logged-step}
 use Rattle.qimg_chain.proofs.Opened.{ready, stands}
 use Rattle.qimg_chain.proofs.ToldStops.{stops-in, stops-told}
@@ -21,15 +21,17 @@ module _ {S D St : Type 0} (g : Ghosts D St) (state : S → StorageState) (free_
     (keeps_so : (d : D) → (g.layer d).fixed.keeps ≡ keep_all (g.image d) (g.extras d))
     (sound_so : (d : D) (f : List ℕ) → IsSoundAs (g.layer d).fixed.format f → g.sound (g.layer d).fixed.kind f)
     (exact_so : (d : D) → (g.layer d).fixed.format ≡ Qcow2 → IsTrue (g.layer d).fixed.exact) where
-  pub opens-telling : (writable : Bool) (number : ℕ) (file : ChainFile S) → IsLoggedImage state file → OpensTelling g state writable number file
-  opens-telling writable number file is c opened =
+  pub opens-telling : (writable : Bool) (number : ℕ) (files : List (ChainFile S)) → AreLoggedFiles state writable files → OpensTelling g state writable number files
+  opens-telling writable number [] are c opened = absurd are.1
+  opens-telling writable number (file ∷ below) are c opened =
+      let is = are.1 in
       let top = opened.layers.0.opened in
       let kept = top.kept.0 in
       let shape = kept.shape ∙ ap (λ (s : StorageState). s.shape) is.logged in
       let refusals = kept.refusals ∙ ap (λ (s : StorageState). s.refusals) is.logged in
       record {
-        ready = ready g state free_loose keeps_so sound_so writable number file [] (omega arith) c opened.layers opened.places (logged-fits state file is);
-        stands = stands g state writable number file [] c opened.layers (logged-step state file is);
+        ready = ready g state free_loose keeps_so sound_so writable number file below are.0.1 c opened.layers opened.places (logged-fits state file is);
+        stands = stands g state writable number file below c opened.layers (logged-step state file is);
         sized = exact_so c.0 (top.format_is ∙ is.format);
         tells = subst (λ (s : Shape). IsTrue s.tells) (sym shape) refl;
         keeps = subst (λ (s : Shape). IsTrue s.keeps) (sym shape) refl;
@@ -37,9 +39,10 @@ module _ {S D St : Type 0} (g : Ghosts D St) (state : S → StorageState) (free_
       }
 
   pub stops-consistent : ((d : D) (f : List ℕ) → (g.layer d).fixed.format ≡ Qcow2 → g.sound (g.layer d).fixed.kind f → Consistent (bytes_of f))
-      → (writable : Bool) (number : ℕ) (file : ChainFile S) → IsLoggedImage state file → StopsConsistent g state writable number file
-  stops-consistent consistent_so writable number file is list answers c new opened driven on =
+      → (writable : Bool) (number : ℕ) (files : List (ChainFile S)) → AreLoggedFiles state writable files → StopsConsistent g state writable number files
+  stops-consistent consistent_so writable number [] are list answers c new opened driven on = absurd are.1
+  stops-consistent consistent_so writable number (file ∷ below) are list answers c new opened driven on =
       let since = flushed (chain_disk g.layer c) in
-      let format = opened.layers.0.opened.format_is ∙ is.format in
+      let format = opened.layers.0.opened.format_is ∙ are.1.format in
       stops-in _ (λ f. Consistent (bytes_of f)) (g.image c.0) (g.image new.0) (λ f left. consistent_so c.0 f format left.1)
-      (stops-told g since list answers c new (record { telling = opens-telling writable number file is c opened; driven = driven; on = on }))
+      (stops-told g since list answers c new (record { telling = opens-telling writable number (file ∷ below) are c opened; driven = driven; on = on }))

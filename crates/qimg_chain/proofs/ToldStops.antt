@@ -1,8 +1,8 @@
 -- Stops in a list of calls over a chain that tells them.
-use Rattle.std.proofs.Common.{◌≡◌, ℕ, zero, suc, List, [], ◌∷◌, arith, refl, sym, subst, ap, take}
-use Rattle.std.specs.Prelude.{Bool, true, false, IsTrue, MatchOption, Option, Some, None, is_some}
+use Rattle.std.proofs.Common.{◌≡◌, ◌+◌, ◌<◌, ℕ, zero, suc, List, [], ◌∷◌, arith, refl, sym, subst, ap, take}
+use Rattle.std.specs.Prelude.{◌^◌, Bool, true, false, IsTrue, MatchOption, Option, Some, None, is_some}
 use Rattle.std.proofs.lemmas.List.Elements.{All-weaker}
-use Rattle.imago_storage.specs.State.{Rose, StorageState}
+use Rattle.imago_storage.specs.State.{InStep, Rose, Shape, StorageState}
 use Rattle.imago_storage.specs.Passing.{Passes}
 use Rattle.imago_storage.specs.Through.{StopsIn}
 use Rattle.imago_storage.proofs.Composing.{no_stops}
@@ -13,13 +13,13 @@ use Rattle.imago_access.specs.declared.mapping.PreparedDataMapping.{PreparedData
 use Rattle.imago_access.specs.declared.seen.Seen.{Ghosts}
 use Rattle.imago_access.proofs.FilePairs.{is_later_both, is_later_same}
 use Rattle.imago_access.proofs.Stopping.{passes_both}
-use Rattle.qimg_calls.specs.Calls.{Either, is_out_of_place}
+use Rattle.qimg_calls.specs.Calls.{Either, GoesOn, is_out_of_place}
 use Rattle.qimg_calls.specs.Held.{holding}
 use Rattle.qimg_calls.specs.Runs.{AllGoOn, Goes, IsLeftBy, Made, Moment, Run, StatesSize, moment}
 use Rattle.qimg_calls.specs.Since.{Since}
 use Rattle.qimg_calls.specs.declared.call.Call.{Call}
 use Rattle.qimg_calls.specs.declared.call.Answer.{Answer}
-use Rattle.qimg_chain.specs.ToldStops.{GoesOnTelling, IsLeftIn}
+use Rattle.qimg_chain.specs.ToldStops.{GoesOnTelling, IsLeftIn, TellsAll, TellsRun}
 
 pub stops-in : (P Q : List ℕ → Type 0) (a b : StorageState) → ((f : List ℕ) → P f → Q f) → StopsIn P a b → StopsIn Q a b
 stops-in P Q a b weaker stops = record { files = stops.files; told = stops.told; each = All-weaker P Q weaker stops.files stops.each }
@@ -130,3 +130,47 @@ module _ {D St : Type 0} (g : Ghosts D St) where
       let refusals = (goes.driven.calm goes.on).1 in
       let calm : Rose a.refusals b.refusals → ⊥ = λ r. omega (arith, refusals, r.rose (omega (arith, refusals, t.room))) in
       (passes calm).1 (λ _ _. (t.stands t.sized t.tells t.keeps t.room).0) t.tells t.keeps
+
+  -- ---- The same in their order.
+
+  -- what one call tells, and that the next one may be told, too
+  abbrev Tells : Call → Moment D St → Moment D St → Type 0
+  Tells call old m = StopsIn (IsLeftBy g call old) (image old) (image m) × (InStep (image old) → InStep (image m)) × ((image m).refusals ≡ (image old).refusals)
+
+  tells-one : (call : Call) (answer : Answer) (old new : Moment D St) → StatesSize g old.now.drivers → GoesOn answer → InStep (image old)
+      → IsTrue (image old).shape.tells → IsTrue (image old).shape.keeps → (image old).refusals + 1 < 2 ^ 64 → Goes g call answer old new → Tells call old new
+  tells-one call answer old new sized on step tells keeps room goes =
+      by-case (Tells call old) call answer old new goes
+      (no_stops (IsLeftBy g call old) (image old) (image old) refl refl step tells keeps, (λ still. still), refl)
+      (λ made.
+      let calm = made.calm on in
+      let passes = made.stops sized (λ r. omega (arith, calm.1, r.rose (omega (arith, calm.1, room)))) in
+      (passes.1 step tells keeps, passes.0, calm.1))
+
+  tells-run : (list : List Call) (answers : List Answer) (old new : Moment D St) → StatesSize g old.now.drivers → AllGoOn answers → InStep (image old)
+      → IsTrue (image old).shape.tells → IsTrue (image old).shape.keeps → (image old).refusals + 1 < 2 ^ 64 → Run g list answers old new → TellsRun g list answers old new
+  tells-run [] [] old new sized on step tells keeps room same = same
+  tells-run (call ∷ list) (answer ∷ answers) old new sized on step tells keeps room run =
+      let mid = run.0 in
+      let sized_then = subst (λ (x : Fixed). IsTrue x.exact) (sym (fixed-one call answer old mid run.1)) sized in
+      let one = tells-one call answer old mid sized on.0 step tells keeps room run.1 in
+      let shape = (later-one call answer old mid run.1).0 in (
+        mid,
+        run.1,
+        one.0,
+        tells-run list answers mid new sized_then on.1 (one.1 step) (subst (λ (s : Shape). IsTrue s.tells) (sym shape) tells)
+            (subst (λ (s : Shape). IsTrue s.keeps) (sym shape) keeps) (omega (arith, one.2, room)) (run.2 on.0),
+      )
+  tells-run [] (answer ∷ answers) old new sized on step tells keeps room run = absurd run
+  tells-run (call ∷ list) [] old new sized on step tells keeps room run = absurd run
+
+  pub in-order : (since : Since) (list : List Call) (answers : List Answer) (old new : D × List D) → GoesOnTelling g since list answers old new
+      → TellsAll g list answers (moment (holding old None) since) new
+  in-order since list answers old new goes =
+      let t = goes.telling in
+      let last = goes.driven.last in (
+        last,
+        tells-run list answers (moment (holding old None) since) last t.sized goes.on (λ _ _. (t.stands t.sized t.tells t.keeps t.room).0) t.tells t.keeps t.room
+            goes.driven.run,
+        ended last.now.kept last.now.drivers new (goes.driven.ends goes.on),
+      )

@@ -12,12 +12,13 @@ use Rattle.qcow2_types.specs.Bytes.{bytes_of}
 use Rattle.qcow2_types.specs.Consistency.{Consistent, IsConsistent}
 use Rattle.qcow2_types.specs.Header.{Header}
 use Rattle.qimg_calls.specs.Held.{IsReady}
-use Rattle.qimg_calls.specs.Runs.{AllGoOn, Driven, IsLeftBy, Moment, Run, StandsSince, StatesSize}
+use Rattle.qimg_calls.specs.Runs.{AllGoOn, Driven, Goes, IsLeftBy, Moment, Run, StandsSince, StatesSize}
 use Rattle.qimg_calls.specs.Since.{Since, flushed}
 use Rattle.qimg_calls.specs.declared.call.Call.{Call}
 use Rattle.qimg_calls.specs.declared.call.Answer.{Answer}
 use Rattle.qimg_core.specs.declared.plain.ChainFile.{ChainFile}
-use Rattle.qimg_chain.specs.Chains.{AreInPlace, AreLayers}
+use Rattle.qimg_chain.specs.Chains.{AreInPlace, AreLayers, OfTop}
+use Rattle.qimg_chain.specs.Refusals.{FormChain}
 
 -- All that what is said of stops in a list of calls rests on: calls may begin, and the chain shows what it may since the last flush; the
 -- top's file states the size of its disk; and its storage tells its stops, keeps what is written, and can count one more refused change.
@@ -39,6 +40,19 @@ pub record IsLeftIn {D St : Type 0} (g : Ghosts D St) (list : List Call) (answer
   pub run : Run g (take before list) (take before answers) old entry
   pub left : IsLeftBy g call entry f
 
+-- A list of calls, from moment to moment, with the files that stops leave in their order: those of each call are such as this call may
+-- leave then.
+abbrev pub TellsRun : {D St : Type 0} → Ghosts D St → List Call → List Answer → Moment D St → Moment D St → Type 0
+TellsRun g [] [] old new = new ≡ old
+TellsRun {D} {St} g (call ∷ calls) (answer ∷ answers) old new = (mid : Moment D St) × Goes g call answer old mid
+    × StopsIn (IsLeftBy g call old) (g.image old.now.drivers.0) (g.image mid.now.drivers.0) × TellsRun g calls answers mid new
+TellsRun g _ _ old new = ⊥
+
+-- the same of a list behind which a chain stands: nothing is asked of the top's file at its end
+abbrev pub TellsAll : {D St : Type 0} → Ghosts D St → List Call → List Answer → Moment D St → D × List D → Type 0
+TellsAll {D} {St} g list answers old new =
+    (last : Moment D St) × TellsRun g list answers old last × (g.image new.0 ≡ g.image last.now.drivers.0)
+
 -- The chain tells its stops, a list of calls is driven over it, and none of them is cut off.
 pub record GoesOnTelling {D St : Type 0} (g : Ghosts D St) (since : Since) (list : List Call) (answers : List Answer)
     (old new : D × List D) : Type 0 where
@@ -46,8 +60,7 @@ pub record GoesOnTelling {D St : Type 0} (g : Ghosts D St) (since : Since) (list
   pub driven : Driven g since list answers old new
   pub on : AllGoOn answers
 
--- A file is a consistent qcow2 image that names no backing file, without further files, in a storage that begins to tell its stops over new
--- memory.
+-- A file is a consistent qcow2 image, without further files, in a storage that begins to tell its stops over new memory.
 pub record IsLoggedImage {S : Type 0} (state : S → StorageState) (file : ChainFile S) : Type 0 where
   pub format : file.format ≡ Qcow2
   pub none : file.extras.items ≡ []
@@ -56,21 +69,28 @@ pub record IsLoggedImage {S : Type 0} (state : S → StorageState) (file : Chain
   pub logged : state file.image ≡ telling (memory bytes align 0)
   pub header : Header
   pub sound : IsConsistent (bytes_of bytes) header
-  pub alone : header.backing_name ≡ None
 
--- The chain is as the file opens by itself.
-pub record IsOpenedAlone {S D St : Type 0} (g : Ghosts D St) (state : S → StorageState) (writable : Bool) (number : ℕ)
-    (file : ChainFile S) (c : D × List D) : Type 0 where
-  pub layers : AreLayers g state writable number (file ∷ []) (chain c)
+-- the same of one that names no backing file
+abbrev pub IsLoggedAlone : {S : Type 0} → (S → StorageState) → ChainFile S → Type 0
+IsLoggedAlone state file = (image : IsLoggedImage state file) × (image.header.backing_name ≡ None)
+
+-- Files that form a chain, of which the top is such an image.
+abbrev pub AreLoggedFiles : {S : Type 0} → (S → StorageState) → Bool → List (ChainFile S) → Type 0
+AreLoggedFiles state writable files = FormChain state writable files × OfTop (IsLoggedImage state) files
+
+-- The chain is as the files open.
+pub record IsOpenedOver {S D St : Type 0} (g : Ghosts D St) (state : S → StorageState) (writable : Bool) (number : ℕ)
+    (files : List (ChainFile S)) (c : D × List D) : Type 0 where
+  pub layers : AreLayers g state writable number files (chain c)
   pub places : AreInPlace (map g.layer (chain c))
 
--- A chain that the file opens as tells its stops from there on, with its disk as the one last flushed.
-abbrev pub OpensTelling : {S D St : Type 0} → Ghosts D St → (S → StorageState) → Bool → ℕ → ChainFile S → Type 0
-OpensTelling {D = D} g state writable number file =
-    (c : D × List D) → IsOpenedAlone g state writable number file c → TellsStops g (flushed (chain_disk g.layer c)) c
+-- A chain that the files open as tells its stops from there on, with its disk as the one last flushed.
+abbrev pub OpensTelling : {S D St : Type 0} → Ghosts D St → (S → StorageState) → Bool → ℕ → List (ChainFile S) → Type 0
+OpensTelling {D = D} g state writable number files =
+    (c : D × List D) → IsOpenedOver g state writable number files c → TellsStops g (flushed (chain_disk g.layer c)) c
 
 -- Each file that a stop leaves in a list of calls over it is a consistent image, where no call is cut off.
-abbrev pub StopsConsistent : {S D St : Type 0} → Ghosts D St → (S → StorageState) → Bool → ℕ → ChainFile S → Type 0
-StopsConsistent {D = D} g state writable number file = (list : List Call) (answers : List Answer) (c new : D × List D)
-    → IsOpenedAlone g state writable number file c → Driven g (flushed (chain_disk g.layer c)) list answers c new → AllGoOn answers
+abbrev pub StopsConsistent : {S D St : Type 0} → Ghosts D St → (S → StorageState) → Bool → ℕ → List (ChainFile S) → Type 0
+StopsConsistent {D = D} g state writable number files = (list : List Call) (answers : List Answer) (c new : D × List D)
+    → IsOpenedOver g state writable number files c → Driven g (flushed (chain_disk g.layer c)) list answers c new → AllGoOn answers
     → StopsIn (λ f. Consistent (bytes_of f)) (g.image c.0) (g.image new.0)

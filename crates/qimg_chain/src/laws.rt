@@ -30,7 +30,7 @@ ghost use Rattle.qimg_chain.specs.PlainReads.{IsPlainlyRead};
 ghost use Rattle.qimg_chain.specs.Refusals.{FirstCause, FormChain};
 ghost use Rattle.qimg_chain.specs.Script.{IsLine};
 ghost use Rattle.qimg_chain.specs.ScriptRuns.{answers_of, calls_of};
-ghost use Rattle.qimg_chain.specs.ToldStops.{GoesOnTelling, IsLeftIn, IsLoggedImage, OpensTelling, StopsConsistent};
+ghost use Rattle.qimg_chain.specs.ToldStops.{AreLoggedFiles, GoesOnTelling, IsLeftIn, IsLoggedAlone, OpensTelling, StopsConsistent, TellsAll};
 ghost use Rattle.qimg_chain.specs.declared.run.fault.RunFault.{RunFault};
 ghost use Rattle.qimg_chain.specs.declared.script.line.Line.{Line};
 
@@ -113,6 +113,8 @@ pub fn stops_in_a_list_are_those_of_its_calls<D: FormatDriverInstance>()
     ensures left { (since : Since) (list : List Call) (answers : List Answer) (old new : D × List D)
         → GoesOnTelling D.Seen since list answers old new
         → StopsIn (IsLeftIn D.Seen list answers (moment (holding old None) since)) (D.image old.0) (D.image new.0) }
+    ensures in_order { (since : Since) (list : List Call) (answers : List Answer) (old new : D × List D)
+        → GoesOnTelling D.Seen since list answers old new → TellsAll D.Seen list answers (moment (holding old None) since) new }
     ensures sound { (since : Since) (list : List Call) (answers : List Answer) (old new : D × List D)
         → GoesOnTelling D.Seen since list answers old new
         → StopsIn (D.sound (D.layer old.0).fixed.kind) (D.image old.0) (D.image new.0) }
@@ -120,27 +122,27 @@ pub fn stops_in_a_list_are_those_of_its_calls<D: FormatDriverInstance>()
 
 /// A consistent qcow2 image in a storage that begins to tell its stops over new memory opens as a chain that tells them.
 fn an_image_opens_telling_its_stops<S: Storage>()
-    ensures formed { (writable : Bool) (file : ChainFile S) → IsLoggedImage S.state file
+    ensures formed { (writable : Bool) (file : ChainFile S) → IsLoggedAlone S.state file
         → FormChain S.state writable (file ∷ []) × OfTop (IsFit S.state) (file ∷ []) × OfTop (λ f. InStep (S.state f.image)) (file ∷ []) }
-    ensures telling { let d = ⟦<ImageDriver<S> as Seen>⟧ in (writable : Bool) (number : ℕ) (file : ChainFile S)
-        → IsLoggedImage S.state file → OpensTelling d S.state writable number file }
-    ensures stops { let d = ⟦<ImageDriver<S> as Seen>⟧ in (writable : Bool) (number : ℕ) (file : ChainFile S)
-        → IsLoggedImage S.state file → StopsConsistent d S.state writable number file }
+    ensures telling { let d = ⟦<ImageDriver<S> as Seen>⟧ in (writable : Bool) (number : ℕ) (files : List (ChainFile S))
+        → AreLoggedFiles S.state writable files → OpensTelling d S.state writable number files }
+    ensures stops { let d = ⟦<ImageDriver<S> as Seen>⟧ in (writable : Bool) (number : ℕ) (files : List (ChainFile S))
+        → AreLoggedFiles S.state writable files → StopsConsistent d S.state writable number files }
 {}
 
-/// A consistent qcow2 image that names no backing file, in a new `LogStorage` over new memory, is a chain by itself, and as `open_chain`
-/// opens it, one that tells its stops. So each file that a stop leaves in a list of calls over it, none of them cut off, is a consistent
-/// image.
+/// Files that form a chain with a consistent qcow2 image on top, in a new `LogStorage` over new memory, open by `open_chain` as one that
+/// tells its stops. So each file that a stop leaves in a list of calls over it, none of them cut off, is a consistent image. Such an image
+/// that names no backing file is a chain by itself.
 pub fn an_image_on_a_log_opens_telling_its_stops()
-    ensures formed { (writable : Bool) (file : ChainFile (LogStorage MemStorage)) → IsLoggedImage (log_state mem_state) file
+    ensures formed { (writable : Bool) (file : ChainFile (LogStorage MemStorage)) → IsLoggedAlone (log_state mem_state) file
         → FormChain (log_state mem_state) writable (file ∷ []) × OfTop (IsFit (log_state mem_state)) (file ∷ [])
         × OfTop (λ f. InStep (log_state mem_state f.image)) (file ∷ []) }
     ensures telling { let d = ⟦<ImageDriver<LogStorage<MemStorage>> as Seen>⟧ in
-        (writable : Bool) (number : ℕ) (file : ChainFile (LogStorage MemStorage))
-        → IsLoggedImage (log_state mem_state) file → OpensTelling d (log_state mem_state) writable number file }
+        (writable : Bool) (number : ℕ) (files : List (ChainFile (LogStorage MemStorage)))
+        → AreLoggedFiles (log_state mem_state) writable files → OpensTelling d (log_state mem_state) writable number files }
     ensures stops { let d = ⟦<ImageDriver<LogStorage<MemStorage>> as Seen>⟧ in
-        (writable : Bool) (number : ℕ) (file : ChainFile (LogStorage MemStorage))
-        → IsLoggedImage (log_state mem_state) file → StopsConsistent d (log_state mem_state) writable number file }
+        (writable : Bool) (number : ℕ) (files : List (ChainFile (LogStorage MemStorage)))
+        → AreLoggedFiles (log_state mem_state) writable files → StopsConsistent d (log_state mem_state) writable number files }
 {
     an_image_opens_telling_its_stops::<LogStorage<MemStorage>>()
 }

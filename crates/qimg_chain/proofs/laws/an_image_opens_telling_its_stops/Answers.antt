@@ -5,7 +5,7 @@ use Rattle.qimg_chain.proofs.laws.an_image_opens_telling_its_stops.Goals as goal
 
 pub returns-clause-formed : goal.returns-clause-formed
 returns-clause-formed g c writable file is =
-    (logged-alone g.S.Storage.state writable file is, logged-fits g.S.Storage.state file is, logged-step g.S.Storage.state file is)
+    (logged-alone g.S.Storage.state writable file is.0 is.1, logged-fits g.S.Storage.state file is.0, logged-step g.S.Storage.state file is.0)
 
 pub returns-clause-telling : goal.returns-clause-telling
 returns-clause-telling g c =
