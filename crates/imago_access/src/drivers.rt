@@ -368,8 +368,8 @@ pub trait FormatDriverInstance: Seen {
         ensures marks { IfErr result (Marks Self.Seen self.old self.new) }
         ensures cause { IfErr result (RefusesFlush Self.Seen self.old self.new) };
 
-    /// Drops what it holds in memory, written or not, and reads what it needs of its files again. Nothing may be prepared. Right after a
-    /// flush it changes no value.
+    /// Drops what it holds in memory, written or not, and reads what it needs of its files again. Nothing may be prepared. Where it
+    /// succeeds right after a flush, lookups were true and its storages keep what is written, it changes no value, and they stay true.
     ///
     /// It refuses with `Fault::DamagedHeader`, `Fault::DamagedTable`, `Fault::Unsupported`, `Fault::Limit` and `Fault::CacheFull`, with
     /// which the image has failed, and with `Fault::Memory` and `Fault::Storage`.

@@ -123,7 +123,7 @@ pub record Stores {S : Type 0} (state : S → StorageState) (content : List ℕ)
   pub cause : IfErr result (WhyNotAllocated (IsReady state c) (IsFull 1 (resting state c) (mark_in c) (resting state c') (mark_in c'))
       (storage state c).faults (storage state c').faults)
 
--- The file is as long as the end of n clusters in a row.
+-- The file is at least as long as the end of n clusters in a row.
 abbrev pub ReachesEnd : {S : Type 0} → (S → StorageState) → (x n : ℕ) → (before after : ImageFile S) → Type 0
 ReachesEnd state x n before after = (x + n) * cluster_size before.header.fields ≤ length (state after.image).bytes
 

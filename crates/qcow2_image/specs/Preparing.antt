@@ -145,7 +145,7 @@ pub record IsRun {S : Type 0} (g : Ghosts S) (asked : Asked) (n : ℕ) (d : Qcow
   pub uncopied : IsSeen g d.tables → let h = d.tables.file.header.fields in let first = asked.offset / cluster_size h in
       IsUncopied (entry (file_of g d.tables) h first) → (i : ℕ) → i < n → IsUncopied (entry (file_of g d.tables) h (first + i))
 
--- The file is as long as the end of the clusters that are held for what is prepared, so that words may come to name them.
+-- The file is at least as long as the end of the clusters that are held for what is prepared, so that words may come to name them.
 abbrev pub ReachesHeld : {S : Type 0} (g : Ghosts S) → Qcow2 S g → Type 0
 ReachesHeld g d = IfSome (holding_in g d.unspent) (λ held.
     (held.host + held.count) * cluster_size d.tables.file.header.fields ≤ length (g.state d.tables.file.image).bytes)

@@ -139,7 +139,7 @@ impl<S: Storage> FormatDriverInstance for Qcow2<S> {
             d.sees self.old → IfErr result (RefusesLookup d offset max_length self.old self.new) }
         // It is marked as failed behind a storage's fault alone.
         ensures marked { self.new.failed ≡ failed_behind failed_by result self.old.failed }
-        // It makes no request but reads.
+        // Its file is as it was, but for counts of faults.
         ensures reads { let d = ⟦<Qcow2<S> as Seen>⟧ in Pairs IsKept (files d self.old) (files d self.new) }
         // It answers the entry of the guest cluster, for as long a run as goes on under one L2 table.
         ensures entry { let t = self.old.tables in 0 < max_length → offset < t.file.header.fields.size
@@ -242,7 +242,7 @@ impl<S: Storage> FormatDriverInstance for Qcow2<S> {
             → IfOk result (λ m. 0 < length → m.state ≡ None → IsWholeRunIn S.Storage t offset length m.length) }
         ensures part { let asked = asking offset length overwrite in
             IfOk result (λ m. IsSome m.state → IsPartOfRun S.Storage asked m.length self.old) }
-        // Then the file is as long as the end of the clusters that are held for it: no word comes to name what lies behind its end.
+        // Then the file reaches at least the end of the clusters that are held for it.
         ensures reaches { IfOk result (λ m. IsSome m.state → ReachesHeld S.Storage self.new) }
         // It is refused with a limit only where the first place can't be written.
         ensures limit { let d = ⟦<Qcow2<S> as Seen>⟧ in

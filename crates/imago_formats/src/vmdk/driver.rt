@@ -68,7 +68,9 @@ impl<S: Storage> Vmdk<S> {
         })
     }
 
-    /// Whether a storage is a VMDK descriptor, by its first line.
+    /// Whether a storage is a VMDK descriptor, by its first line. Its bytes stay.
+    ///
+    /// It refuses with `Fault::Memory` and `Fault::Storage`.
     pub fn probe(alloc: Global, image: &mut S) -> Result<bool, Fault>
         ensures ok { IfOk result (λ yes. yes ≡ is_signed (text_of (S.state image.old).bytes)) }
         ensures kept { Kept (S.state image.old) (S.state image.new) }
