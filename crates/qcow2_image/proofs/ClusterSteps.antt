@@ -1,10 +1,9 @@
 -- What single changes of its clusters leave of an image.
-use Rattle.std.proofs.Common.{◌≡◌, ◌≢◌, ℕ, ◌+◌, ◌-◌, ◌*◌, ◌/◌, ◌^◌, ◌<◌, ◌≤◌, refl, arith, ap, sym, subst, ◌∙◌, inl, inr, Bool, true, false, List, [], ◌++◌, length, Option, Some, None, Result, Ok, Err}
+use Rattle.std.proofs.Common.{◌≡◌, ◌≢◌, ℕ, ◌+◌, ◌-◌, ◌*◌, ◌/◌, ◌^◌, ◌<◌, ◌≤◌, refl, arith, ap, sym, subst, ◌∙◌, inl, inr, Bool, true, false, List, [], length, Option, Some, None, Result, Ok, Err}
 use Rattle.std.proofs.Math.Nat.{le-max_left, le-max_right}
 use Rattle.std.proofs.lemmas.Bool.{cases_eq, cases_lt, le-ltb, ne_eqb}
-use Rattle.std.proofs.lemmas.List.{append-nil}
 use Rattle.std.proofs.lemmas.Nat.{pow_pos}
-use Rattle.std.specs.Prelude.{⊤, ◌⊎◌, IsTrue, IsSome, IfSome, is_some, IfOk, IfErr, OnOk, max, min, replicate, slice_index, ◌==◌, if◌then◌else◌}
+use Rattle.std.specs.Prelude.{⊤, ◌⊎◌, IsTrue, IsSome, IfSome, is_some, IfOk, IfErr, OnOk, max, min, slice_index, ◌==◌, if◌then◌else◌}
 use Rattle.imago_storage.specs.State.{Rose, StorageState}
 use Rattle.imago_storage.specs.Calls.{Cause}
 use Rattle.imago_storage.specs.Disk.{Value}
@@ -79,11 +78,6 @@ some-there (Some space) is = (space, refl)
 pub none-some : {A : Type 0} (o : Option Space) → o ≡ None → IsSome o → A
 none-some None is some = absurd (cc some)
 none-some (Some x) is some = absurd (cc is)
-
--- Nothing is added to a list that is as long.
-padded-none : (ws : List ℕ) (n : ℕ) → n ≡ length ws → padded ws n ≡ ws
-padded-none ws n is =
-    ap (λ k. ws ++ replicate k 0) (let none : n - length ws ≡ 0 = omega (arith, is) in none) ∙ append-nil ws
 
 -- An image whose free space wasn't loaded: what was in memory is what was, and a storage's fault marks it.
 module _ {S : Type 0} (g : Ghosts S) (old new : Qcow2 S g) (fault : Fault) (mid : Tables S g)
@@ -1000,19 +994,6 @@ module _ {S : Type 0} (g : Ghosts S) (old : Qcow2 S g) (mid : Tables S g) (space
         (g.state old.tables.file.image).faults (g.state mid.file.image).faults fault (λ safe. (longer-ready safe, safe.seen.l1)) refl refl
         no-word longer.cause;
   }
-
--- There was a word.
-pub word-there-already : {S : Type 0} (g : Ghosts S) (i : ℕ) (d : Qcow2 S g) → i < length d.tables.l1.words → EnsuresWord g i d (Ok tt) d
-word-there-already g i d inside = record {
-  keeps = keeps-disk-same g ⊤ d;
-  leaks = λ safe whole c. refl;
-  marks = refl;
-  known = λ some. some;
-  inside = inside;
-  words = sym (padded-none d.tables.l1.words (max (length d.tables.l1.words) (i + 1)) (omega (arith, inside)));
-  leaves = λ safe. leaves-more g 0 (enough_for_word d.tables i) d.tables d.tables (omega arith) (leaves-none g d.tables);
-  cause = tt;
-}
 
 -- A table of its own is ensured once there is a word for it.
 module _ {S : Type 0} (g : Ghosts S) (guest i : ℕ) (old mid new : Qcow2 S g) (index : i ≡ guest / words_of_cluster old.tables.file.header.fields)

@@ -2,11 +2,11 @@
 use Rattle.std.proofs.Common.{◌≡◌, ◌⊎◌, ℕ, ◌+◌, ◌*◌, ◌/◌, ◌%◌, ◌<◌, ◌≤◌, arith, ap, subst, ◌∙◌, sym, inl, inr}
 use Rattle.std.specs.Prelude.{min, ◌-◌}
 use Rattle.std.proofs.lemmas.Nat.{div-add-mod', div-mul-add}
-use Rattle.std.proofs.Math.Nat.{mul-mod_left, mul-le-mul_right, lt-div-mul-add, mul-add-mod_self_right, mod-eq_of_lt, lt_of_mul-lt-mul_right}
+use Rattle.std.proofs.Math.Nat.{mul-mod_left, mul-add-mod_self_right, mod-eq_of_lt, lt_of_mul-lt-mul_right}
 use Rattle.qcow2_types.specs.Header.{Fields, cluster_size, words_of_cluster}
 use Rattle.qcow2_types.specs.Words.{Mapping}
 use Rattle.qcow2_metadata.specs.declared.mapping.L2Mapping.{L2Mapping}
-use Rattle.qcow2_image.specs.Looking.{Follows, IsRunOf, IsCutAt, IsWholeRun}
+use Rattle.qcow2_image.specs.Looking.{Follows, IsRunOf, IsCutAt}
 
 -- A multiple of the cluster size is the begin of a cluster.
 at-cluster : (at k c : ℕ) → 0 < c → at ≡ k * c → (at % c ≡ 0) × (at / c ≡ k)
@@ -29,18 +29,6 @@ long-run h mapped offset asked n most run some is (inr (inl table)) =
 long-run h mapped offset asked n most run some is (inr (inr stop)) =
     let cut = at-cluster (offset + n) (offset / cluster_size h + run.1) (cluster_size h) some stop.1 in
     inr (record { cluster = cut.0; last = inr (subst (λ x. Follows (mapped (x - 1)) (mapped x) → ⊥) (sym cut.1) (is.ends stop.0)) })
-
--- No cluster begins within a run of no places.
-pub no-run : (h : Fields) (mapped : ℕ → Mapping) (offset asked n : ℕ) → 0 < cluster_size h → n ≡ 0 → (n ≡ min asked (h.size - offset))
-    → IsWholeRun h mapped offset asked n
-no-run h mapped offset asked n some none all = record {
-  each = λ g behind inside.
-      let le : (offset / cluster_size h + 1) * cluster_size h ≤ g * cluster_size h = mul-le-mul_right (cluster_size h) (omega (arith, behind)) in
-      let above : offset < offset / cluster_size h * cluster_size h + cluster_size h = lt-div-mul-add some in
-      let product : (offset / cluster_size h + 1) * cluster_size h ≡ offset / cluster_size h * cluster_size h + cluster_size h = omega arith in
-      absurd (omega (arith, le, above, product, inside, none));
-  ends = inl all;
-}
 
 -- The clusters of a run of so many that is found under one L2 table.
 pub run-goes-on : (h : Fields) (mapped : ℕ → Mapping) (offset n most : ℕ) (run : L2Mapping × ℕ) → 0 < cluster_size h → 0 < words_of_cluster h

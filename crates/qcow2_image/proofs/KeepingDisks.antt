@@ -429,25 +429,6 @@ module _ {S : Type 0} (g : Ghosts S) (sure ok : Type 0) (kind : Kind) (old new :
     words = words-same;
   }
 
--- A call that is cut off by no less keeps it, too.
-pub keeps-disk-as : {S : Type 0} (g : Ghosts S) (first-ok ok : Type 0) (a b : Qcow2 S g) → (ok → first-ok) → KeepsDisk g first-ok a b → KeepsDisk g ok a b
-keeps-disk-as g first-ok ok a b from k = record {
-  mode = k.mode;
-  number = k.number;
-  unspent = k.unspent;
-  shape = k.shape;
-  later = k.later;
-  failed = k.failed;
-  size = k.size;
-  bits = k.bits;
-  version = k.version;
-  faults = λ whole. k.faults (from whole);
-  stops = k.stops;
-  safely = λ safe whole. k.safely safe (from whole);
-  layer = λ safe whole. k.layer safe (from whole);
-  words = λ safe whole. k.words safe (from whole);
-}
-
 -- Two such calls, one behind the other: the second is made where the first wasn't cut off, and where it is as that needs.
 module _ {S : Type 0} (g : Ghosts S) (sure first-sure second-sure first-ok ok : Type 0) (a b c : Qcow2 S g) (done : first-ok)
     (one : sure → first-sure) (two : sure → second-sure) (first : KeepsDiskWhere g first-sure first-ok a b)

@@ -130,24 +130,6 @@ keeps-as g a b r r' whole marks k = record {
   failed = k.failed ∙ marks a.failed;
 }
 
--- One that is marked behind a refusal.
-pub keeps-then-marked : {S T U : Type 0} (g : Ghosts S) (a b c : Qcow2 S g) (v : T) (e : Fault) → KeepsImage g a (Ok v) b
-    → c ≡ record b { failed = failed_by e b.failed } → KeepsImage {T = U} g a (Err e) c
-keeps-then-marked {S} {T} {U} g a b c v e k is = subst (KeepsImage {T = U} g a (Err e)) (sym is) (record {
-  tables = record {
-    kept = k.tables.kept;
-    later = k.tables.later;
-    faults = λ mild. k.tables.faults tt;
-    header = k.tables.header;
-    space = k.tables.space;
-    seen = k.tables.seen;
-  };
-  mode = k.mode;
-  number = k.number;
-  unspent = k.unspent;
-  failed = ap (failed_by e) k.failed;
-})
-
 -- One that does nothing.
 pub tables-same : {S T : Type 0} (g : Ghosts S) (d : Qcow2 S g) (r : Result T Fault) → KeepsTables g d.tables r d.tables
 tables-same g d r = record {

@@ -1,6 +1,6 @@
 -- A cluster is given a counter: a word of the refcount table, and a block.
 use Rattle.std.proofs.Common.{◌≡◌, ◌≢◌, ℕ, ◌+◌, ◌*◌, ◌/◌, ◌^◌, ◌<◌, ◌≤◌, ◌++◌, refl, arith, ap, sym, subst, ◌∙◌, inl, inr, length, Bool, Result, Ok, Err}
-use Rattle.std.specs.Prelude.{⊤, IsTrue, OnOk, OnErr, slice_index, MatchResult}
+use Rattle.std.specs.Prelude.{⊤, IsTrue, OnOk, OnErr, MatchResult}
 use Rattle.std.proofs.lemmas.Bool.{cases_eq}
 use Rattle.std.proofs.lemmas.Nat.{div-add-mod'}
 use Rattle.std.proofs.Math.Nat.{mul-le-mul_right}
@@ -12,7 +12,6 @@ use Rattle.imago_storage.proofs.Composing.{keeps_on}
 use Rattle.qcow2_types.specs.Counts.{counters_of_block}
 use Rattle.qcow2_types.specs.Header.{Header, words_of_cluster}
 use Rattle.qcow2_types.specs.Switched.{with_refcount_table}
-use Rattle.qcow2_types.specs.Words.{block_offset}
 use Rattle.qcow2_metadata.specs.Growth.{IsGrownLength}
 use Rattle.qcow2_metadata.specs.Places.{IsInReach}
 use Rattle.qcow2_metadata.specs.Tables.{TableValue}
@@ -76,9 +75,6 @@ module _ {S : Type 0} (state : S → StorageState) (mark cluster : ℕ) (s : Ima
     list = inl refl;
     cause = refl;
   }
-
-  pub counter-stands : block_offset (slice_index s.table.words (cluster / k)) ≢ 0 → ReadiesCounter state mark cluster s (ready_so Ready) s
-  counter-stands some = record { did = stands Ready; there = λ yes. some; barred = λ order keeps sound no. cc no; near = λ order keeps sound c none more. absurd (omega (arith, none, more)) }
 
   pub word-stands : cluster / k < length s.table.words → ReadiesWord state mark cluster s (ready_so Ready) s
   word-stands inside = record { did = stands Ready; there = λ yes. inside; barred = λ order keeps sound no. cc no; near = λ order keeps sound c none more. absurd (omega (arith, none, more)) }
@@ -171,10 +167,6 @@ module _ {S : Type 0} (state : S → StorageState) (mark cluster : ℕ) (s : Ima
     -- There was no place for one,
     pub counter-barred : ReadiesWord state mark cluster s (ready_so NoPlace) mid → ReadiesCounter state mark cluster s (ready_so NoPlace) mid
     counter-barred word = record { did = word.did; there = λ yes. cc yes; barred = word.barred; near = word.near }
-
-    -- it wasn't to be had,
-    pub counter-refused : (fault : Fault) → ReadiesWord state mark cluster s (not_ready fault) mid → ReadiesCounter state mark cluster s (not_ready fault) mid
-    counter-refused fault word = record { did = word.did; there = tt; barred = word.barred; near = word.near }
 
     module _ (word : ReadiesWord state mark cluster s (ready_so Ready) mid) (reach : IsInReach s.file.header.fields.cluster_bits cluster) (table' : TableValue) (new : MetadataCaches S) (after : ImageFile S) where
       header-moved : (P : Header → Type 0) → P (with_refcount_table s.file.header word.did.step.moved.0 word.did.step.moved.1) → P mid.file.header

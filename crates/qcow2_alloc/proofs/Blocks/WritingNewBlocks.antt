@@ -9,7 +9,6 @@ use Rattle.imago_storage.specs.State.{StorageState}
 use Rattle.imago_storage.specs.Calls.{Cause}
 use Rattle.imago_storage.specs.Through.{Put}
 use Rattle.imago_storage.specs.declared.fault.Fault.{Fault}
-use Rattle.imago_storage.specs.declared.fault.Fault.TheVariants.{Memory}
 use Rattle.imago_storage.proofs.Composing.{later_same, later_both, keeps_on}
 use Rattle.qcow2_types.specs.Bytes.{Bytes, bytes_of}
 use Rattle.qcow2_types.specs.Header.{Fields, Header, cluster_size}
@@ -100,7 +99,7 @@ module _ (h : Header) (index : ℕ) (run : Run) (d : ℕ) (block : Block) (own :
     counters = written-counters;
   }
 
--- once it has its place,
+-- once it has its place.
 pub placed-written : (h : Header) (index : ℕ) (run : Run) (d : ℕ) (block placed : Block) → CountsItsOwn h.fields index run block → placed ≡ record block { cluster = Some d; modified = true }
     → (old new : StorageState) (result : Result Unit Fault) → BlockPut placed (place_of placed.cluster_bits placed.cluster) old new result → WritesBlockTo h index run d old result new
 placed-written h index run d block placed own is old new result put =
@@ -109,25 +108,6 @@ placed-written h index run d block placed own is old new result put =
   where
     there : Block
     there = record block { cluster = Some d; modified = true }
-
--- or isn't, where memory ran out.
-pub block-not-written : (h : Header) (index : ℕ) (run : Run) (d : ℕ) (s : StorageState) (result : Result Unit Fault) → result ≡ Err Memory → WritesBlockTo h index run d s result s
-block-not-written h index run d s result failed = record {
-  writes = record {
-    shape = refl;
-    later = later_same s;
-    faults = λ whole. absurd (subst (λ (r : Result Unit Fault). WasNotCutOff r) failed whole);
-    whole = λ whole. absurd (subst (λ (r : Result Unit Fault). WasNotCutOff r) failed whole);
-    cause = subst (λ (r : Result Unit Fault). MatchResult r (λ _. s.faults ≡ s.faults) (Cause s.faults s.faults)) (sym failed) refl;
-    quiet = λ m taken may. memory-quietly (WasNotCutOff result) taken taken s m (with_file m s) (λ sound whole. absurd (subst (λ (r : Result Unit Fault). WasNotCutOff r) failed whole));
-    counts = λ m taken may keeps sound done. absurd (refused done);
-    others = λ keeps done p off. refl;
-  };
-  counters = λ m taken may keeps sound done. absurd (refused done);
-}
-  where
-    refused : result ≡ Ok tt → ⊥
-    refused done = let no : Err Memory ≡ Ok tt = sym failed ∙ done in cc no
 
 -- Of what is taken, what is in a run:
 abbrev within : ℕ → ℕ → (ℕ → ℕ) → ℕ → ℕ

@@ -1,9 +1,8 @@
 -- The blocks in a run of clusters that nothing names are dropped of their cache, one behind the other.
-use Rattle.std.proofs.Common.{◌≡◌, ℕ, ◌+◌, ◌<◌, ◌≤◌, refl, arith, ap, sym, subst, ◌∙◌, Ok, Err, None, inl, inr}
+use Rattle.std.proofs.Common.{◌≡◌, ℕ, ◌+◌, ◌<◌, refl, arith, ap, sym, subst, ◌∙◌, Ok, None, inl, inr}
 use Rattle.std.specs.Prelude.{nat_eq, IsSomeAnd}
 use Rattle.std.specs.Map.{lookup, remove_entry}
 use Rattle.std.proofs.lemmas.Bool.{cases_eq}
-use Rattle.imago_storage.specs.declared.fault.Fault.{Fault}
 use Rattle.qcow2_types.specs.Bytes.{Bytes}
 use Rattle.qcow2_types.specs.Counts.{count}
 use Rattle.qcow2_types.specs.Versions.{named}
@@ -42,7 +41,7 @@ forgets-none first cached = record {
   stays = λ m sound free. (record { sound = sound; quiet = quiet-none (with_cached m cached) sound; memory_same = refl }, λ d from to. absurd (omega (arith, from, to)));
 }
 
--- then of one more,
+-- then of one more.
 pub forgets-then : (first n : ℕ) (old mid new : Cached) → new ≡ record mid { blocks = remove_entry (nat_eq (first + n)) mid.blocks } → ForgetsRun first n old (Ok tt) mid → ForgetsRun first (n + 1) old (Ok tt) new
 forgets-then first n old mid new is one = subst (λ (c : Cached). ForgetsRun first (n + 1) old (Ok tt) c) (sym is) (record {
   stays = λ m sound free.
@@ -57,12 +56,6 @@ forgets-then first n old mid new is one = subst (λ (c : Cached). ForgetsRun fir
           | inr away ↦ remove_absent (nat_eq (first + n)) (nat_eq d) mid.blocks (was.1 d from (omega (arith, to, away)))
         ],
       );
-})
-
--- and of no more, where that is refused.
-pub forgets-refused : (first n all : ℕ) (old mid new : Cached) (fault : Fault) → n ≤ all → new ≡ mid → ForgetsRun first n old (Ok tt) mid → ForgetsRun first all old (Err fault) new
-forgets-refused first n all old mid new fault le is one = subst (λ (c : Cached). ForgetsRun first all old (Err fault) c) (sym is) (record {
-  stays = λ m sound free. ((one.stays m sound (λ d from to. free d from (omega (arith, to, le)))).0, tt);
 })
 
 -- What the drop of a block leaves of the caches.

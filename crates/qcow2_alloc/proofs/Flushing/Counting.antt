@@ -129,8 +129,3 @@ module _ {V D : Type 0} (state : D → StorageState) (flushes : D → ℕ → V 
   pub each-faultless : (before : D) (es : List (ℕ × Slot V)) (result : Result Unit Fault) (after : D) (es' : List (ℕ × Slot V)) → FlushedEach flushes before es (fault_of result) after es' → WasNotCutOff result → IsFaultless (state before) (state after)
   each-faultless before es (Ok done) after es' flushed whole = faultless before es None after es' flushed tt
   each-faultless before es (Err fault) after es' flushed whole = faultless before es (Some fault) after es' flushed whole
-
--- Calls one behind the other.
-pub counted-then : (reach reach' whole : Type 0) (a b c : ℕ) (result : Result Unit Fault) → (whole → reach') → b ≡ a → CountsWrites reach' b c result → CountsWrites whole a c result
-counted-then reach reach' whole a b c (Ok done) from same counts = counts ∙ same
-counted-then reach reach' whole a b c (Err fault) from same why = why-wider reach' whole a b c c from (omega (arith, same)) (omega arith) fault why

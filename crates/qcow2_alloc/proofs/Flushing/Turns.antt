@@ -7,7 +7,7 @@ use Rattle.std.specs.Option.{option_map_or}
 use Rattle.std.specs.Cmp.{IsEquivalence}
 use Rattle.std.specs.List.{AllByRecursion, IsDistinct}
 use Rattle.std.specs.Map.{keys_of, lookup, lookup_entry, remove_entry, set_value}
-use Rattle.std.proofs.lemmas.List.{append_assoc, append-nil, length-append}
+use Rattle.std.proofs.lemmas.List.{append_assoc, length-append}
 use Rattle.lru.specs.LruCache.{promoted}
 use Rattle.imago_storage.specs.declared.fault.Fault.{Fault}
 use Rattle.qcow2_alloc.specs.declared.async_lru_cache.Slot.{Slot}
@@ -136,15 +136,6 @@ module _ {K V : Type 0} where
         turned = f.entries ∙ ap (λ l. kept_pinned (f.last ∷ []) ++ l) k.front_is ∙ sym (append_assoc (kept_pinned (f.last ∷ [])) (kept_pinned t.old) k.rest) ∙ ap (λ l. l ++ k.rest) (sym (filter-append (λ e. nat_lt 0 e.1.pins) (f.last ∷ []) t.old));
         count = let n = ap (λ (l : List (K × Slot V)). length l) k.todo_is ∙ length-append k.rest (f.last ∷ []) in omega (arith, n, t.count);
       }
-
-  pub drop_begin : (es : List (K × Slot V)) → Dropping es (length es) es
-  drop_begin es = record { todo = es; old = []; whole = sym (append-nil es); turned = refl; count = refl }
-
-  pub drop_end : (es es' : List (K × Slot V)) → Dropping es 0 es' → es' ≡ kept_pinned es
-  drop_end es es' t = ends t.todo t.old t.count t.whole t.turned where
-    ends : (todo old : List (K × Slot V)) → length todo ≡ 0 → es ≡ todo ++ old → es' ≡ kept_pinned old ++ todo → es' ≡ kept_pinned es
-    ends [] old none whole turned = turned ∙ append-nil (kept_pinned old) ∙ ap (λ l. kept_pinned l) (sym whole)
-    ends (e ∷ todo) old none whole turned = absurd (cc)
 
 -- no fault of all is none of each
 pub none-later : (first : Option Fault) (result : Result Unit Fault) → latest first result ≡ None → (first ≡ None) × (result ≡ Ok tt)

@@ -9,7 +9,7 @@ use Rattle.imago_storage.specs.State.{StorageState}
 use Rattle.imago_storage.specs.declared.fault.Fault.{Fault}
 use Rattle.imago_storage.specs.declared.fault.Fault.TheVariants.{Memory, Storage, DamagedTable}
 use Rattle.qcow2_types.specs.Bytes.{Bytes, bytes_of}
-use Rattle.qcow2_types.specs.Header.{Header, has_external_data}
+use Rattle.qcow2_types.specs.Header.{Header}
 use Rattle.qcow2_types.specs.Counts.{count}
 use Rattle.qcow2_types.specs.Pending.{FreeEntry}
 use Rattle.qcow2_alloc.specs.declared.cache.CacheDependency.{CacheDependency}
@@ -27,9 +27,9 @@ use Rattle.qcow2_alloc.specs.Quiet.{Metadata, IsSound, Quietly, metadata_in}
 use Rattle.qcow2_alloc.specs.Safety.{Safe, IsCalm}
 use Rattle.qcow2_alloc.specs.State.{ImageState, lent, metadata, IsKept}
 use Rattle.qcow2_alloc.proofs.Caching.Loose.{kept-tables}
-use Rattle.qcow2_alloc.proofs.Caching.Pins.{pins-none, pins-written}
+use Rattle.qcow2_alloc.proofs.Caching.Pins.{pins-written}
 use Rattle.qcow2_alloc.proofs.Quiet.QuietAnnouncing.{announced-quietly, whole-quietly}
-use Rattle.qcow2_alloc.proofs.Quiet.QuietFlushes.{flushes-quietly, memory-quietly, quietly-weaker}
+use Rattle.qcow2_alloc.proofs.Quiet.QuietFlushes.{flushes-quietly, quietly-weaker}
 use Rattle.qcow2_alloc.proofs.Memory.SafeLaws.{safe-reach}
 
 -- The order is announced.
@@ -108,25 +108,6 @@ module _ {S : Type 0} (state : S → StorageState) (s : ImageState S) (new : Met
         fewer = omega arith;
         cause = caused fault why;
       }
-
--- An image whose data is in an external file isn't sound.
-pub external-dropped : {S : Type 0} (state : S → StorageState) (s : ImageState S) (mark : ℕ) → has_external_data s.file.header.fields ≡ true → Frees state mark s (Ok tt) (lent s.table s.caches s.file []) mark
-external-dropped state s mark external =
-    let m = metadata state s in
-    let never : IsSound m → ⊥ = (λ sound. let inside = sound.safe.consistent.readable.data_inside in let both = sym external ∙ inside in cc) in
-    record {
-      faults = λ whole. (refl, refl);
-      quiet = memory-quietly _ (λ _. 0) (λ _. 0) (state s.file.image) m (record m { pending = [] }) (λ sound whole. absurd (never sound));
-      marked = λ keeps sound. absurd (never sound);
-      lower = omega arith;
-      fallen = inl refl;
-      header = refl;
-      pins = pins-none (cached_in s.caches).blocks (cached_in s.caches).blocks refl;
-      room = record { tables = refl; blocks = refl; entries = refl };
-      less = λ d. omega arith;
-      fewer = omega arith;
-      cause = refl;
-    }
 
 -- The entries that held metadata are found one by one.
 pub metadata-found : (es : List FreeEntry) (i : ℕ) → position (λ (e : FreeEntry). e.metadata) es ≡ Some i → (i < length es) × ((entry_at es i).metadata ≡ true)

@@ -56,9 +56,6 @@ module _ {S : Type 0} (state : S → StorageState) (table : TableValue) (from n 
     so_far = λ sound. room-first table k (counts_in state old before) from n from z (omega arith) (λ y t above below. absurd (omega (arith, above, below))) (looks.found sound);
   }
 
-  pub rooms-refused : (fault : Fault) (new : MetadataCaches S) (after : ImageFile S) → LooksForRun state table from n (cached_file old before) (Err fault) (cached_file new after) → LooksForRoom state table from n (cached_file old before) (Err fault) (cached_file new after)
-  rooms-refused fault new after looks = record { looked = looked-refused state table old before fault new after looks.looked; found = λ sound. tt }
-
   module _ (run : Run) (mid : MetadataCaches S) (between : ImageFile S) (searched : RoomSearched state table from n old before run mid between) where
     abbrev needed : ℕ
     needed = needed_for table k n run

@@ -297,9 +297,6 @@ module _ {S : Type 0} (state : S → StorageState) (image : ImageState S) (run :
   pub counts-flushed : CountsNamed state run.first run.len image succeeded (lent image.table D fD image.pending)
   counts-flushed = flushed-then state image run C fC counts succeeded D fD going kept others room cause (λ whole. going.faults refl)
 
-  pub header-there : fD.header ≡ image.file.header
-  header-there = counts-flushed.header
-
   pub room-not-forgotten : (fault : Fault) (E : MetadataCaches S) → ForgetsRun run.first n (cached_in D) (failed fault) (cached_in E) → E.order ≡ D.order → PinsNothing (cached_in D).blocks (cached_in E).blocks → KeepsTables D E → (fault ≡ CacheFull) × IsPinnedWithin run.first n D
       → TakesRoom state run image (Err fault) (lent image.table E fD image.pending)
   room-not-forgotten fault E forgets order pins space why = record {

@@ -48,7 +48,7 @@ use Rattle.qcow2_alloc.proofs.Caching.Entering.{tables_first, distinct-first, ta
 use Rattle.qcow2_alloc.proofs.Memory.MemoryImage.{safe-memory}
 use Rattle.qcow2_alloc.proofs.Memory.MemoryWords.{places-in-memory, table-same}
 use Rattle.qcow2_alloc.proofs.Memory.Patches.{all-append, all-front, all-back, all-weaker, others-before, others-behind, places-differ, place-there, table-long, shaped-in}
-use Rattle.qcow2_alloc.proofs.Caching.Places.{Place, place-of-key, place-hit, slot-of, lookup-hit, hit-again}
+use Rattle.qcow2_alloc.proofs.Caching.Places.{Place, place-of-key, place-hit, slot-of}
 use Rattle.qcow2_alloc.proofs.Flushing.WritingTables.{keys-with, word-here}
 
 -- A modified table that goes first is put over all else.
@@ -437,18 +437,6 @@ module _ (f : Bytes) (H : Header) (cached : Cached) (order : CacheDependency) (k
       subst (λ (o : Cached). slot_in (memory f H.fields o) H.fields i j ≡ mapping_in found.0.value j) (sym as-was)
       (slot-in-memory f H order p.front key found.0 p.back cached.blocks safe' i caches.inside caches.place caches.some j less)
       ∙ ap (λ (t : TableValue). mapping_in t j) found.2
-
--- Several words may be set in one use: a step from the table so far is one from what is cached with that.
-pub sets-next-word : (f : Bytes) (h : Fields) (cached between cached' : Cached) (key i j w : ℕ) (first now : TableValue) → CachesTable f h cached key i first → j < words_of_cluster h
-    → between.tables ≡ hit (nat_eq key) cached.tables now → between.blocks ≡ cached.blocks → cached'.tables ≡ hit (nat_eq key) cached.tables (with_word now j w) → cached'.blocks ≡ cached.blocks
-    → SetsWord f h between key i j w cached'
-sets-next-word f h cached between cached' key i j w first now caches inside tables blocks tables' blocks' = record {
-  table = now;
-  caches = record { there = rw tables (lookup-hit key cached.tables first caches.there now); inside = caches.inside; place = caches.place; some = caches.some };
-  inside = inside;
-  tables = rw tables (tables' ∙ sym (hit-again key cached.tables first caches.there now (with_word now j w)));
-  blocks = blocks' ∙ sym blocks;
-}
 
 -- A word is set there.
 module _ (f : Bytes) (H : Header) (cached cached' : Cached) (order : CacheDependency) (key i j w : ℕ) (safe : Safe f H cached order) (sets : SetsWord f H.fields cached key i j w cached') where

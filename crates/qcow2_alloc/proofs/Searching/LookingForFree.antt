@@ -122,10 +122,6 @@ pub record FreeSearched {S : Type 0} (state : S → StorageState) (table : Table
   pub passed : IsSafeWith state table old before → (z : ℕ) → from ≤ z → z < next → HasCounter (bytes_of (state before.image).bytes) before.header.fields z → 0 < counts_in state old before z
 
 module _ {S : Type 0} (state : S → StorageState) (table : TableValue) (from : ℕ) (old : MetadataCaches S) (before : ImageFile S) where
-  -- It begins.
-  pub passed-none : FreeSearched state table from old before from old before
-  passed-none = record { looked = looked-none state table tt old before; behind = omega arith; passed = λ sound z ge lt. absurd (omega (arith, ge, lt)) }
-
   module _ (next : ℕ) (mid : MetadataCaches S) (between : ImageFile S) (searched : FreeSearched state table from old before next mid between) where
     module _ (sound : IsSafeWith state table old before) where
       same-count : (c : ℕ) → counts_in state mid between c ≡ counts_in state old before c

@@ -20,7 +20,7 @@ use Rattle.qcow2_alloc.specs.SearchingClusters.{counts_in, IsSafeWith, Looked, L
 use Rattle.qcow2_alloc.proofs.Searching.Looking.{IsRead, looked-none, looked-answer, looked-refused, looked-then, safe-still, counts-still, reads-looked, reads-known, uncounted, uncounted-behind}
 use Rattle.qcow2_alloc.proofs.Blocks.NamedBlocks.{unnamed-block}
 use Rattle.qcow2_alloc.proofs.Memory.Patches.{shaped-in}
-use Rattle.qcow2_alloc.proofs.Searching.SearchingRuns.{blocks-before, run-same, longer, run-none, run-longer, run-found, run-last}
+use Rattle.qcow2_alloc.proofs.Searching.SearchingRuns.{blocks-before, run-same, longer, run-longer, run-found, run-last}
 
 -- What holds of an answer may be said otherwise.
 ok-weaker : {T E : Type 0} (P Q : T → Type 0) → ((v : T) → P v → Q v) → (result : Result T E) → IfOk result P → IfOk result Q
@@ -91,10 +91,6 @@ pub record RunSearched {S : Type 0} (state : S → StorageState) (table : TableV
   pub so_far : IsSafeWith state table old before → IsRunSoFar (counts_in state old before) from n run
 
 module _ {S : Type 0} (state : S → StorageState) (table : TableValue) (from n : ℕ) (old : MetadataCaches S) (before : ImageFile S) where
-  -- It begins.
-  pub searched-none : RunSearched state table from n old before (record { first = from; len = 0 }) old before
-  searched-none = record { looked = looked-none state table tt old before; behind = omega arith; within = omega arith; so_far = λ sound. run-none (counts_in state old before) from n }
-
   module _ (run : Run) (mid : MetadataCaches S) (between : ImageFile S) (searched : RunSearched state table from n old before run mid between) where
     -- It goes on,
     pub searched-then : next_of run / counters_of_block before.header.fields < length table.words → (now : Run) (new : MetadataCaches S) (after : ImageFile S) → ExtendsRun state table n run (cached_file mid between) (Ok now) (cached_file new after) → RunSearched state table from n old before now new after

@@ -1,7 +1,7 @@
 -- Runs of guest clusters that a range covers, and what a lookup finds of them.
-use Rattle.std.proofs.Common.{◌≡◌, ◌⊎◌, inl, inr, ap, sym, subst, arith, ℕ, zero, suc, ◌+◌, ◌-◌, ◌*◌, ◌/◌, ◌%◌, ◌^◌, ◌<◌, ◌≤◌, true, false, None, Some}
+use Rattle.std.proofs.Common.{◌≡◌, ◌⊎◌, inl, inr, ap, sym, subst, arith, ℕ, zero, suc, ◌+◌, ◌-◌, ◌*◌, ◌/◌, ◌%◌, ◌<◌, ◌≤◌, true, false, None, Some}
 use Rattle.std.specs.Prelude.{IsTrue, min}
-use Rattle.std.proofs.Math.Nat.{add-mul, mul-le-mul_right, pow-le-pow_right}
+use Rattle.std.proofs.Math.Nat.{add-mul, mul-le-mul_right}
 use Rattle.std.proofs.lemmas.Nat.{div-add-mod', mod_below, pow_pos}
 use Rattle.imago_storage.specs.declared.storage.Storage.{Ghosts}
 use Rattle.imago_access.specs.Changes.{Asked}
@@ -9,7 +9,6 @@ use Rattle.qcow2_types.specs.Entries.{entry}
 use Rattle.qcow2_types.specs.Header.{Fields, cluster_size, words_of_cluster}
 use Rattle.qcow2_types.specs.Words.{Mapping, damaged, data_at, packed, zeroes}
 use Rattle.qcow2_types.specs.Words as words
-use Rattle.qcow2_metadata.specs.Places.{IsInReach}
 use Rattle.qcow2_image.specs.Holding.{IsUncopied}
 use Rattle.qcow2_image.specs.Looking.{Follows}
 use Rattle.qcow2_image.specs.Preparing.{CoversMost, IsRun, first_run, run_in}
@@ -92,30 +91,7 @@ pub one-cluster : (h : Fields) (offset length : ℕ) → run_in h 1 offset lengt
 one-cluster h offset length =
     let same : 1 * cluster_size h ≡ cluster_size h = omega arith in ap (λ c. min length (c - offset % cluster_size h)) same
 
--- Clusters in a row under one L2 table, by their size.
-pub several-fit : (c n : ℕ) → n ≤ c / 8 → c ≤ 2 ^ 21 → n * c < 2 ^ 64
-several-fit c n few most =
-    let le : n * c ≤ c / 8 * c = mul-le-mul_right c few in
-    let words : c / 8 ≤ 2 ^ 18 = omega (arith, most) in
-    let all : c / 8 * c ≤ 2 ^ 18 * c = mul-le-mul_right c words in
-    omega (arith, le, all, most)
-
-pub several-least : (c n : ℕ) → 0 < n → c ≤ n * c
-several-least c n any = let le : 1 * c ≤ n * c = mul-le-mul_right c (omega (arith, any)) in omega (arith, le)
-
--- Their places in the file end far below 2^64 where words can name the last.
-pub several-near : (bits host n offset length : ℕ) → IsInReach bits (host + (n - 1)) → 0 < n → bits ≤ 21
-    → length ≤ n * 2 ^ bits - offset % 2 ^ bits → host * 2 ^ bits + offset % 2 ^ bits + length ≤ 2 ^ 60
-several-near bits host n offset length reach any high row =
-    let c : ℕ = 2 ^ bits in
-    let most : 2 ^ bits ≤ 2 ^ 21 = pow-le-pow_right (omega arith) high in
-    let parts : (host + (n - 1)) * 2 ^ bits ≡ host * 2 ^ bits + (n - 1) * 2 ^ bits = add-mul host (n - 1) (2 ^ bits) in
-    let whole : n - 1 + 1 ≡ n = omega (arith, any) in
-    let all : n * 2 ^ bits ≡ (n - 1) * 2 ^ bits + 2 ^ bits = subst (λ k. k * 2 ^ bits ≡ (n - 1) * 2 ^ bits + 2 ^ bits) whole (omega arith) in
-    let below = mod_below offset (2 ^ bits) (pow_pos bits) in
-    omega (arith, reach, most, parts, all, below, row)
-
--- So many of them, and one alone, are a run.
+-- So many guest clusters, and one alone, are a run.
 module _ {S : Type 0} (g : Ghosts S) (asked : Asked) (d : Qcow2 S g) (most : ℕ) (covers : CoversMost d.tables.file.header.fields asked.offset asked.length most) where
   abbrev first : ℕ
   first = asked.offset / cluster_size d.tables.file.header.fields
