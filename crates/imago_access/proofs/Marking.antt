@@ -1,5 +1,5 @@
 -- What refusals leave of an image of a format that marks failures, from a part of a change to the whole of it.
-use Rattle.std.proofs.Common.{◌≡◌, [], inl, inr, ℕ, List, ◌∷◌, sym, subst}
+use Rattle.std.proofs.Common.{◌≡◌, [], inl, inr, refl, ℕ, List, ◌∷◌, sym, subst}
 use Rattle.std.specs.Prelude.{Option, Some, None, IsTrue, Bool, true, false, if◌then◌else◌}
 use Rattle.imago_storage.specs.Calls.{IsFaultless}
 use Rattle.imago_storage.specs.State.{StorageState, Rose}
@@ -8,7 +8,9 @@ use Rattle.imago_storage.specs.declared.fault.Fault.TheVariants.{Failed, Missing
 use Rattle.imago_access.specs.declared.seen.Seen.{Ghosts}
 use Rattle.imago_access.specs.declared.seen.SeenBelow.{Ghosts as GhostsBelow}
 use Rattle.imago_access.specs.Layer.{Layer, Fixed}
-use Rattle.imago_access.specs.Files.{Pairs, IsMild, SomeRose, files}
+use Rattle.imago_access.specs.ChainLooks.{EndsReload}
+use Rattle.imago_access.specs.Failing.{RefusesReload}
+use Rattle.imago_access.specs.Files.{Pairs, IsMild, IsStale, SomeRose, files}
 use Rattle.imago_access.specs.Going.{Looked, Marks, MarksOver, MarksSome, SomeMarked}
 use Rattle.imago_access.specs.Refusals.{barrier}
 use Rattle.imago_access.specs.RunCalls.{MarksAlone, MarksTop}
@@ -45,7 +47,22 @@ no_storage false false is = cc is
 pub unusable_by_none : (layer : Layer) (e : Fault) → barrier layer ≡ Some e → e ≡ Storage → ⊥
 unusable_by_none layer e barred is = no_storage layer.failed layer.fixed.missing (subst (λ (f : Fault). barrier layer ≡ Some f) is barred)
 
+-- a layer that was refused because its files say something else than what was read of them could be used
+unbarred : (failed missing : Bool) (e : Fault) → IsStale e → ((f : Fault) → (if failed then Some Failed else if missing then Some MissingData else None) ≡ Some f → e ≡ f)
+    → (if failed then Some Failed else if missing then Some MissingData else None) ≡ None
+unbarred true missing e stale refused = absurd (subst IsStale (refused Failed refl) stale)
+unbarred false true e stale refused = absurd (subst IsStale (refused MissingData refl) stale)
+unbarred false false e stale refused = refl
+
 module _ {D St : Type 0} (g : Ghosts D St) where
+  -- what the driver says at which a reload ends
+  pub ends_reload : (a b : D) (e : Fault) → RefusesReload g a b e → Marks g a b e → (IsStale e → IsTrue (g.layer b).failed) → ((f : Fault) → barrier (g.layer a) ≡ Some f → e ≡ f) → EndsReload g e a b
+  ends_reload a b e cause marks failed refused = record {
+    cause = cause;
+    marks = marks;
+    failed = λ stale. (unbarred (g.layer a).failed (g.layer a).fixed.missing e stale refused, failed stale);
+  }
+
   -- what never changes of a driver
   marks_on : (a b : D) → (g.layer b).fixed ≡ (g.layer a).fixed → IsTrue (g.layer a).fixed.marks → IsTrue (g.layer b).fixed.marks
   marks_on a b fixed marks = subst (λ (f : Fixed). IsTrue f.marks) (sym fixed) marks

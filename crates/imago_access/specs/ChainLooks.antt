@@ -1,5 +1,5 @@
 -- What calls that only look at a chain answer and are refused with, by its drivers before and after, the top first.
-use Rattle.std.specs.Prelude.{◌≡◌, ◌⊎◌, ℕ, ◌+◌, ◌<◌, ◌^◌, List, Result, OnOk, IfOk, IfErr, IsTrue, length, slice_index, map}
+use Rattle.std.specs.Prelude.{◌≡◌, ◌⊎◌, ℕ, ◌+◌, ◌<◌, ◌^◌, List, None, Result, OnOk, IfOk, IfErr, IsTrue, length, slice_index, map}
 use Rattle.imago_storage.specs.Disk.{byte}
 use Rattle.imago_storage.specs.Steps.{lookup, found, read, bytes_read}
 use Rattle.imago_storage.specs.declared.fault.Fault.{Fault}
@@ -7,11 +7,13 @@ use Rattle.imago_access.specs.declared.seen.Seen.{Ghosts}
 use Rattle.imago_access.specs.declared.mapping.ShallowMapping.{ShallowMapping}
 use Rattle.imago_access.specs.declared.mapping.Mapping.{Mapping}
 use Rattle.imago_access.specs.Layer.{Layer}
-use Rattle.imago_access.specs.Chain.{at, Each, unit_of_chain}
-use Rattle.imago_access.specs.Files.{files_of}
+use Rattle.imago_access.specs.Chain.{at, Each, EndsAt, unit_of_chain}
+use Rattle.imago_access.specs.Files.{IsStale, files_of}
+use Rattle.imago_access.specs.Going.{Marks}
 use Rattle.imago_access.specs.Kinds.{kind_of, deep_kind_of}
 use Rattle.imago_access.specs.Mappings.{DeepNames, DeepNamesWritable, IsDeepBelow, IsThere, stored_at}
-use Rattle.imago_access.specs.Refusals.{IsUnusable, ReadCause, DeepLookCause, InvalidateCause}
+use Rattle.imago_access.specs.Refusals.{barrier, IsUnusable, ReadCause, DeepLookCause, InvalidateCause}
+use Rattle.imago_access.specs.Failing.{RefusesReload}
 use Rattle.imago_access.specs.ChainCalls.{ChainSteps, AllUnchanged}
 
 -- a read of this many bytes fills the buffer with those of the chain's disk
@@ -81,6 +83,17 @@ KeepsLayers g result olds news = WhereFlushed g olds (OnOk result (map g.layer n
 
 abbrev pub KeepsSight : {D St : Type 0} → Ghosts D St → Result Unit Fault → List D → List D → Type 0
 KeepsSight g result olds news = WhereFlushed g olds (OnOk result (Each g.sees news))
+
+-- Why the files of the layer at which that ended couldn't be read again, by its own storages, and what this marks. Where they say something
+-- else than what was read of them it could be used before, and has failed.
+pub record EndsReload {D St : Type 0} (g : Ghosts D St) (fault : Fault) (old new : D) : Type 0 where
+  pub cause : RefusesReload g old new fault
+  pub marks : Marks g old new fault
+  pub failed : IsStale fault → (barrier (g.layer old) ≡ None) × IsTrue (g.layer new).failed
+
+-- and what the others are: those above it were read again, and those below it weren't
+abbrev pub EndsReloads : {D St : Type 0} → Ghosts D St → List D → List D → Fault → Type 0
+EndsReloads g olds news fault = EndsAt g.still (EndsReload g fault) olds news
 
 -- why the layers' files can't be read again
 abbrev pub RefusesReloads : {D St : Type 0} → Ghosts D St → List D → List D → Fault → Type 0

@@ -1,18 +1,18 @@
 // Calls that keep an image and its files in step.
-ghost use Rattle.std.specs.Prelude.{◌≡◌, ◌∷◌, map, IsOk, IfErr, OnOk, IsErrOf, Some};
+ghost use Rattle.std.specs.Prelude.{◌≡◌, ◌∷◌, IsOk, IfErr, OnOk, IsErrOf, Some};
 ghost use Rattle.imago_storage.specs.Steps.{flush, sync, done};
 ghost use Rattle.imago_storage.specs.declared.fault.Fault.{Fault};
 ghost use Rattle.imago_access.specs.Layer.{IsFree, IsLike};
-ghost use Rattle.imago_access.specs.Chain.{Each, EndsAt};
+ghost use Rattle.imago_access.specs.Chain.{Each};
 ghost use Rattle.imago_access.specs.Layers.{chain, layers};
-ghost use Rattle.imago_access.specs.Files.{Pairs, IsKept, IsStale, files_of, files};
+ghost use Rattle.imago_access.specs.Files.{Pairs, IsKept, files_of, files};
 ghost use Rattle.imago_access.specs.Going.{IsUnchanged, Went, Marks, MarksSome};
-ghost use Rattle.imago_access.specs.Refusals.{barrier, SomeFailed, IsUnusable};
+ghost use Rattle.imago_access.specs.Refusals.{barrier, IsUnusable};
 ghost use Rattle.imago_access.specs.Stops.{IsWritten, GivesNone};
 ghost use Rattle.imago_access.specs.Running.{IsIntactChain, RanChain};
 ghost use Rattle.imago_access.specs.ChainCalls.{ChainSteps, AllUnchanged, IsCarriedOut};
 ghost use Rattle.imago_access.specs.Failing.{Fails, RefusesFlush};
-ghost use Rattle.imago_access.specs.ChainLooks.{KeepsLayers, KeepsSight, RefusesReloads};
+ghost use Rattle.imago_access.specs.ChainLooks.{KeepsLayers, KeepsSight, EndsReloads, RefusesReloads};
 
 use crate::access::FormatAccess;
 use crate::drivers::FormatDriverInstance;
@@ -76,11 +76,13 @@ impl<D: FormatDriverInstance> FormatAccess<D> {
     }
 
     /// Drops what the layers hold in memory, written or not, and reads what they need of their files again, from the top layer downward.
-    /// Nothing may be prepared in any. Right after a flush, and while nothing waits in a layer below, it changes no byte of the disk.
+    /// Nothing may be prepared in any. Where it succeeds right after a flush, while nothing waits in a layer below, lookups were true and
+    /// all storages keep what is written, it changes no byte of the disk, and lookups stay true.
     ///
     /// It refuses with `Fault::DamagedHeader`, `Fault::DamagedTable`, `Fault::Unsupported`, `Fault::Limit` and `Fault::CacheFull`, with
-    /// which the layer has failed, with `Fault::Memory` and `Fault::Storage`, and where a layer can't be used. With `Fault::Storage` the
-    /// layer whose storage it was has failed, if it is a qcow2 image. The layers below one that refused are as they were.
+    /// which the layer that refused has failed, as it hadn't before, with `Fault::Memory` and `Fault::Storage`, and where a layer can't be
+    /// used. With `Fault::Storage` the layer that refused has failed, if it is a qcow2 image. The layers above it were read again, and
+    /// those below it are as they were.
     #[cycle(invalidate)]
     pub fn invalidate_cache(&mut self, alloc: Global) -> Result<(), Fault>
         requires free { Each (λ d. IsFree (D.layer d)) (chain self.old) }
@@ -96,10 +98,9 @@ impl<D: FormatDriverInstance> FormatAccess<D> {
         ensures still { OnOk result (Each D.still (chain self.new)) }
         ensures went { Pairs (Went D.Seen (IsOk result) (IsOk result)) (chain self.old) (chain self.new) }
         ensures free { Each (λ d. IsFree (D.layer d)) (chain self.new) }
-        ensures downward { IfErr result (λ _. EndsAt D.still (chain self.old) (chain self.new)) }
 
         // Why it is refused, and what that marks.
-        ensures failed { IfErr result (λ e. IsStale e → SomeFailed (map D.layer (chain self.new))) }
+        ensures downward { IfErr result (EndsReloads D.Seen (chain self.old) (chain self.new)) }
         ensures marks { IfErr result (MarksSome D.Seen (chain self.old) (chain self.new)) }
         ensures cause { IfErr result (RefusesReloads D.Seen (chain self.old) (chain self.new)) }
     {
@@ -123,8 +124,7 @@ impl<D: FormatDriverInstance> FormatAccess<D> {
             → AllUnchanged D.Seen (driver.old, layers below.old) (driver.new, layers below.new) }
         ensures went { Pairs (Went D.Seen (IsOk result) (IsOk result)) (driver.old ∷ layers below.old) (driver.new ∷ layers below.new) }
         ensures free { Each (λ d. IsFree (D.layer d)) (driver.new ∷ layers below.new) }
-        ensures downward { IfErr result (λ _. EndsAt D.still (driver.old ∷ layers below.old) (driver.new ∷ layers below.new)) }
-        ensures failed { IfErr result (λ e. IsStale e → SomeFailed (map D.layer (driver.new ∷ layers below.new))) }
+        ensures downward { IfErr result (EndsReloads D.Seen (driver.old ∷ layers below.old) (driver.new ∷ layers below.new)) }
         ensures marks { IfErr result (MarksSome D.Seen (driver.old ∷ layers below.old) (driver.new ∷ layers below.new)) }
         ensures cause { IfErr result (RefusesReloads D.Seen (driver.old ∷ layers below.old) (driver.new ∷ layers below.new)) }
     {
@@ -145,8 +145,7 @@ impl<D: FormatDriverInstance> FormatAccess<D> {
         ensures still { OnOk result (Each D.still (layers below.new)) }
         ensures went { Pairs (Went D.Seen (IsOk result) (IsOk result)) (layers below.old) (layers below.new) }
         ensures free { Each (λ d. IsFree (D.layer d)) (layers below.new) }
-        ensures downward { IfErr result (λ _. EndsAt D.still (layers below.old) (layers below.new)) }
-        ensures failed { IfErr result (λ e. IsStale e → SomeFailed (map D.layer (layers below.new))) }
+        ensures downward { IfErr result (EndsReloads D.Seen (layers below.old) (layers below.new)) }
         ensures marks { IfErr result (MarksSome D.Seen (layers below.old) (layers below.new)) }
         ensures cause { IfErr result (RefusesReloads D.Seen (layers below.old) (layers below.new)) }
     {

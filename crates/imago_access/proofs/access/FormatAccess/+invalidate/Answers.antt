@@ -1,14 +1,15 @@
-use Rattle.std.proofs.Common.{◌≡◌, [], ◌∷◌, ◌++◌, map, false, true, inr, subst, sym}
+use Rattle.std.proofs.Common.{◌≡◌, [], ◌∷◌, ◌++◌, map, false, true, inl, inr, refl, subst, sym}
 use Rattle.std.proofs.lemmas.Result.{IfErr-weaker}
 use Rattle.std.specs.Prelude.{IsOk}
 use Rattle.imago_access.specs.Layers.{layers}
-use Rattle.imago_access.specs.Files.{IsKept, IsStale, files_of, files, Pairs}
-use Rattle.imago_access.specs.Refusals.{SomeFailed, InvalidateCause}
+use Rattle.imago_access.specs.Files.{IsKept, files_of, files, Pairs}
+use Rattle.imago_access.specs.Refusals.{InvalidateCause}
+use Rattle.imago_access.specs.ChainLooks.{EndsReloads}
 use Rattle.imago_access.proofs.Answers.{handed_on}
 use Rattle.imago_access.proofs.FilePairs.{pairs_append, kept_all_same}
 use Rattle.imago_access.proofs.ReadCauses.{invalidate_top, invalidate_below}
 use Rattle.imago_access.proofs.Untouched.{all_went_same}
-use Rattle.imago_access.proofs.Marking.{marked_top}
+use Rattle.imago_access.proofs.Marking.{ends_reload, marked_top}
 use Rattle.imago_access.specs.Going.{MarksSome, Went}
 use Rattle.imago_access.proofs.access.FormatAccess.+invalidate.Goals as goal
 
@@ -26,11 +27,19 @@ invalidate_part-returns-clause-cause g t c = let d = g.D.Seen in
     let below = map d.layer (layers c.args.below.now) in
     IfErr-weaker c.invalidate_under.result (InvalidateCause below us vs) (InvalidateCause (d.layer c.args.driver.now ∷ below) (olds ++ us) (news ++ vs)) (invalidate_below (d.layer c.args.driver.now) below olds news us vs c.in_ok-invalidate_cache.ensures.went.later) c.invalidate_under.ensures.cause
 
-pub invalidate_part-returns-clause-failed : goal.invalidate_part-returns-clause-failed
-invalidate_part-returns-clause-failed g t c = let d = g.D.Seen in
-    let top = d.layer c.invalidate_cache.new.self in
-    let below = map d.layer (layers c.invalidate_under.new.below) in
-    IfErr-weaker c.invalidate_under.result (λ e. IsStale e → SomeFailed below) (λ e. IsStale e → SomeFailed (top ∷ below)) (λ e failed stale. inr (failed stale)) c.invalidate_under.ensures.failed
+pub invalidate_part-returns-clause-downward : goal.invalidate_part-returns-clause-downward
+invalidate_part-returns-clause-downward g t c = let d = g.D.Seen in
+    let olds = layers c.args.below.now in let news = layers c.invalidate_under.new.below in
+    IfErr-weaker c.invalidate_under.result (EndsReloads d olds news) (EndsReloads d (c.args.driver.now ∷ olds) (c.invalidate_cache.new.self ∷ news))
+    (λ e ends. inr (c.in_ok-invalidate_cache.ensures.still, ends)) c.invalidate_under.ensures.downward
+
+pub invalidate_part-returns-in_err-invalidate_cache-clause-downward : goal.invalidate_part-returns-in_err-invalidate_cache-clause-downward
+invalidate_part-returns-in_err-invalidate_cache-clause-downward g t c = rw (handed_on _ _ c.from_residual.ensures.1) (let d = g.D.Seen in let told = c.in_err-invalidate_cache in
+    inl (
+      ends_reload d c.args.driver.now c.invalidate_cache.new.self told.field-0.0 told.ensures.cause told.ensures.marks told.ensures.failed
+          (λ f barred. let is = told.ensures.at_once.refused f barred in cc is),
+      refl,
+    ))
 
 pub invalidate_part-returns-clause-marks : goal.invalidate_part-returns-clause-marks
 invalidate_part-returns-clause-marks g t c = let d = g.D.Seen in
