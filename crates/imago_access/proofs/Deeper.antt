@@ -46,12 +46,6 @@ module _ {D St : Type 0} (g : Ghosts D St) (d : D) (ds : List D) (layer : Layer)
   names_lower (Zero explicit) run names = (λ i lt. through_below i (omega (arith, run.0, lt)) ∙ names.0 i lt, λ is. absurd (cc is), λ none. inl (λ i lt. free i (omega (arith, run.0, lt))))
   names_lower Eof run names = tt
 
-pub deep_lower : (k : ℕ) (above : Bool) (m : Mapping) → IsDeepBelow k m → IsDeepBelow (k + 1) (lower above m)
-deep_lower k above (Raw depth storage place writable) h = omega (arith, h)
-deep_lower k above (Special depth place) h = omega (arith, h)
-deep_lower k above (Zero explicit) h = tt
-deep_lower k above Eof h = tt
-
 pub there_lower : {D St : Type 0} (g : Ghosts D St) (d : D) (ds : List D) (above : Bool) (m : Mapping) → IsThere g ds m → IsThere g (d ∷ ds) (lower above m)
 there_lower g d ds above (Raw depth storage place writable) h = subst (λ (k : ℕ). HasStorage g (d ∷ ds) k storage) (sym (add-one depth)) h
 there_lower g d ds above (Special depth place) h = tt
@@ -67,18 +61,6 @@ unstated_below stated offset asked n Eof none run = absurd run
 
 pub indirect_unstated : (stated : ℕ → Type 0) (offset n place : ℕ) (writable : Bool) (mapping : ShallowMapping) → mapping ≡ shallow.Indirect place writable → States stated offset (mapping, n) → AreStated stated offset n false
 indirect_unstated stated offset n place writable mapping is states = subst (λ (m : ShallowMapping). States stated offset (m, n)) is states
-
--- a run of a layer below that isn't its end is as long as that layer's
-pub run_below : (size offset asked n : ℕ) (m : Mapping) → (m ≡ Eof → ⊥) → IsDeepRun size offset asked m n → IsRunBelow asked m n
-run_below size offset asked n (Raw depth storage place writable) other run = (run.1, run.3)
-run_below size offset asked n (Special depth place) other run = (run.1, run.3)
-run_below size offset asked n (Zero explicit) other run = (run.1, run.3)
-run_below size offset asked n Eof other run = absurd (other refl)
-
--- past the end of a layer the places are 0
-pub zero_past : (layer : Layer) (below : List Layer) (offset i : ℕ) → layer.size ≤ offset → at (layer ∷ below) (offset + i) ≡ byte 0
-zero_past layer below offset i past =
-    ap (λ (t : Bool). if t then through (layer.cell (offset + i)) (at below (offset + i)) else byte 0) (le-ltb (offset + i) layer.size (omega (arith, past)))
 
 -- Causes.
 pub deep_look_top : (layer : Layer) (below : List Layer) (offset n : ℕ) (olds news us vs : List StorageState) (e : Fault)

@@ -32,10 +32,6 @@ module _ (unit size offset n : ℕ) where
     | inr done ↦ inr (omega (arith, done, from))
   ]
 
-  -- where a driver's part of a range begins, and where it ends
-  pub uncut_part : (start done : ℕ) → Reaches unit size offset n start done → IsUncutAt unit size offset n start × IsUncutAt unit size offset n (start + done)
-  uncut_part start done reach = (λ u whole. inl (reach.none_before u whole), λ u whole. elim (cases_lt (u * unit) (start + done)) [ inl lt ↦ inr (reach.none_cut u whole lt) | inr ge ↦ inl ge ])
-
 -- a call's own range
 pub own_part : (layer : Layer) (call : Call) → IsUncutPart layer call (offset_of call) (length_of call)
 own_part layer call = record {

@@ -130,14 +130,6 @@ zeroes_more below old new offset done count gap n size between before now p ther
   | inr high ↦ now p (high, omega (arith, there.1))
 ]
 
--- what is shown of bytes that are 0
-pub shown_zero : (value : ℕ → Value) (start : ℕ) (bytes : List ℕ) → ((i : ℕ) → i < length bytes → slice_index bytes i ≡ 0) → ((i : ℕ) → i < length bytes → value (start + i) ≡ byte (slice_index bytes i)) → (p : ℕ) → IsIn start (length bytes) p → value p ≡ byte 0
-shown_zero value start bytes zeroes shows p there =
-    let i = p - start in
-    let place : start + i ≡ p = omega (arith, there.0) in
-    let lt : i < length bytes = omega (arith, there.0, there.1) in
-    ap value (sym place) ∙ shows i lt ∙ ap byte (zeroes i lt)
-
 module _ {D St B : Type 0} (g : Ghosts D St) (u : GhostsBelow B) where
   -- a zeroing by the driver alone, of an image that has nothing prepared
   pub ran_zeroed : (free_loose : (d : D) → IsFree (g.layer d) → (p : ℕ) → (g.layer d).held p ≡ loose) (whole : Type 0) (offset n : ℕ) (a b : D) (x : B) → IsFree (g.layer a) → IsLike (g.layer a) (g.layer b) → Went g whole whole a b

@@ -39,8 +39,8 @@ abbrev pub Each : {D : Type 0} → (D → Type 0) → List D → Type 0
 Each P [] = ⊤
 Each P (d ∷ ds) = P d × Each P ds
 
--- A call that goes from the top downward was refused on its way: each layer above the one that refused has P, that one Q, of what it was and
--- what it is, and those below it are what they were.
+-- A call that goes from the top downward was refused on its way: each layer above the one that refused has P, that one Q, of what it was
+-- and what it is, and those below it are what they were.
 abbrev pub EndsAt : {D : Type 0} → (D → Type 0) → (D → D → Type 0) → List D → List D → Type 0
 EndsAt P Q (old ∷ olds) (new ∷ news) = (Q old new × (news ≡ olds)) ⊎ (P new × EndsAt P Q olds news)
 EndsAt P Q _ _ = ⊥

@@ -91,7 +91,7 @@ pub record EndsReload {D St : Type 0} (g : Ghosts D St) (fault : Fault) (old new
   pub marks : Marks g old new fault
   pub failed : IsStale fault → (barrier (g.layer old) ≡ None) × IsTrue (g.layer new).failed
 
--- and what the others are: those above it were read again, and those below it weren't
+-- and what the others are: nothing waits in those above it, and those below it are as they were
 abbrev pub EndsReloads : {D St : Type 0} → Ghosts D St → List D → List D → Fault → Type 0
 EndsReloads g olds news fault = EndsAt g.still (EndsReload g fault) olds news
 

@@ -67,11 +67,6 @@ module _ {N : Type 0} where
   rest_is : (xs : List (Extent N)) (i : ℕ) (x : Extent N) → i < length xs → x ≡ get_or xs i x → drop i xs ≡ x ∷ drop (i + 1) xs
   rest_is xs i x h is = drop-cons xs i x h ∙ ap (λ y. y ∷ drop (suc i) xs) (sym is) ∙ ap (λ n. x ∷ drop n xs) (sym (add-one i))
 
-  -- what ends in reach from an extent on, ends so from the one before it on
-  pub reach_before : (unit : ℕ) (xs : List (Extent N)) (i : ℕ) (x : Extent N) → i < length xs → x ≡ get_or xs i x →
-      round_up unit (end_in_file x.access x.source x.sectors) < 2 ^ 64 → AreInReach unit (drop (i + 1) xs) → AreInReach unit (drop i xs)
-  reach_before unit xs i x h is here later = rw (rest_is xs i x h is) (here, later)
-
   -- what ends in reach from an extent on: the extent, and those behind it
   pub reach_at : (unit : ℕ) (xs : List (Extent N)) (i : ℕ) (x : Extent N) → i < length xs → x ≡ get_or xs i x → AreInReach unit (drop i xs) →
       (round_up unit (end_in_file x.access x.source x.sectors) < 2 ^ 64) × AreInReach unit (drop (i + 1) xs)
@@ -158,10 +153,3 @@ pub past_name : (all ns rest : List (List ℕ)) (name : List ℕ) (before left :
 past_name all ns rest name before zero so is some = absurd (some refl)
 past_name all ns rest name before (suc k) so is some =
     let one : suc k - 1 ≡ k = omega arith in so ∙ ap (λ xs. get_or xs (suc k) []) is ∙ ap (λ i. get_or rest i []) (sym one)
-
-pub no_name : (all ns rest : List (List ℕ)) (before left : ℕ) → get_or all before [] ≡ get_or ns left [] → ns ≡ [] ++ rest → get_or all before [] ≡ get_or rest left []
-no_name all ns rest before left so is = so ∙ ap (λ xs. get_or xs left []) is
-
-pub at_name : (all ns rest : List (List ℕ)) (name : List ℕ) (before left : ℕ) → get_or all before [] ≡ get_or ns left [] → ns ≡ (name ∷ []) ++ rest → left ≡ 0 →
-    name ≡ get_or all before []
-at_name all ns rest name before left so is first = sym (so ∙ ap (λ i. get_or ns i []) first ∙ ap (λ xs. get_or xs 0 []) is)

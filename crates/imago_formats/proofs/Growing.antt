@@ -29,17 +29,6 @@ cut_by_resize old new from resized = record {
   stops = resized_stop old new from from (omega arith) resized;
 }
 
-pub cut_already : (s : StorageState) (from : ℕ) → length s.bytes ≡ from → CutTo s s from
-cut_already s from is = record {
-  shape = refl;
-  faults = refl;
-  refusals = refl;
-  size = is;
-  kept = λ keeps k lt. refl;
-  in_step = λ same. same;
-  stops = no_stops (HasFirst s.bytes from) s s refl refl;
-}
-
 -- of a file with the first bytes of one that has them
 first_on : (old mid : StorageState) (from : ℕ) → CutTo old mid from → IsTrue old.shape.keeps → (f : List ℕ) → HasFirst mid.bytes from f → HasFirst old.bytes from f
 first_on old mid from cut keeps f first = record { long = first.long; same = λ k lt. first.same k lt ∙ cut.kept keeps k lt }

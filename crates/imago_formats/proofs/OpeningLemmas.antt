@@ -96,9 +96,6 @@ module _ {G S : Type 0} (answers : G → List ℕ → Result S Fault → G → T
             (subst (λ (n : ℕ). answers mid (get_or names n []) (Ok file) now) there given),
       )
 
-  pub opened_none : (old : List S × G) → OpensNext answers names old old
-  opened_none old = record { opened = []; behind = sym (append-nil old.0); given = refl }
-
   -- one file more
   pub opened_more : (old : List S × G) (files : List S) (mid now : G) (file : S) → OpensNext answers names old (files, mid) →
       length files < length names → answers mid (get_or names (length files) []) (Ok file) now → OpensNext answers names old (files ++ file ∷ [], now)
@@ -174,12 +171,6 @@ unread_unopened state said old new fault (inr told) = inr (inr told.0)
 unread_unopened state said old new Memory (inl cause) = inl refl
 unread_unopened state said old new Storage (inl cause) = inr (inl (refl, may-fail state old new cause))
 unread_unopened state said old new fault (inl cause) = absurd cause
-
-pub unread_refused : {S : Type 0} (state : S → StorageState) (writable : Bool) (said : Result (List (Extent (List ℕ))) Fault) (fault : Fault) →
-    Unread state writable said fault → MayRefuse state writable said fault
-unread_refused state true said fault why = why
-unread_refused state false (Ok xs) fault why = elim why [ inl memory ↦ inr (inl memory) | inr rest ↦ elim rest [ inl storage ↦ inr (inr storage) | inr told ↦ absurd (cc told) ] ]
-unread_refused state false (Err e) fault why = elim why [ inl memory ↦ inr (inl memory) | inr rest ↦ elim rest [ inl storage ↦ inr (inr storage) | inr told ↦ inl (cc told) ] ]
 
 -- the same, where reads reach less
 pub not_all_weaker : {G S : Type 0} (answers : G → List ℕ → Result S Fault → G → Type 0) (names : List (List ℕ)) (Reach Reach' : Type 0)

@@ -160,11 +160,6 @@ module _ {D St : Type 0} (g : Ghosts D St) where
 -- ---- Calls without a range.
 
 module _ (layer : Layer) (olds news : List StorageState) where
-  pub stopped_plain : (e : Fault) → IsStopped olds news e → PlainCause layer olds news e
-  stopped_plain Memory cause = tt
-  stopped_plain Storage cause = cause
-  stopped_plain e cause = absurd cause
-
   pub plain_fails : (e : Fault) → PlainCause layer olds news e → ImageCause olds news e
   plain_fails Failed cause = tt
   plain_fails MissingData cause = tt

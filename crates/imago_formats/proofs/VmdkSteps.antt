@@ -96,13 +96,6 @@ pub on_ok : {T : Type 0} (r : Result T Fault) (P : Type 0) → P → OnOk r P
 on_ok (Ok v) P holds = holds
 on_ok (Err e) P holds = tt
 
--- a call over storages that wasn't cut off
-pub not_stopped : {T : Type 0} (r : Result T Fault) (P : Type 0) (olds news : List StorageState) → OnOk r P → IfErr r (IsStopped olds news) → WasNotCutOff r → P
-not_stopped (Ok v) P olds news holds why whole = holds
-not_stopped (Err Memory) P olds news holds why whole = absurd whole
-not_stopped (Err Storage) P olds news holds why whole = absurd whole
-not_stopped (Err e) P olds news holds why whole = absurd why
-
 -- the items of a list that is written back whole
 pub written_back : {A : Type 0} (n : ℕ) (xs ys : List A) → length xs ≡ n → take n (xs ++ drop (length xs) ys) ≡ xs
 written_back n xs ys h = grind (arith, common_steps)

@@ -81,8 +81,8 @@ impl<D: FormatDriverInstance> FormatAccess<D> {
     ///
     /// It refuses with `Fault::DamagedHeader`, `Fault::DamagedTable`, `Fault::Unsupported`, `Fault::Limit` and `Fault::CacheFull`, with
     /// which the layer that refused has failed, as it hadn't before, with `Fault::Memory` and `Fault::Storage`, and where a layer can't be
-    /// used. With `Fault::Storage` the layer that refused has failed, if it is a qcow2 image. The layers above it were read again, and
-    /// those below it are as they were.
+    /// used. With `Fault::Storage` the layer that refused has failed, if it is a qcow2 image. In the layers above it nothing waits any
+    /// more, and those below it are as they were.
     #[cycle(invalidate)]
     pub fn invalidate_cache(&mut self, alloc: Global) -> Result<(), Fault>
         requires free { Each (λ d. IsFree (D.layer d)) (chain self.old) }
