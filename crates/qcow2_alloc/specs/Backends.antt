@@ -46,7 +46,7 @@ pub record WrittenKind (V : Type 0) : Type 1 where
   pub Puts : V → ℕ → StorageState → StorageState → Result Unit Fault → Type 0
 
 -- One was written to its cluster, by one request, where it was modified.
-pub record Flushed {V : Type 0} (kind : WrittenKind V) (key : ℕ) (v : V) (old : StorageState) (result : Result Unit Fault)
+pub record Flushed {V : Type 0} (kind : WrittenKind V) (old : StorageState) (key : ℕ) (v : V) (result : Result Unit Fault)
     (new : StorageState) (v' : V) : Type 0 where
   pub clean : kind.modified v ≡ false → (result ≡ Ok tt) × (new ≡ old) × (v' ≡ v)
   pub out : kind.modified v ≡ true → (IsInReach (kind.cluster_bits v) key → ⊥) → (result ≡ Err DamagedTable) × (new ≡ old) × (v' ≡ v)
@@ -74,9 +74,9 @@ written_blocks = record {
 }
 
 -- So is an L2 table,
-abbrev pub TableFlushed : ℕ → TableValue → StorageState → Result Unit Fault → StorageState → TableValue → Type 0
+abbrev pub TableFlushed : StorageState → ℕ → TableValue → Result Unit Fault → StorageState → TableValue → Type 0
 TableFlushed = Flushed written_tables
 
 -- and so is a block.
-abbrev pub BlockFlushed : ℕ → Block → StorageState → Result Unit Fault → StorageState → Block → Type 0
+abbrev pub BlockFlushed : StorageState → ℕ → Block → Result Unit Fault → StorageState → Block → Type 0
 BlockFlushed = Flushed written_blocks

@@ -34,7 +34,7 @@ module _ {S : Type 0} where
 
     abbrev pub table_flushes : ImageFile S → ℕ → TableValue → Result Unit Fault → ImageFile S → TableValue → Type 0
     table_flushes old key table result new table' = (new.header ≡ old.header)
-        × TableFlushed key table (state old.image) result (state new.image) table'
+        × TableFlushed (state old.image) key table result (state new.image) table'
 
     abbrev pub block_loads : ImageFile S → ℕ → Result Block Fault → ImageFile S → Type 0
     block_loads old key result new = (new.header ≡ old.header)
@@ -42,7 +42,7 @@ module _ {S : Type 0} where
 
     abbrev pub block_flushes : ImageFile S → ℕ → Block → Result Unit Fault → ImageFile S → Block → Type 0
     block_flushes old key block result new block' = (new.header ≡ old.header)
-        × BlockFlushed key block (state old.image) result (state new.image) block'
+        × BlockFlushed (state old.image) key block result (state new.image) block'
 
     -- what caches of so many of them are like
     abbrev pub table_kind : ℕ → CacheKind ℕ TableValue (ImageFile S)

@@ -19,8 +19,8 @@ use Rattle.qcow2_alloc.specs.declared.file.ImageFile.{ImageFile}
 use Rattle.qcow2_alloc.specs.Backends.{TableFlushed, BlockFlushed}
 use Rattle.qcow2_alloc.specs.Cache.{victim, FlushedAt}
 use Rattle.qcow2_alloc.specs.Caches.{cached_in, order_of, HasRoomOf}
-use Rattle.qcow2_alloc.specs.Going.{Going, Always, WasNotCutOff, AreTablesInReach, AreBlocksInReach, BehindBlocks, BehindTables}
-use Rattle.qcow2_alloc.specs.Memory.{Cached, written_table, written_block}
+use Rattle.qcow2_alloc.specs.Going.{Going, CachedStep, Always, WasNotCutOff, AreTablesInReach, AreBlocksInReach, BehindBlocks, BehindTables}
+use Rattle.qcow2_alloc.specs.Memory.{written_table, written_block}
 use Rattle.qcow2_alloc.specs.Safety.{AreTablesClean, AreBlocksClean}
 
 module _ {V : Type 0} where
@@ -65,14 +65,14 @@ pub record LetsIn {V : Type 0} (flushes : StorageState → ℕ → V → Result 
       × MatchResult answer (λ _. Kept mid new) (λ fault. (result ≡ Err fault) × (new ≡ mid) × (es' ≡ flushed))
 
 -- of tables,
-abbrev pub LetsTableIn : StorageState → Cached → Result Unit Fault → StorageState → Cached → Type 0
+abbrev pub LetsTableIn : CachedStep
 LetsTableIn old cached result new cached' = (cached'.blocks ≡ cached.blocks)
-    × LetsIn (λ a key table answer b table'. TableFlushed key table a answer b table') old cached.tables result new cached'.tables
+    × LetsIn TableFlushed old cached.tables result new cached'.tables
 
 -- and of blocks
-abbrev pub LetsBlockIn : StorageState → Cached → Result Unit Fault → StorageState → Cached → Type 0
+abbrev pub LetsBlockIn : CachedStep
 LetsBlockIn old cached result new cached' = (cached'.tables ≡ cached.tables)
-    × LetsIn (λ a key block answer b block'. BlockFlushed key block a answer b block') old cached.blocks result new cached'.blocks
+    × LetsIn BlockFlushed old cached.blocks result new cached'.blocks
 
 -- Why a search was refused, by the counts of faults before and after, where `fine` says that words can name what is loaded and written
 -- and that what is loaded is sound. `Memory` may come behind a fault of the storage.

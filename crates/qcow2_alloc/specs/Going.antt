@@ -61,21 +61,23 @@ WhyNotWritten reach before after fault = ⊥
 abbrev pub CountsWrites : Type 0 → ℕ → ℕ → Result Unit Fault → Type 0
 CountsWrites reach before after result = MatchResult result (λ _. after ≡ before) (WhyNotWritten reach before after)
 
+-- what a step does to the file, and to what is cached of it
+abbrev pub CachedStep : Type 1
+CachedStep = StorageState → Cached → Result Unit Fault → StorageState → Cached → Type 0
+
 -- The tables are flushed, each by one request at most, and no block;
-abbrev pub WritesTables : StorageState → Cached → Result Unit Fault → StorageState → Cached → Type 0
+abbrev pub WritesTables : CachedStep
 WritesTables old cached result new cached' = (cached'.blocks ≡ cached.blocks)
-    × FlushedEach (λ a key table answer b table'. TableFlushed key table a answer b table') old cached.tables
-    (fault_of result) new cached'.tables
+    × FlushedEach TableFlushed old cached.tables (fault_of result) new cached'.tables
 
 -- or the blocks, and no table.
-abbrev pub WritesBlocks : StorageState → Cached → Result Unit Fault → StorageState → Cached → Type 0
+abbrev pub WritesBlocks : CachedStep
 WritesBlocks old cached result new cached' = (cached'.tables ≡ cached.tables)
-    × FlushedEach (λ a key block answer b block'. BlockFlushed key block a answer b block') old cached.blocks
-    (fault_of result) new cached'.blocks
+    × FlushedEach BlockFlushed old cached.blocks (fault_of result) new cached'.blocks
 
 -- One is done, and where it succeeded the other: no request of the second comes before the last of the first.
-pub record InTurn (First Second : StorageState → Cached → Result Unit Fault → StorageState → Cached → Type 0) (old : StorageState)
-    (cached : Cached) (result : Result Unit Fault) (new : StorageState) (cached' : Cached) : Type 0 where
+pub record InTurn (First Second : CachedStep) (old : StorageState) (cached : Cached) (result : Result Unit Fault) (new : StorageState)
+    (cached' : Cached) : Type 0 where
   pub mid : StorageState
   pub between : Cached
   pub answer : Result Unit Fault
@@ -84,19 +86,17 @@ pub record InTurn (First Second : StorageState → Cached → Result Unit Fault 
   pub second : answer ≡ Ok tt → Second mid between result new cached'
 
 -- What comes first is done before something, if it does.
-pub record Behind (comes_first : Type 0) (First Done : StorageState → Cached → Result Unit Fault → StorageState → Cached → Type 0)
-    (old : StorageState) (cached : Cached) (result : Result Unit Fault) (new : StorageState) (cached' : Cached) : Type 0 where
+pub record Behind (comes_first : Type 0) (First Done : CachedStep) (old : StorageState) (cached : Cached) (result : Result Unit Fault)
+    (new : StorageState) (cached' : Cached) : Type 0 where
   pub alone : (comes_first → ⊥) → Done old cached result new cached'
   pub in_turn : comes_first → InTurn First Done old cached result new cached'
 
 -- Blocks are written before something is done, where they come first,
-abbrev pub BehindBlocks : CacheDependency → (StorageState → Cached → Result Unit Fault → StorageState → Cached → Type 0) → StorageState
-    → Cached → Result Unit Fault → StorageState → Cached → Type 0
+abbrev pub BehindBlocks : CacheDependency → CachedStep → CachedStep
 BehindBlocks order = Behind (order ≡ L2DependsOnRb) WritesBlocks
 
 -- or tables, where these do.
-abbrev pub BehindTables : CacheDependency → (StorageState → Cached → Result Unit Fault → StorageState → Cached → Type 0) → StorageState
-    → Cached → Result Unit Fault → StorageState → Cached → Type 0
+abbrev pub BehindTables : CacheDependency → CachedStep → CachedStep
 BehindTables order = Behind (order ≡ RbDependsOnL2) WritesTables
 
 -- neither want of memory nor a storage that failed

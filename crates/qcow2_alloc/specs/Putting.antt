@@ -16,7 +16,7 @@ use Rattle.qcow2_alloc.specs.Backends.{TableFlushed, BlockFlushed}
 use Rattle.qcow2_alloc.specs.Cache.{hit, victim}
 use Rattle.qcow2_alloc.specs.Caches.{CachedFile, cached_in, order_of, HasRoomOf}
 use Rattle.qcow2_alloc.specs.Finding.{with_room, LetsTableIn, LetsBlockIn, IsPinnedFull, PinsNothing, CountsSearch}
-use Rattle.qcow2_alloc.specs.Going.{Going, WasNotCutOff, AreTablesInReach, AreBlocksInReach, WritesTables, WritesBlocks, BehindBlocks, BehindTables}
+use Rattle.qcow2_alloc.specs.Going.{Going, CachedStep, WasNotCutOff, AreTablesInReach, AreBlocksInReach, WritesTables, WritesBlocks, BehindBlocks, BehindTables}
 use Rattle.qcow2_alloc.specs.Memory.{Cached, written_table, written_block}
 use Rattle.qcow2_alloc.specs.Safety.{IsCachedTable, IsCachedBlock}
 
@@ -52,8 +52,8 @@ abbrev pub IsNewBlock : Bytes → Fields → ℕ → Block → List (ℕ × Slot
 IsNewBlock f h cluster block blocks = IsNew (IsCachedBlock f h cluster) (λ b. b.modified) cluster block blocks
 
 -- What makes way is flushed in place, behind what comes first, if that does.
-pub record MadeWay (comes_first : Type 0) (First : StorageState → Cached → Result Unit Fault → StorageState → Cached → Type 0)
-    (Flushes : StorageState → StorageState → Type 0) (before : StorageState) (cached : Cached) (after : StorageState) : Type 0 where
+pub record MadeWay (comes_first : Type 0) (First : CachedStep) (Flushes : StorageState → StorageState → Type 0) (before : StorageState)
+    (cached : Cached) (after : StorageState) : Type 0 where
   pub mid : StorageState
   pub between : Cached
   pub alone : (comes_first → ⊥) → mid ≡ before
@@ -63,12 +63,12 @@ pub record MadeWay (comes_first : Type 0) (First : StorageState → Cached → R
 -- a table, behind the blocks,
 abbrev pub TableMadeWay : CacheDependency → ℕ → TableValue → StorageState → Cached → StorageState → Type 0
 TableMadeWay order cluster table = MadeWay (order ≡ L2DependsOnRb) WritesBlocks
-    (λ mid after. (left : TableValue) × TableFlushed cluster table mid (Ok tt) after left)
+    (λ mid after. (left : TableValue) × TableFlushed mid cluster table (Ok tt) after left)
 
 -- and a block, behind the tables
 abbrev pub BlockMadeWay : CacheDependency → ℕ → Block → StorageState → Cached → StorageState → Type 0
 BlockMadeWay order cluster block = MadeWay (order ≡ RbDependsOnL2) WritesTables
-    (λ mid after. (left : Block) × BlockFlushed cluster block mid (Ok tt) after left)
+    (λ mid after. (left : Block) × BlockFlushed mid cluster block (Ok tt) after left)
 
 -- What the put of an L2 table does. It keeps a safe image safe where the table is what the file has.
 pub record TableInserted {S : Type 0} (state : S → StorageState) (cluster : ℕ) (table : TableValue) (old : CachedFile S)

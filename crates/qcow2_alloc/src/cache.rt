@@ -40,7 +40,7 @@ impl<S: Storage> AsyncLruCacheBackend for L2CacheBackend<S> {
         × TableLoaded old.header.fields key (S.state old.image) result (S.state new.image) };
 
     ghost flushes = { λ old key table result new table'. (new.header ≡ old.header)
-        × TableFlushed key table (S.state old.image) result (S.state new.image) table' };
+        × TableFlushed (S.state old.image) key table result (S.state new.image) table' };
 
     fn load(&self, device: &mut ImageFile<S>, key: HostCluster) -> Result<L2Table, Fault> {
         if !is_in_reach(key, device.header.cluster_bits()) {
@@ -98,7 +98,7 @@ impl<S: Storage> AsyncLruCacheBackend for RefBlockCacheBackend<S> {
         × BlockLoaded old.header.fields key (S.state old.image) result (S.state new.image) };
 
     ghost flushes = { λ old key block result new block'. (new.header ≡ old.header)
-        × BlockFlushed key block (S.state old.image) result (S.state new.image) block' };
+        × BlockFlushed (S.state old.image) key block result (S.state new.image) block' };
 
     fn load(&self, device: &mut ImageFile<S>, key: HostCluster) -> Result<RefBlock, Fault> {
         if !is_in_reach(key, device.header.cluster_bits()) {

@@ -162,7 +162,7 @@ module _ {S V W : Type 0} (side : Side S V W) (laws : SideLaws side) (cluster : 
                 (λ no. (ap (λ (f : ImageFile S). side.state f.image) (w.idle no).2, ap (λ (c : Beside S V W A B). cached_of side c) (w.idle no).1)) w.did
                 (laws.lets other.slots.entries es es' (side.state between.image) (side.state after.image) (done_of result)
                 (lets-in (λ (d : ImageFile S). side.state d.image) (loads_of side) (flushes_of side) (λ a b key answer load. laws.kept a.header.fields key (side.state a.image) answer (side.state b.image) load.1)
-                (λ a key value answer b value'. Flushed side.writes key value a answer b value') (λ a b key value value' answer flush. flush.1) cap cluster between es result after es' absent full r));
+                (Flushed side.writes) (λ a b key value value' answer flush. flush.1) cap cluster between es result after es' absent full r));
             still = λ own rest.
                 let n = first-idle side laws old before mid between (Ok tt) w rest in
                 let k = side-still true cap between es result after es' r own in

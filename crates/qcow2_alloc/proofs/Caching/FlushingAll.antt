@@ -23,7 +23,7 @@ pub record AllFlushed {S V W A B : Type 0} (side : Side S V W) (old : Beside S V
   pub cause : CountsWrites (AreInReach side old.own.slots.entries) (side.state before.image).faults (side.state after.image).faults result
   pub faults : WasNotCutOff result → IsFaultless (side.state before.image) (side.state after.image)
   pub kept : map side.written es' ≡ map side.written old.own.slots.entries
-  pub told : FlushedEach (λ a key v answer b v'. Flushed side.writes key v a answer b v') (side.state before.image) old.own.slots.entries (fault_of result) (side.state after.image) es'
+  pub told : FlushedEach (Flushed side.writes) (side.state before.image) old.own.slots.entries (fault_of result) (side.state after.image) es'
 
 module _ {S V W A B : Type 0} (side : Side S V W) (laws : SideLaws side) (old : Beside S V W A B) (before : ImageFile S) (result : Result Unit Fault) (after : ImageFile S) (es' : List (ℕ × Slot V))
     (did : FlushedEach (flushes_of side) before old.own.slots.entries (fault_of result) after es') where
@@ -49,5 +49,5 @@ module _ {S V W A B : Type 0} (side : Side S V W) (laws : SideLaws side) (old : 
     cause = each-counted state (flushes_of side) (Reach side) counted before old.own.slots.entries result after es' did;
     faults = each-faultless state (flushes_of side) (Reach side) counted before old.own.slots.entries result after es' did;
     kept = each-kept (flushes_of side) side.written (λ key slot a answer b v' flush. laws.keeps key slot (state a) answer (state b) v' flush.1) before old.own.slots.entries (fault_of result) after es' did;
-    told = each-told state (flushes_of side) (λ a key v answer b v'. Flushed side.writes key v a answer b v') (λ a key v answer b v' flush. flush.1) before old.own.slots.entries (fault_of result) after es' did;
+    told = each-told state (flushes_of side) (Flushed side.writes) (λ a key v answer b v' flush. flush.1) before old.own.slots.entries (fault_of result) after es' did;
   }

@@ -15,7 +15,7 @@ use Rattle.qcow2_alloc.specs.declared.cache.CacheDependency.TheVariants.{Unset, 
 use Rattle.qcow2_alloc.specs.Backends.{TableFlushed, BlockFlushed}
 use Rattle.qcow2_alloc.specs.Cache.{cache_kind, FlushedAt, Evicted, MadeRoom, Loaded, LoadedAfter, Readied, FlushedEach, fault_of, latest, with_value}
 use Rattle.qcow2_alloc.specs.Finding.{LetsIn}
-use Rattle.qcow2_alloc.specs.Going.{WritesTables, WritesBlocks, Behind}
+use Rattle.qcow2_alloc.specs.Going.{CachedStep, WritesTables, WritesBlocks, Behind}
 use Rattle.qcow2_alloc.specs.Memory.{Cached}
 use Rattle.qcow2_alloc.specs.Safety.{AreTablesClean, AreBlocksClean}
 use Rattle.qcow2_alloc.proofs.Flushing.Going.{kept-same}
@@ -48,12 +48,12 @@ answered (Err fault) is = absurd (cc)
 
 pub tables-none : (a b : StorageState) (c c' : Cached) (result : Result Unit Fault) → WritesTables a c result b c' → AreTablesClean c → (result ≡ Ok tt) × (b ≡ a) × (c' ≡ c)
 tables-none a b c c' result did all =
-    let none = flushed-none (λ a key table answer b table'. TableFlushed key table a answer b table') (λ t. t.modified) (λ a b key v v' r f off. f.clean off) c.tables a b (fault_of result) c'.tables did.1 all in
+    let none = flushed-none TableFlushed (λ t. t.modified) (λ a b key v v' r f off. f.clean off) c.tables a b (fault_of result) c'.tables did.1 all in
     (answered result none.0, none.1, ap (λ x. record { tables = x; blocks = c'.blocks }) none.2 ∙ ap (λ x. record { tables = c.tables; blocks = x }) did.0)
 
 pub blocks-none : (a b : StorageState) (c c' : Cached) (result : Result Unit Fault) → WritesBlocks a c result b c' → AreBlocksClean c → (result ≡ Ok tt) × (b ≡ a) × (c' ≡ c)
 blocks-none a b c c' result did all =
-    let none = flushed-none (λ a key block answer b block'. BlockFlushed key block a answer b block') (λ t. t.modified) (λ a b key v v' r f off. f.clean off) c.blocks a b (fault_of result) c'.blocks did.1 all in
+    let none = flushed-none BlockFlushed (λ t. t.modified) (λ a b key v v' r f off. f.clean off) c.blocks a b (fault_of result) c'.blocks did.1 all in
     (answered result none.0, none.1, ap (λ x. record { tables = c'.tables; blocks = x }) none.2 ∙ ap (λ x. record { tables = x; blocks = c.blocks }) did.0)
 
 module _ {V D : Type 0} (state : D → StorageState) (loads : D → ℕ → Result V Fault → D → Type 0) (flushes : D → ℕ → V → Result Unit Fault → D → V → Type 0)
@@ -155,7 +155,7 @@ module _ (order : CacheDependency) (a b : StorageState) (c c' : Cached) (answer 
   tables-idle idle did clean = elim (is-order order RbDependsOnL2) [ inl is ↦ tables-none a b c c' answer (did is) clean | inr other ↦ idle other ]
 
 -- Something is done behind what comes first, once that is;
-pub behind-done : (comes_first : Type 0) (First Done : StorageState → Cached → Result Unit Fault → StorageState → Cached → Type 0) (a b d : StorageState) (c e c' : Cached) (result : Result Unit Fault)
+pub behind-done : (comes_first : Type 0) (First Done : CachedStep) (a b d : StorageState) (c e c' : Cached) (result : Result Unit Fault)
     → ((comes_first → ⊥) → (b ≡ a) × (e ≡ c)) → (comes_first → First a c (Ok tt) b e) → Done b e result d c' → Behind comes_first First Done a c result d c'
 behind-done comes_first First Done a b d c e c' result idle did done = record {
   alone = λ no. let i = idle no in subst (λ (s : StorageState). Done s c result d c') i.0 (subst (λ (x : Cached). Done b x result d c') i.1 done);
@@ -163,7 +163,7 @@ behind-done comes_first First Done a b d c e c' result idle did done = record {
 }
 
 -- and not where that is refused.
-pub behind-refused : (comes_first : Type 0) (First Done : StorageState → Cached → Result Unit Fault → StorageState → Cached → Type 0) (a b : StorageState) (c e : Cached) (fault : Fault)
+pub behind-refused : (comes_first : Type 0) (First Done : CachedStep) (a b : StorageState) (c e : Cached) (fault : Fault)
     → ((comes_first → ⊥) → ⊥) → (comes_first → First a c (Err fault) b e) → Behind comes_first First Done a c (Err fault) b e
 behind-refused comes_first First Done a b c e fault never did = record {
   alone = λ no. absurd (never no);

@@ -15,7 +15,7 @@ use Rattle.qcow2_alloc.specs.declared.cache.CacheDependency.{CacheDependency}
 use Rattle.qcow2_alloc.specs.declared.file.ImageFile.{ImageFile}
 use Rattle.qcow2_alloc.specs.Backends.{Flushed, WrittenKind}
 use Rattle.qcow2_alloc.specs.Finding.{LetsIn, WhyNotFound}
-use Rattle.qcow2_alloc.specs.Going.{Going, Always, WasNotCutOff, CountsWrites}
+use Rattle.qcow2_alloc.specs.Going.{Going, CachedStep, Always, WasNotCutOff, CountsWrites}
 use Rattle.qcow2_alloc.specs.Memory.{Cached, memory}
 use Rattle.qcow2_alloc.specs.Safety.{Safe, IsLeft}
 use Rattle.qcow2_alloc.proofs.Caching.Entering.{away-of}
@@ -48,8 +48,8 @@ pub record Side (S V W : Type 0) : Type 1 where
   pub Fits : Bytes → Fields → ℕ → V → Type 0
   -- the order in which the other one is written first, how it is written, and what is known of it
   pub first : CacheDependency
-  pub Writes : StorageState → Cached → Result Unit Fault → StorageState → Cached → Type 0
-  pub Lets : StorageState → Cached → Result Unit Fault → StorageState → Cached → Type 0
+  pub Writes : CachedStep
+  pub Lets : CachedStep
   pub OtherClean : Cached → Type 0
   pub OtherReach : Cached → Type 0
 
@@ -59,7 +59,7 @@ module _ {S V W : Type 0} (side : Side S V W) where
   loads_of old key answer new = (new.header ≡ old.header) × side.Loads old.header.fields key (side.state old.image) answer (side.state new.image)
 
   abbrev pub flushes_of : ImageFile S → ℕ → V → Result Unit Fault → ImageFile S → V → Type 0
-  flushes_of old key value answer new value' = (new.header ≡ old.header) × Flushed side.writes key value (side.state old.image) answer (side.state new.image) value'
+  flushes_of old key value answer new value' = (new.header ≡ old.header) × Flushed side.writes (side.state old.image) key value answer (side.state new.image) value'
 
   -- words can name each that is to be written, or nothing is
   abbrev pub Reach : ℕ → V → Type 0
@@ -87,12 +87,12 @@ module _ {S V W : Type 0} (side : Side S V W) where
     pub counts : (h : Fields) (key : ℕ) (a : StorageState) (answer : Result V Fault) (b : StorageState) → side.Loads h key a answer b
         → (a.faults ≤ b.faults) × MatchResult answer (λ _. b.faults ≡ a.faults) (WhyNotFound (side.Fine (bytes_of b.bytes) h key) ⊥ a.faults b.faults)
     pub still : (h : Fields) (key : ℕ) (a : StorageState) (answer : Result V Fault) (b : StorageState) → side.Loads h key a answer b → WasNotCutOff answer → b.faults ≡ a.faults
-    pub keeps : (key : ℕ) (slot : Slot V) (a : StorageState) (answer : Result Unit Fault) (b : StorageState) (value : V) → Flushed side.writes key slot.value a answer b value
+    pub keeps : (key : ℕ) (slot : Slot V) (a : StorageState) (answer : Result Unit Fault) (b : StorageState) (value : V) → Flushed side.writes a key slot.value answer b value
         → side.written (key, record slot { value = value }) ≡ side.written (key, slot)
-    pub counted : (key : ℕ) (v : V) (a b : StorageState) (answer : Result Unit Fault) (v' : V) → Flushed side.writes key v a answer b v' → Counted (Reach key v) a b answer
-    pub cleaned : (key : ℕ) (v : V) (a b : StorageState) (v' : V) → Flushed side.writes key v a (Ok tt) b v' → side.writes.modified v' ≡ false
+    pub counted : (key : ℕ) (v : V) (a b : StorageState) (answer : Result Unit Fault) (v' : V) → Flushed side.writes a key v answer b v' → Counted (Reach key v) a b answer
+    pub cleaned : (key : ℕ) (v : V) (a b : StorageState) (v' : V) → Flushed side.writes a key v (Ok tt) b v' → side.writes.modified v' ≡ false
     pub flushed : (H : Header) (order : CacheDependency) (rest : List (ℕ × Slot W)) (front : List (ℕ × Slot V)) (key : ℕ) (slot : Slot V) (back : List (ℕ × Slot V)) (a b : StorageState) (answer : Result Unit Fault) (value : V)
-        → Flushed side.writes key slot.value a answer b value
+        → Flushed side.writes a key slot.value answer b value
         → Going H order (Ready order) (WasNotCutOff answer) a (side.put rest (front ++ (key, slot) ∷ back)) b (side.put rest (front ++ (key, record slot { value = value }) ∷ back))
     -- one leaves, comes, and is as it was in each file that writes of others leave
     pub leaves : (f : Bytes) (H : Header) (order : CacheDependency) (rest : List (ℕ × Slot W)) (front : List (ℕ × Slot V)) (key : ℕ) (slot : Slot V) (back : List (ℕ × Slot V)) → side.writes.modified slot.value ≡ false
@@ -109,7 +109,7 @@ module _ {S V W : Type 0} (side : Side S V W) where
     pub same : (rest : List (ℕ × Slot W)) (A B : List (ℕ × Slot V)) → side.OtherClean (side.put rest A) → side.OtherClean (side.put rest B)
     pub near : (f : Bytes) (H : Header) (order : CacheDependency) (cached : Cached) → Safe f H cached order → side.OtherReach cached
     pub lets : (rest : List (ℕ × Slot W)) (es es' : List (ℕ × Slot V)) (a b : StorageState) (result : Result Unit Fault)
-        → LetsIn (λ a key value answer b value'. Flushed side.writes key value a answer b value') a es result b es' → side.Lets a (side.put rest es) result b (side.put rest es')
+        → LetsIn (Flushed side.writes) a es result b es' → side.Lets a (side.put rest es) result b (side.put rest es')
     pub idle : (order : CacheDependency) (a b : StorageState) (c c' : Cached) (answer : Result Unit Fault) → ((order ≡ side.first → ⊥) → (answer ≡ Ok tt) × (b ≡ a) × (c' ≡ c))
         → (order ≡ side.first → side.Writes a c answer b c') → side.OtherClean c → (answer ≡ Ok tt) × (b ≡ a) × (c' ≡ c)
 

@@ -60,7 +60,7 @@ far-counted reach old new result far same refused = record {
 
 -- One is flushed, of a kind that is written by one request:
 entry-counted : {V : Type 0} (kind : WrittenKind V) → ((v : V) (place : ℕ) (old new : StorageState) (result : Result Unit Fault) → kind.Puts v place old new result → (bytes : List ℕ) × PutAtOnce old new place bytes result)
-    → (key : ℕ) (v : V) (old new : StorageState) (result : Result Unit Fault) (v' : V) → Flushed kind key v old result new v' → Counted (kind.modified v ≡ true → IsInReach (kind.cluster_bits v) key) old new result
+    → (key : ℕ) (v : V) (old new : StorageState) (result : Result Unit Fault) (v' : V) → Flushed kind old key v result new v' → Counted (kind.modified v ≡ true → IsInReach (kind.cluster_bits v) key) old new result
 entry-counted kind puts key v old new result v' flushed = elim (cases_Bool (kind.modified v)) [
   | inr clean ↦ let none = flushed.clean clean in none-counted _ old new result none.1 none.0
   | inl modified ↦ elim (cases_lt max_offset (key * 2 ^ kind.cluster_bits v)) [
@@ -70,12 +70,12 @@ entry-counted kind puts key v old new result v' flushed = elim (cases_Bool (kind
 ]
 
 -- a table,
-pub table-counted : (key : ℕ) (t : TableValue) (old new : StorageState) (result : Result Unit Fault) (t' : TableValue) → TableFlushed key t old result new t'
+pub table-counted : (key : ℕ) (t : TableValue) (old new : StorageState) (result : Result Unit Fault) (t' : TableValue) → TableFlushed old key t result new t'
     → Counted (t.modified ≡ true → IsInReach t.layout.cluster_bits key) old new result
 table-counted = entry-counted written_tables (λ t place old new result put. (table_bytes t.words, put))
 
 -- or a block.
-pub block-counted : (key : ℕ) (b : Block) (old new : StorageState) (result : Result Unit Fault) (b' : Block) → BlockFlushed key b old result new b'
+pub block-counted : (key : ℕ) (b : Block) (old new : StorageState) (result : Result Unit Fault) (b' : Block) → BlockFlushed old key b result new b'
     → Counted (b.modified ≡ true → IsInReach b.cluster_bits key) old new result
 block-counted = entry-counted written_blocks (λ b place old new result put. (put.bytes, put.put))
 

@@ -68,12 +68,12 @@ module _ (H : Header) (order : CacheDependency) (tables : List (ℕ × Slot Tabl
       }
 
   -- Whatever it is, where it wasn't cut off.
-  pub block-flushed : (result : Result Unit Fault) (value : Block) → BlockFlushed key here.value old result new value
+  pub block-flushed : (result : Result Unit Fault) (value : Block) → BlockFlushed old key here.value result new value
       → Going H order (ReadyBlocks order) (WasNotCutOff result) old before new (blocks_with tables front key (record here { value = value }) back)
   block-flushed =
       entry-flushed written_blocks H order (ReadyBlocks order) (λ slot. blocks_with tables front key slot back) key here old new (λ slot r. r)
       (λ modified safe. noted here.value key (this modified safe).placed modified) (λ result done. (done.bytes, done.put, some result done)) there
 
 -- One that is flushed isn't modified then.
-pub flushed-clean : (key : ℕ) (b : Block) (old new : StorageState) (b' : Block) → BlockFlushed key b old done_so new b' → b'.modified ≡ false
+pub flushed-clean : (key : ℕ) (b : Block) (old new : StorageState) (b' : Block) → BlockFlushed old key b done_so new b' → b'.modified ≡ false
 flushed-clean = entry-clean written_blocks (λ b key. refl)

@@ -109,19 +109,19 @@ module _ {V : Type 0} (kind : WrittenKind V) (H : Header) (order : CacheDependen
       subst (λ (s : StorageState). Going H order Ready ok old (put here) s (now value)) (sym same)
       (subst (λ (v : V). Going H order Ready ok old (put here) old (now v)) (sym same') (going-none H order Ready ok old (put here)))
 
-  by-answer : (result : Result Unit Fault) (value : V) → kind.modified here.value ≡ true → IsInReach (kind.cluster_bits here.value) key → Flushed kind key here.value old result new value → Goes (result ≡ done_so) value
+  by-answer : (result : Result Unit Fault) (value : V) → kind.modified here.value ≡ true → IsInReach (kind.cluster_bits here.value) key → Flushed kind old key here.value result new value → Goes (result ≡ done_so) value
   by-answer (Ok done) value modified reach flushed = subst (λ (v : V). Goes (done_so ≡ done_so) v) (sym (flushed.ok modified)) (entry-put modified (flushed.written modified reach))
   by-answer (Err fault) value modified reach flushed =
       subst (λ (v : V). Goes (Err fault ≡ done_so) v) (sym (flushed.err modified reach)) (entry-refused fault modified (Err fault) refl (flushed.written modified reach))
 
-  whole-answer : (result : Result Unit Fault) (value : V) → kind.modified here.value ≡ true → IsInReach (kind.cluster_bits here.value) key → Flushed kind key here.value old result new value → Goes (WasNotCutOff result) value
+  whole-answer : (result : Result Unit Fault) (value : V) → kind.modified here.value ≡ true → IsInReach (kind.cluster_bits here.value) key → Flushed kind old key here.value result new value → Goes (WasNotCutOff result) value
   whole-answer (Ok done) value modified reach flushed = going-weaker H order Ready (done_so ≡ done_so) ⊤ old new (put here) (now value) (λ w. refl) (by-answer (Ok done) value modified reach flushed)
   whole-answer (Err fault) value modified reach flushed =
       going-weaker H order Ready (Err fault ≡ done_so) (IsMild fault) old new (put here) (now value)
       (λ mild. absurd (never-mild old.faults new.faults fault (puts (Err fault) (flushed.written modified reach)).1.put.answer.cause mild)) (by-answer (Err fault) value modified reach flushed)
 
   -- Whatever it is, where it wasn't cut off.
-  pub entry-flushed : (result : Result Unit Fault) (value : V) → Flushed kind key here.value old result new value → Goes (WasNotCutOff result) value
+  pub entry-flushed : (result : Result Unit Fault) (value : V) → Flushed kind old key here.value result new value → Goes (WasNotCutOff result) value
   entry-flushed result value flushed = elim (cases_Bool (kind.modified here.value)) [
     | inr clean ↦ let none = flushed.clean clean in entry-stays (WasNotCutOff result) value none.1 none.2
     | inl modified ↦ elim (cases_lt max_offset (key * 2 ^ kind.cluster_bits here.value)) [
@@ -131,7 +131,7 @@ module _ {V : Type 0} (kind : WrittenKind V) (H : Header) (order : CacheDependen
   ]
 
 -- One that is flushed isn't modified then.
-pub entry-clean : {V : Type 0} (kind : WrittenKind V) → ((v : V) (key : ℕ) → kind.modified (kind.marked v key false) ≡ false) → (key : ℕ) (v : V) (old new : StorageState) (v' : V) → Flushed kind key v old done_so new v' → kind.modified v' ≡ false
+pub entry-clean : {V : Type 0} (kind : WrittenKind V) → ((v : V) (key : ℕ) → kind.modified (kind.marked v key false) ≡ false) → (key : ℕ) (v : V) (old new : StorageState) (v' : V) → Flushed kind old key v done_so new v' → kind.modified v' ≡ false
 entry-clean kind off key v old new v' flushed = elim (cases_Bool (kind.modified v)) [
   | inr clean ↦ ap (λ (w : _). kind.modified w) (flushed.clean clean).2 ∙ clean
   | inl modified ↦ ap (λ (w : _). kind.modified w) (flushed.ok modified) ∙ off v key

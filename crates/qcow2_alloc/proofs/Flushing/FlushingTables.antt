@@ -55,7 +55,7 @@ module _ (H : Header) (order : CacheDependency) (front : List (ℕ × Slot Table
       }
 
   -- Whatever it is, where it wasn't cut off.
-  pub table-flushed : (result : Result Unit Fault) (value : TableValue) → TableFlushed key here.value old result new value
+  pub table-flushed : (result : Result Unit Fault) (value : TableValue) → TableFlushed old key here.value result new value
       → Going H order (ReadyTables order) (WasNotCutOff result) old before new (tables_with front key (record here { value = value }) back blocks)
   table-flushed =
       entry-flushed written_tables H order (ReadyTables order) (λ slot. tables_with front key slot back blocks) key here old new (λ slot r. r)
@@ -63,5 +63,5 @@ module _ (H : Header) (order : CacheDependency) (front : List (ℕ × Slot Table
       (λ result put. (table_bytes here.value.words, put, some)) there
 
 -- One that is flushed isn't modified then.
-pub flushed-clean : (key : ℕ) (t : TableValue) (old new : StorageState) (t' : TableValue) → TableFlushed key t old done_so new t' → t'.modified ≡ false
+pub flushed-clean : (key : ℕ) (t : TableValue) (old new : StorageState) (t' : TableValue) → TableFlushed old key t done_so new t' → t'.modified ≡ false
 flushed-clean = entry-clean written_tables (λ t key. refl)

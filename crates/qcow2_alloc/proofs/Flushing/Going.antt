@@ -20,7 +20,7 @@ use Rattle.qcow2_alloc.proofs.Flushing.Turns.{none-later}
 use Rattle.qcow2_alloc.specs.declared.cache.CacheDependency.{CacheDependency}
 use Rattle.qcow2_alloc.specs.Memory.{Cached, memory}
 use Rattle.qcow2_alloc.specs.Safety.{Safe, IsLeft, IsCalm, IsSettled}
-use Rattle.qcow2_alloc.specs.Going.{Going, Always, InTurn}
+use Rattle.qcow2_alloc.specs.Going.{Going, CachedStep, Always, InTurn}
 
 -- A file may be left as it is,
 pub left-same : (f g : Bytes) (H : Header) → IsConsistent f H → IsLeft f g H f
@@ -216,7 +216,7 @@ going-quiet H order Ready ok a b A B kept faults same-count ready safely same = 
     back P = subst P kept.shape
 
 -- What is done in turn, where the first succeeded, and where it didn't.
-module _ (First Second : StorageState → Cached → Result Unit Fault → StorageState → Cached → Type 0) (a b : StorageState) (A B : Cached) where
+module _ (First Second : CachedStep) (a b : StorageState) (A B : Cached) where
   pub in-turn-both : (c : StorageState) (C : Cached) (result : Result Unit Fault) → First a A (Ok tt) b B → Second b B result c C → InTurn First Second a A result c C
   in-turn-both c C result first second = record { mid = b; between = B; answer = Ok tt; first = first; halted = λ e. absurd (cc e); second = λ done. second }
 

@@ -13,7 +13,7 @@ use Rattle.qcow2_alloc.specs.Memory.{written_table, written_block}
 
 -- whatever kind it is of, where its marks are nothing of it:
 entry-kept : {V : Type 0} (kind : WrittenKind V) (written : ℕ × Slot V → ℕ × Slot V) → ((key : ℕ) (slot : Slot V) (modified : Bool) → written (key, record slot { value = kind.marked slot.value key modified }) ≡ written (key, slot))
-    → (key : ℕ) (slot : Slot V) (old : StorageState) (result : Result Unit Fault) (new : StorageState) (v' : V) → Flushed kind key slot.value old result new v' → written (key, record slot { value = v' }) ≡ written (key, slot)
+    → (key : ℕ) (slot : Slot V) (old : StorageState) (result : Result Unit Fault) (new : StorageState) (v' : V) → Flushed kind old key slot.value result new v' → written (key, record slot { value = v' }) ≡ written (key, slot)
 entry-kept kind written marks key slot old result new v' flushed = elim (cases_Bool (kind.modified slot.value)) [
   | inr clean ↦ as-one slot.value (flushed.clean clean).2 refl
   | inl modified ↦ elim (cases_lt max_offset (key * 2 ^ kind.cluster_bits slot.value)) [
@@ -25,17 +25,17 @@ entry-kept kind written marks key slot old result new v' flushed = elim (cases_B
     as-one : (v : _) → v' ≡ v → written (key, record slot { value = v }) ≡ written (key, slot) → written (key, record slot { value = v' }) ≡ written (key, slot)
     as-one v same is = ap (λ (w : _). written (key, record slot { value = w })) same ∙ is
 
-    by-answer : (result : Result Unit Fault) → Flushed kind key slot.value old result new v' → kind.modified slot.value ≡ true → IsInReach (kind.cluster_bits slot.value) key
+    by-answer : (result : Result Unit Fault) → Flushed kind old key slot.value result new v' → kind.modified slot.value ≡ true → IsInReach (kind.cluster_bits slot.value) key
         → written (key, record slot { value = v' }) ≡ written (key, slot)
     by-answer (Ok done) flushed modified reach = as-one (kind.marked slot.value key false) (flushed.ok modified) (marks key slot false)
     by-answer (Err fault) flushed modified reach = as-one (kind.marked slot.value key true) (flushed.err modified reach) (marks key slot true)
 
 -- a table
-pub table-kept : (key : ℕ) (slot : Slot TableValue) (old : StorageState) (result : Result Unit Fault) (new : StorageState) (t' : TableValue) → TableFlushed key slot.value old result new t'
+pub table-kept : (key : ℕ) (slot : Slot TableValue) (old : StorageState) (result : Result Unit Fault) (new : StorageState) (t' : TableValue) → TableFlushed old key slot.value result new t'
     → written_table (key, record slot { value = t' }) ≡ written_table (key, slot)
 table-kept = entry-kept written_tables written_table (λ key slot modified. refl)
 
 -- and a block
-pub block-kept : (key : ℕ) (slot : Slot Block) (old : StorageState) (result : Result Unit Fault) (new : StorageState) (b' : Block) → BlockFlushed key slot.value old result new b'
+pub block-kept : (key : ℕ) (slot : Slot Block) (old : StorageState) (result : Result Unit Fault) (new : StorageState) (b' : Block) → BlockFlushed old key slot.value result new b'
     → written_block (key, record slot { value = b' }) ≡ written_block (key, slot)
 block-kept = entry-kept written_blocks written_block (λ key slot modified. refl)
