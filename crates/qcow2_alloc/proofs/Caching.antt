@@ -1,7 +1,6 @@
 -- Entries of the caches: found, loaded, put, used, dropped.
 pub mod Entries
-pub mod CachedTables
-pub mod CachedBlocks
+pub mod CachedEntries
 pub mod Empty
 pub mod Entering
 pub mod Pins

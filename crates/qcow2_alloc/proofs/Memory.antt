@@ -1,8 +1,10 @@
 -- What is in memory over the file.
+pub mod EntryKinds
 pub mod Patches
 pub mod MemoryWords
 pub mod SafeLaws
 pub mod MemoryImage
+pub mod ChangingEntries
 pub mod ChangingCounters
 pub mod ChangingWords
 pub mod DroppingNames

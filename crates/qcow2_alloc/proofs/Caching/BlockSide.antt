@@ -1,5 +1,5 @@
 -- The cache of refcount blocks, beside that of L2 tables.
-use Rattle.std.proofs.Common.{◌≡◌, ℕ, ◌*◌, ◌^◌, ◌≤◌, refl, arith, ap, sym, subst, ◌∙◌, [], inl, inr, length, Result, Ok, Err}
+use Rattle.std.proofs.Common.{◌≡◌, ℕ, ◌*◌, ◌^◌, ◌≤◌, refl, arith, ap, sym, subst, ◌∙◌, inl, inr, length, Result, Ok, Err}
 use Rattle.std.proofs.lemmas.Bool.{cases_lt}
 use Rattle.std.proofs.lemmas.List.FromFn.{length-map-range_with_len}
 use Rattle.std.specs.Prelude.{MatchResult, OnOk}
@@ -19,14 +19,14 @@ use Rattle.qcow2_alloc.specs.declared.cache.L2CacheBackend.{L2CacheBackend}
 use Rattle.qcow2_alloc.specs.declared.cache.MetadataCaches.{MetadataCaches}
 use Rattle.qcow2_alloc.specs.declared.cache.RefBlockCacheBackend.{RefBlockCacheBackend}
 use Rattle.qcow2_alloc.specs.declared.file.ImageFile.{ImageFile}
-use Rattle.qcow2_alloc.specs.Backends.{BlockLoaded, written_blocks}
+use Rattle.qcow2_alloc.specs.Backends.{BlockLoaded}
 use Rattle.qcow2_alloc.specs.Caches.{HasRoomOf, cached_file, cached_in, order_of}
 use Rattle.qcow2_alloc.specs.Finding.{LetsBlockIn, BlockFound, WhyNotFound}
 use Rattle.qcow2_alloc.specs.Going.{Going, Always, ReadyBlocks, WasNotCutOff, AreTablesInReach, CountsWrites, WritesTables}
 use Rattle.qcow2_alloc.specs.Memory.{Cached, written, written_table, written_block}
 use Rattle.qcow2_alloc.specs.Putting.{BlockInserted, refusal_of}
 use Rattle.qcow2_alloc.specs.Safety.{IsCachedBlock, AreTablesClean}
-use Rattle.qcow2_alloc.proofs.Caching.Entering.{block-leaves, block-leaves-safe, block-comes, block-comes-safe}
+use Rattle.qcow2_alloc.proofs.Caching.CachedEntries.{block-kind-laws}
 use Rattle.qcow2_alloc.proofs.Caching.Finding.{Found}
 use Rattle.qcow2_alloc.proofs.Caching.LettingIn.{tables-idle}
 use Rattle.qcow2_alloc.proofs.Caching.Putting.{PutSo}
@@ -37,6 +37,7 @@ use Rattle.qcow2_alloc.proofs.Flushing.Counting.{block-counted}
 use Rattle.qcow2_alloc.proofs.Flushing.Faultless.{never-mild}
 use Rattle.qcow2_alloc.proofs.Flushing.FlushingBlocks.{block-flushed, flushed-clean}
 use Rattle.qcow2_alloc.proofs.Flushing.Kept.{block-kept}
+use Rattle.qcow2_alloc.proofs.Memory.EntryKinds.{block_kind}
 use Rattle.qcow2_alloc.proofs.Memory.SafeLaws.{safe-reach}
 
 -- A load that wasn't cut off leaves the count of faults as it was.
@@ -83,14 +84,12 @@ module _ {S : Type 0} (state : S → StorageState) where
   abbrev pub blocks : Side S Block TableValue
   blocks = record {
     state = state;
-    writes = written_blocks;
+    kind = block_kind;
     Loads = BlockLoaded;
     read = block_in;
     written = written_block;
     other_written = written_table;
-    put = λ tables es. record { tables = tables; blocks = es };
     Fine = λ f h key. IsInReach h.cluster_bits key;
-    Fits = IsCachedBlock;
     first = RbDependsOnL2;
     Writes = WritesTables;
     Lets = LetsBlockIn;
@@ -100,6 +99,7 @@ module _ {S : Type 0} (state : S → StorageState) where
 
   pub block-laws : SideLaws blocks
   block-laws = record {
+    entries = block-kind-laws;
     kept = λ h key a answer b load. load.kept;
     reads = λ h key a value b load. load.ok.1;
     clean = λ f h key. refl;
@@ -110,9 +110,6 @@ module _ {S : Type 0} (state : S → StorageState) where
     counted = block-counted;
     cleaned = flushed-clean;
     flushed = block-flushed;
-    leaves = λ f H order tables front key slot back clean. (block-leaves f H order tables front key slot back clean, block-leaves-safe f H order tables front key slot back clean);
-    comes = λ f H order tables key slot es clean. (block-comes f H order tables [] key slot [] es clean, λ away fits. block-comes-safe f H order tables [] key slot [] es clean away fits);
-    apart = λ f H order tables es safe. safe.blocks_apart;
     stays = λ f H order tables es safe x left key value free. block-stays f H order (record { tables = tables; blocks = es }) safe x left key value free;
     same = λ tables A B clean. clean;
     near = λ f H order cached safe. (safe-reach f H cached order safe).0;

@@ -1,21 +1,19 @@
 -- What isn't pinned is dropped.
 use Rattle.std.proofs.Common.{◌≡◌, ℕ, ap, sym, ◌∙◌, List, [], ◌∷◌, ◌++◌, false, inl, inr}
 use Rattle.std.specs.Prelude.{nat_eq, nat_lt}
-use Rattle.std.specs.List.{AllByRecursion, IsDistinct, filter_map}
+use Rattle.std.specs.List.{AllByRecursion, IsDistinct}
 use Rattle.std.specs.Map.{keys_of}
 use Rattle.std.proofs.lemmas.Bool.{cases_Bool}
 use Rattle.qcow2_types.specs.Bytes.{Bytes}
 use Rattle.qcow2_types.specs.Header.{Header, cluster_size}
 use Rattle.qcow2_types.specs.Over.{Patch, over}
-use Rattle.qcow2_metadata.specs.Tables.{TableValue}
-use Rattle.qcow2_metadata.specs.Blocks.{Block}
 use Rattle.qcow2_alloc.specs.declared.async_lru_cache.Slot.{Slot}
 use Rattle.qcow2_alloc.specs.declared.cache.CacheDependency.{CacheDependency}
 use Rattle.qcow2_alloc.specs.Cache.{kept_pinned}
 use Rattle.qcow2_alloc.specs.Dropping.{StaysSafe}
-use Rattle.qcow2_alloc.specs.Memory.{table_patch, block_patch, memory}
-use Rattle.qcow2_alloc.proofs.Caching.Entering.{safe-like}
-use Rattle.qcow2_alloc.proofs.Memory.SafeLaws.{no-tables, no-blocks}
+use Rattle.qcow2_alloc.specs.Memory.{memory}
+use Rattle.qcow2_alloc.proofs.Caching.CachedEntries.{EntryLaws, safe-with}
+use Rattle.qcow2_alloc.proofs.Memory.EntryKinds.{EntryKind, no-patches}
 
 module _ {V : Type 0} where
   -- what holds of all holds of those that stay
@@ -41,26 +39,18 @@ module _ {V : Type 0} where
     | inr t ↦ rw t (distinct-kept es apart.1)
   ]
 
-pub tables-dropped : (tables : List (ℕ × Slot TableValue)) (blocks : List (ℕ × Slot Block)) (order : CacheDependency) → AllByRecursion (λ e. e.1.value.modified ≡ false) tables
-    → StaysSafe (record { tables = tables; blocks = blocks }) (record { tables = kept_pinned tables; blocks = blocks }) order
-tables-dropped tables blocks order clean = record {
+-- All that isn't pinned is, where nothing of it is to be written.
+pub entries-dropped : {V W : Type 0} (kind : EntryKind V W) (laws : EntryLaws kind) (rest : List (ℕ × Slot W)) (es : List (ℕ × Slot V)) (order : CacheDependency)
+    → AllByRecursion (λ e. kind.writes.modified e.1.value ≡ false) es → StaysSafe (kind.put rest es) (kind.put rest (kept_pinned es)) order
+entries-dropped kind laws rest es order clean = record {
   memory_same = same;
-  safe = λ f H safe. safe-like f H (record { tables = tables; blocks = blocks }) (record { tables = kept_pinned tables; blocks = blocks }) order safe (same f H) (distinct-kept tables safe.tables_apart) safe.blocks_apart (all-kept _ tables safe.tables) safe.blocks;
+  safe = λ f H safe. let are = laws.own f H order rest es safe in
+      safe-with kind laws f H order rest es (kept_pinned es) safe (same f H) (record { apart = distinct-kept es are.apart; fit = all-kept _ es are.fit });
 }
   where
-    same : (f : Bytes) (H : Header) → memory f H.fields (record { tables = kept_pinned tables; blocks = blocks }) ≡ memory f H.fields (record { tables = tables; blocks = blocks })
+    same : (f : Bytes) (H : Header) → memory f H.fields (kind.put rest (kept_pinned es)) ≡ memory f H.fields (kind.put rest es)
     same f H =
-        ap (λ (l : List Patch). over f (l ++ filter_map (block_patch (cluster_size H.fields)) blocks))
-        (no-tables (cluster_size H.fields) (kept_pinned tables) (all-kept _ tables clean) ∙ sym (no-tables (cluster_size H.fields) tables clean))
-
-pub blocks-dropped : (tables : List (ℕ × Slot TableValue)) (blocks : List (ℕ × Slot Block)) (order : CacheDependency) → AllByRecursion (λ e. e.1.value.modified ≡ false) blocks
-    → StaysSafe (record { tables = tables; blocks = blocks }) (record { tables = tables; blocks = kept_pinned blocks }) order
-blocks-dropped tables blocks order clean = record {
-  memory_same = same;
-  safe = λ f H safe. safe-like f H (record { tables = tables; blocks = blocks }) (record { tables = tables; blocks = kept_pinned blocks }) order safe (same f H) safe.tables_apart (distinct-kept blocks safe.blocks_apart) safe.tables (all-kept _ blocks safe.blocks);
-}
-  where
-    same : (f : Bytes) (H : Header) → memory f H.fields (record { tables = tables; blocks = kept_pinned blocks }) ≡ memory f H.fields (record { tables = tables; blocks = blocks })
-    same f H =
-        ap (λ (l : List Patch). over f (filter_map (table_patch (cluster_size H.fields)) tables ++ l))
-        (no-blocks (cluster_size H.fields) (kept_pinned blocks) (all-kept _ blocks clean) ∙ sym (no-blocks (cluster_size H.fields) blocks clean))
+        ap (λ (l : List Patch). over f l) (laws.written H.fields rest (kept_pinned es)
+        ∙ ap (λ (l : List Patch). kind.ahead (cluster_size H.fields) rest ++ (l ++ kind.behind (cluster_size H.fields) rest))
+        (no-patches kind (cluster_size H.fields) (kept_pinned es) (all-kept _ es clean) ∙ sym (no-patches kind (cluster_size H.fields) es clean))
+        ∙ sym (laws.written H.fields rest es))

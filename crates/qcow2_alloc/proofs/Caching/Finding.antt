@@ -76,7 +76,7 @@ module _ {S V W : Type 0} (side : Side S V W) (laws : SideLaws side) (cluster : 
     side-still : AreClean side es → Kept (side.state before.image) (side.state after.image) × AreClean side es'
     side-still =
         readied-still (λ (d : ImageFile S). side.state d.image) (loads_of side) (flushes_of side) (λ a b key answer load. laws.kept a.header.fields key (side.state a.image) answer (side.state b.image) load.1)
-        (λ v. side.writes.modified v ≡ false) (λ a b key value load. ap side.writes.modified (laws.reads a.header.fields key (side.state a.image) value (side.state b.image) load.1) ∙ laws.clean (bytes_of (side.state a.image).bytes) a.header.fields key)
+        (λ v. side.kind.writes.modified v ≡ false) (λ a b key value load. ap side.kind.writes.modified (laws.reads a.header.fields key (side.state a.image) value (side.state b.image) load.1) ∙ laws.clean (bytes_of (side.state a.image).bytes) a.header.fields key)
         (λ a b key value value' answer clean flush. flush.1.clean clean) cap may_flush cluster before es result after es' r
 
   module _ {A B : Type 0} (old : Beside S V W A B) (before : ImageFile S) where
@@ -162,7 +162,7 @@ module _ {S V W : Type 0} (side : Side S V W) (laws : SideLaws side) (cluster : 
                 (λ no. (ap (λ (f : ImageFile S). side.state f.image) (w.idle no).2, ap (λ (c : Beside S V W A B). cached_of side c) (w.idle no).1)) w.did
                 (laws.lets other.slots.entries es es' (side.state between.image) (side.state after.image) (done_of result)
                 (lets-in (λ (d : ImageFile S). side.state d.image) (loads_of side) (flushes_of side) (λ a b key answer load. laws.kept a.header.fields key (side.state a.image) answer (side.state b.image) load.1)
-                (Flushed side.writes) (λ a b key value value' answer flush. flush.1) cap cluster between es result after es' absent full r));
+                (Flushed side.kind.writes) (λ a b key value value' answer flush. flush.1) cap cluster between es result after es' absent full r));
             still = λ own rest.
                 let n = first-idle side laws old before mid between (Ok tt) w rest in
                 let k = side-still true cap between es result after es' r own in

@@ -19,7 +19,9 @@ use Rattle.qcow2_alloc.specs.Changes.{StaysAsItIs}
 use Rattle.qcow2_alloc.specs.Freeing.{NamesBlock}
 use Rattle.qcow2_alloc.specs.Memory.{Cached, table_patch, block_patch, memory}
 use Rattle.qcow2_alloc.specs.Quiet.{Metadata, IsSound, IsQuiet, in_memory, counted, named_at_all}
-use Rattle.qcow2_alloc.proofs.Caching.Entering.{safe-like, distinct-without, away-of}
+use Rattle.qcow2_alloc.proofs.Caching.CachedEntries.{block-kind-laws, safe-with}
+use Rattle.qcow2_alloc.proofs.Caching.Entering.{distinct-without, away-of}
+use Rattle.qcow2_alloc.proofs.Memory.EntryKinds.{block_kind}
 use Rattle.qcow2_alloc.proofs.Blocks.NamedBlocks.{named-block}
 use Rattle.qcow2_alloc.proofs.Memory.Patches.{all-weaker, place-there}
 use Rattle.qcow2_alloc.proofs.Caching.Places.{Place, place-of-key}
@@ -100,7 +102,8 @@ module _ (m : Metadata) (key : ℕ) (sound : IsSound m) (unnamed : named_at_all 
       let same : memory m.file m.header.fields forgotten ≡ in_memory m =
       ap (λ (l : List Patch). over m.file (filter_map (table_patch (cluster_size m.header.fields)) m.cached.tables ++ l)) (patches-removed (cluster_size m.header.fields) key m.cached.blocks unnamed-clean) in
       record {
-        safe = safe-like m.file m.header m.cached forgotten m.order sound.safe same sound.safe.tables_apart (removed-apart key m.cached.blocks sound.safe.blocks_apart).1 sound.safe.tables (all-removed _ (nat_eq key) m.cached.blocks sound.safe.blocks);
+        safe = safe-with block_kind block-kind-laws m.file m.header m.order m.cached.tables m.cached.blocks (remove_entry (nat_eq key) m.cached.blocks) sound.safe same
+            (record { apart = (removed-apart key m.cached.blocks sound.safe.blocks_apart).1; fit = all-removed _ (nat_eq key) m.cached.blocks sound.safe.blocks });
         memory_same = same;
       }
 

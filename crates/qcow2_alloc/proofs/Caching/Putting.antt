@@ -26,14 +26,14 @@ use Rattle.qcow2_alloc.proofs.Caching.Sides.{Beside, Side, SideLaws, WrittenFirs
 
 -- a value that is new there
 abbrev pub IsNewIn : {S V W A B : Type 0} → Side S V W → ℕ → V → Beside S V W A B → ImageFile S → Type 0
-IsNewIn side cluster value c file = IsNew (side.Fits (bytes_of (side.state file.image).bytes) file.header.fields cluster) side.writes.modified cluster value c.own.slots.entries
+IsNewIn side cluster value c file = IsNew (side.kind.Fits (bytes_of (side.state file.image).bytes) file.header.fields cluster) side.kind.writes.modified cluster value c.own.slots.entries
 
 -- What the put does.
 pub record PutSo {S V W A B : Type 0} (side : Side S V W) (cluster : ℕ) (value : V) (old : Beside S V W A B) (before : ImageFile S) (result : Result Unit (Fault × V)) (new : Beside S V W A B) (after : ImageFile S) : Type 0 where
   pub going : Going before.header old.order (λ _. IsNewIn side cluster value old before) (WasNotCutOff (refusal_of result)) (side.state before.image) (cached_of side old) (side.state after.image) (cached_of side new)
   pub put : PutInto side.written old.own.slots.cap cluster value old.own.slots.entries result new.own.slots.entries
   pub flushed : (key : ℕ) (slot : Slot V) → MakesWay old.own.slots.cap cluster old.own.slots.entries key → lookup (nat_eq key) old.own.slots.entries ≡ Some slot
-      → OnOk result (MadeWay (old.order ≡ side.first) side.Writes (λ mid after. (left : V) × Flushed side.writes mid key slot.value (Ok tt) after left) (side.state before.image) (cached_of side old) (side.state after.image))
+      → OnOk result (MadeWay (old.order ≡ side.first) side.Writes (λ mid after. (left : V) × Flushed side.kind.writes mid key slot.value (Ok tt) after left) (side.state before.image) (cached_of side old) (side.state after.image))
   pub roomy : lookup (nat_eq cluster) old.own.slots.entries ≡ None → length old.own.slots.entries < old.own.slots.cap → Kept (side.state before.image) (side.state after.image) × (new.other ≡ old.other)
   pub kept : map side.other_written new.other.slots.entries ≡ map side.other_written old.other.slots.entries
   pub apart : (old.order ≡ side.first → ⊥) → new.other ≡ old.other
@@ -74,7 +74,7 @@ module _ {S V W A B : Type 0} (side : Side S V W) (laws : SideLaws side) (cluste
         let q = quiet (loads_of side) (flushes_of side) cap cluster value before es after es' result not i in
         let kept : Kept (side.state before.image) (side.state after.image) = subst (λ (d : ImageFile S). Kept (side.state before.image) (side.state d.image)) (sym q.file) (kept-same (side.state before.image)) in
         record {
-          going = subst (λ (d : ImageFile S). Going before.header old.order (λ _. IsNewIn side cluster value old before) ok (side.state before.image) (cached_of side old) (side.state d.image) (side.put old.other.slots.entries es')) (sym q.file)
+          going = subst (λ (d : ImageFile S). Going before.header old.order (λ _. IsNewIn side cluster value old before) ok (side.state before.image) (cached_of side old) (side.state d.image) (side.kind.put old.other.slots.entries es')) (sym q.file)
               (put-quietly side laws before.header old.order old.other.slots.entries cluster value (side.state before.image) (cached_of side old) _ fresh-stays
               ok (side.state before.image) es es' _ (going-none before.header old.order Always ok (side.state before.image) (cached_of side old)) q.absent q.way);
           put = inserted-put (loads_of side) (flushes_of side) side.written kept-by cap false cluster value before es after es' result not i;
@@ -82,7 +82,7 @@ module _ {S V W A B : Type 0} (side : Side S V W) (laws : SideLaws side) (cluste
           roomy = λ none room. (kept, refl);
           kept = refl;
           apart = λ no. refl;
-          behind = λ none full. absurd (inserted-barred (λ (d : ImageFile S). side.state d.image) (loads_of side) (flushes_of side) (Flushed side.writes) (λ a b key v v' answer flush. flush.1)
+          behind = λ none full. absurd (inserted-barred (λ (d : ImageFile S). side.state d.image) (loads_of side) (flushes_of side) (Flushed side.kind.writes) (λ a b key v v' answer flush. flush.1)
               cap cluster value before es after es' none full result not i);
           others = (refl, ap (λ (d : ImageFile S). d.header) q.file);
           room = (refl, refl);
@@ -135,7 +135,7 @@ module _ {S V W A B : Type 0} (side : Side S V W) (laws : SideLaws side) (cluste
           behind = λ none room. behind-done (old.order ≡ side.first) side.Writes side.Lets (side.state before.image) (side.state between.image) (side.state after.image) (cached_of side old) (cached_of side mid) _ (refusal_of (put_of result))
               (λ no. (alone no, ap (λ (c : Beside S V W A B). cached_of side c) (w.idle no).1)) w.did
               (laws.lets other.slots.entries es es' (side.state between.image) (side.state after.image) (refusal_of (put_of result))
-              (inserted-lets-in (λ (d : ImageFile S). side.state d.image) (loads_of side) (flushes_of side) (Flushed side.writes) (λ a b key v v' answer flush. flush.1)
+              (inserted-lets-in (λ (d : ImageFile S). side.state d.image) (loads_of side) (flushes_of side) (Flushed side.kind.writes) (λ a b key v v' answer flush. flush.1)
               cap cluster value between es after es' none room result i));
           others = (refl, header ∙ w.header);
           room = (refl, w.room);

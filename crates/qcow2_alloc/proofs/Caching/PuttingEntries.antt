@@ -26,7 +26,7 @@ use Rattle.qcow2_alloc.proofs.Flushing.Going.{going-weaker, going-ready, going-u
 module _ {S V W : Type 0} (side : Side S V W) (laws : SideLaws side) (H : Header) (order : CacheDependency) (rest : List (ℕ × Slot W)) (key : ℕ) (value : V) (a : StorageState) (A : Cached) (P : Type 0)
     (from : Safe (bytes_of a.bytes) H A order → P → (b : StorageState) → IsLeft (bytes_of a.bytes) (memory (bytes_of a.bytes) H.fields A) H (bytes_of b.bytes) → FitsIn side H key value b) where
   abbrev put : List (ℕ × Slot V) → Cached
-  put = side.put rest
+  put = side.kind.put rest
 
   abbrev state : ImageFile S → StorageState
   state d = side.state d.image

@@ -1,5 +1,5 @@
 -- The cache of L2 tables, beside that of blocks.
-use Rattle.std.proofs.Common.{◌≡◌, ℕ, ◌*◌, ◌^◌, ◌≤◌, refl, arith, ap, sym, subst, ◌∙◌, List, [], inl, inr, length, Some, None, Result, Ok, Err}
+use Rattle.std.proofs.Common.{◌≡◌, ℕ, ◌*◌, ◌^◌, ◌≤◌, refl, arith, ap, sym, subst, ◌∙◌, List, inl, inr, length, Some, None, Result, Ok, Err}
 use Rattle.std.proofs.lemmas.Bool.{cases_lt}
 use Rattle.std.proofs.lemmas.Bool.Decides.{nat_tests}
 use Rattle.std.proofs.lemmas.List.FromFn.{length-map-range_with_len}
@@ -20,14 +20,14 @@ use Rattle.qcow2_alloc.specs.declared.cache.L2CacheBackend.{L2CacheBackend}
 use Rattle.qcow2_alloc.specs.declared.cache.MetadataCaches.{MetadataCaches}
 use Rattle.qcow2_alloc.specs.declared.cache.RefBlockCacheBackend.{RefBlockCacheBackend}
 use Rattle.qcow2_alloc.specs.declared.file.ImageFile.{ImageFile}
-use Rattle.qcow2_alloc.specs.Backends.{TableLoaded, l2_words_in, written_tables}
+use Rattle.qcow2_alloc.specs.Backends.{TableLoaded, l2_words_in}
 use Rattle.qcow2_alloc.specs.Caches.{HasRoomOf, cached_file, cached_in, order_of}
 use Rattle.qcow2_alloc.specs.Finding.{IsTableFine, LetsTableIn, TableFound, WhyNotFound}
 use Rattle.qcow2_alloc.specs.Going.{Going, Always, ReadyTables, IsMild, WasNotCutOff, AreBlocksInReach, CountsWrites, WritesBlocks}
 use Rattle.qcow2_alloc.specs.Memory.{Cached, written, written_table, written_block}
 use Rattle.qcow2_alloc.specs.Putting.{TableInserted}
 use Rattle.qcow2_alloc.specs.Safety.{IsCachedTable, AreBlocksClean}
-use Rattle.qcow2_alloc.proofs.Caching.Entering.{table-leaves, table-leaves-safe, table-comes, table-comes-safe}
+use Rattle.qcow2_alloc.proofs.Caching.CachedEntries.{table-kind-laws}
 use Rattle.qcow2_alloc.proofs.Caching.Finding.{Found}
 use Rattle.qcow2_alloc.proofs.Caching.LettingIn.{blocks-idle}
 use Rattle.qcow2_alloc.proofs.Caching.Putting.{PutSo}
@@ -36,6 +36,7 @@ use Rattle.qcow2_alloc.proofs.Caching.Staying.{table-stays}
 use Rattle.qcow2_alloc.proofs.Flushing.Counting.{table-counted}
 use Rattle.qcow2_alloc.proofs.Flushing.FlushingTables.{table-flushed, flushed-clean}
 use Rattle.qcow2_alloc.proofs.Flushing.Kept.{table-kept}
+use Rattle.qcow2_alloc.proofs.Memory.EntryKinds.{table_kind}
 use Rattle.qcow2_alloc.proofs.Memory.SafeLaws.{safe-reach}
 
 -- A load that wasn't cut off leaves the count of faults as it was.
@@ -101,14 +102,12 @@ module _ {S : Type 0} (state : S → StorageState) where
   abbrev pub tables : Side S TableValue Block
   tables = record {
     state = state;
-    writes = written_tables;
+    kind = table_kind;
     Loads = TableLoaded;
     read = λ f h key. table_in f h key (words_of_cluster h);
     written = written_table;
     other_written = written_block;
-    put = λ blocks es. record { tables = es; blocks = blocks };
     Fine = IsTableFine;
-    Fits = IsCachedTable;
     first = L2DependsOnRb;
     Writes = WritesBlocks;
     Lets = LetsTableIn;
@@ -118,6 +117,7 @@ module _ {S : Type 0} (state : S → StorageState) where
 
   pub table-laws : SideLaws tables
   table-laws = record {
+    entries = table-kind-laws;
     kept = λ h key a answer b load. load.kept;
     reads = λ h key a value b load. load.ok.1;
     clean = λ f h key. refl;
@@ -128,9 +128,6 @@ module _ {S : Type 0} (state : S → StorageState) where
     counted = table-counted;
     cleaned = flushed-clean;
     flushed = λ H order blocks front key slot back a b answer value flush. table-flushed H order front key slot back blocks a b answer value flush;
-    leaves = λ f H order blocks front key slot back clean. (table-leaves f H order front key slot back blocks clean, table-leaves-safe f H order front key slot back blocks clean);
-    comes = λ f H order blocks key slot es clean. (table-comes f H order [] key slot [] blocks es clean, λ away fits. table-comes-safe f H order [] key slot [] blocks es clean away fits);
-    apart = λ f H order blocks es safe. safe.tables_apart;
     stays = λ f H order blocks es safe x left key value free. table-stays f H order (record { tables = es; blocks = blocks }) safe x left key value free;
     same = λ blocks A B clean. clean;
     near = λ f H order cached safe. (safe-reach f H cached order safe).1;

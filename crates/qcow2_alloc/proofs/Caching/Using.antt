@@ -13,10 +13,10 @@ use Rattle.qcow2_alloc.specs.Cache.{hit}
 use Rattle.qcow2_alloc.specs.Changes.{StaysAsItIs}
 use Rattle.qcow2_alloc.specs.Memory.{Cached, memory}
 use Rattle.qcow2_alloc.specs.Safety.{Safe}
-use Rattle.qcow2_alloc.proofs.Caching.CachedTables.{tables_with}
-use Rattle.qcow2_alloc.proofs.Caching.CachedBlocks.{blocks_with}
-use Rattle.qcow2_alloc.proofs.Caching.Entering.{table-first, table-first-safe, block-first, block-first-safe}
+use Rattle.qcow2_alloc.proofs.Caching.CachedEntries.{EntryLaws, table-kind-laws, block-kind-laws}
+use Rattle.qcow2_alloc.proofs.Caching.Entering.{entry-first, first-safe}
 use Rattle.qcow2_alloc.proofs.Caching.Places.{Place, place-of-key, place-hit, slot-of}
+use Rattle.qcow2_alloc.proofs.Memory.EntryKinds.{EntryKind, table_kind, block_kind}
 
 -- the entry goes first
 module _ {V : Type 0} (key : ℕ) (es : List (ℕ × Slot V)) (value : V) (there : option_map (λ s. s.value) (lookup (nat_eq key) es) ≡ Some value) where
@@ -29,27 +29,21 @@ module _ {V : Type 0} (key : ℕ) (es : List (ℕ × Slot V)) (value : V) (there
   pub used : hit (nat_eq key) es value ≡ (key, found.0) ∷ place-found.front ++ place-found.back
   used = ap (λ (v : V). hit (nat_eq key) es v) (sym found.2) ∙ place-hit key es found.0 place-found found.0.value
 
-module _ (f : Bytes) (H : Header) (cached : Cached) (order : CacheDependency) (key : ℕ) (safe : Safe f H cached order) where
-  pub table-used : (table : TableValue) → option_map (λ s. s.value) (lookup (nat_eq key) cached.tables) ≡ Some table → StaysAsItIs f H cached order (record cached { tables = hit (nat_eq key) cached.tables table })
-  table-used table there =
-      let p = place-found key cached.tables table there in
-      let s : Slot TableValue = (found key cached.tables table there).0 in
-      let was : cached ≡ tables_with p.front key s p.back cached.blocks = ap (λ (ts : List (ℕ × Slot TableValue)). record { tables = ts; blocks = cached.blocks }) p.is in
-      let safe' = subst (λ (o : Cached). Safe f H o order) was safe in
-      subst (λ (ts : List (ℕ × Slot TableValue)). StaysAsItIs f H cached order (record { tables = ts; blocks = cached.blocks })) (sym (used key cached.tables table there))
-      (record {
-        safe = table-first-safe f H order p.front key s p.back cached.blocks safe';
-        memory_same = table-first f H order p.front key s p.back cached.blocks safe' ∙ ap (λ (o : Cached). memory f H.fields o) (sym was);
+module _ {V W : Type 0} (kind : EntryKind V W) (laws : EntryLaws kind) (f : Bytes) (H : Header) (order : CacheDependency) (key : ℕ) (rest : List (ℕ × Slot W)) (es : List (ℕ × Slot V)) where
+  entry-used : Safe f H (kind.put rest es) order → (value : V) → option_map (λ s. s.value) (lookup (nat_eq key) es) ≡ Some value
+      → StaysAsItIs f H (kind.put rest es) order (kind.put rest (hit (nat_eq key) es value))
+  entry-used safe value there =
+      let p = place-found key es value there in
+      let s = (found key es value there).0 in
+      let safe' = subst (λ (l : List (ℕ × Slot V)). Safe f H (kind.put rest l) order) p.is safe in
+      subst (λ (l : List (ℕ × Slot V)). StaysAsItIs f H (kind.put rest es) order (kind.put rest l)) (sym (used key es value there)) (record {
+        safe = first-safe kind laws f H order rest p.front key s p.back safe';
+        memory_same = entry-first kind laws f H order rest p.front key s p.back safe' ∙ ap (λ (l : List (ℕ × Slot V)). memory f H.fields (kind.put rest l)) (sym p.is);
       })
 
+module _ (f : Bytes) (H : Header) (cached : Cached) (order : CacheDependency) (key : ℕ) (safe : Safe f H cached order) where
+  pub table-used : (table : TableValue) → option_map (λ s. s.value) (lookup (nat_eq key) cached.tables) ≡ Some table → StaysAsItIs f H cached order (record cached { tables = hit (nat_eq key) cached.tables table })
+  table-used = entry-used table_kind table-kind-laws f H order key cached.blocks cached.tables safe
+
   pub block-used : (block : Block) → option_map (λ s. s.value) (lookup (nat_eq key) cached.blocks) ≡ Some block → StaysAsItIs f H cached order (record cached { blocks = hit (nat_eq key) cached.blocks block })
-  block-used block there =
-      let p = place-found key cached.blocks block there in
-      let s : Slot Block = (found key cached.blocks block there).0 in
-      let was : cached ≡ blocks_with cached.tables p.front key s p.back = ap (λ (bs : List (ℕ × Slot Block)). record { tables = cached.tables; blocks = bs }) p.is in
-      let safe' = subst (λ (o : Cached). Safe f H o order) was safe in
-      subst (λ (bs : List (ℕ × Slot Block)). StaysAsItIs f H cached order (record { tables = cached.tables; blocks = bs })) (sym (used key cached.blocks block there))
-      (record {
-        safe = block-first-safe f H order cached.tables p.front key s p.back safe';
-        memory_same = block-first f H order cached.tables p.front key s p.back safe' ∙ ap (λ (o : Cached). memory f H.fields o) (sym was);
-      })
+  block-used = entry-used block_kind block-kind-laws f H order key cached.tables cached.blocks safe

@@ -16,7 +16,8 @@ use Rattle.qcow2_alloc.specs.declared.cache.CacheDependency.{CacheDependency}
 use Rattle.qcow2_alloc.specs.Backends.{BlockFlushed, written_blocks}
 use Rattle.qcow2_alloc.specs.Memory.{Cached, memory}
 use Rattle.qcow2_alloc.specs.Safety.{IsCachedBlock, Safe, IsLeft, IsSettled}
-use Rattle.qcow2_alloc.proofs.Caching.CachedBlocks.{blocks_with, this-block, block-settled}
+use Rattle.qcow2_alloc.proofs.Caching.CachedEntries.{block-kind-laws, entry-fits, entry-settled}
+use Rattle.qcow2_alloc.proofs.Memory.EntryKinds.{block_kind, blocks_with}
 use Rattle.qcow2_alloc.proofs.Flushing.WritingBlocks.{block-left, block-safe}
 use Rattle.qcow2_alloc.proofs.Memory.Patches.{block-length, shaped-in}
 use Rattle.qcow2_alloc.specs.Going.{Going, ReadyBlocks}
@@ -35,7 +36,7 @@ module _ (H : Header) (order : CacheDependency) (tables : List (ℕ × Slot Tabl
   written = record here { value = record here.value { cluster = Some key; modified = false } }
 
   this : here.value.modified ≡ true → Safe (bytes_of old.bytes) H before order → IsCachedBlock (bytes_of old.bytes) H.fields key here.value
-  this modified safe = this-block (bytes_of old.bytes) H safe.consistent tables front key here back safe.blocks_apart modified safe.tables safe.blocks
+  this modified safe = entry-fits block_kind block-kind-laws (bytes_of old.bytes) H tables front key here back order safe
 
   is_bytes : (result : Result Unit Fault) (done : BlockPut here.value (key * 2 ^ here.value.cluster_bits) old new result) → done.bytes ≡ block_bytes here.value.order here.value.counters
   is_bytes result done = bytes-only here.value.order here.value.counters done.bytes done.packs
@@ -62,7 +63,7 @@ module _ (H : Header) (order : CacheDependency) (tables : List (ℕ × Slot Tabl
         safe = subst (λ (x : Bytes). Safe x H (blocks_with tables front key written back) order) (sym is)
             (block-safe (bytes_of old.bytes) H tables front key here back order safe modified ready (packed done) written refl refl refl refl refl);
         memory_same = ap (λ (x : Bytes). memory x H.fields (blocks_with tables front key written back)) is
-            ∙ block-settled (bytes_of old.bytes) H safe.consistent tables front key here back safe.blocks_apart modified safe.tables safe.blocks written refl;
+            ∙ entry-settled block_kind block-kind-laws (bytes_of old.bytes) H tables front key here back order safe modified written refl;
         left = subst (λ (x : Bytes). IsLeft (bytes_of old.bytes) (memory (bytes_of old.bytes) H.fields before) H x) (sym is)
             (block-left (bytes_of old.bytes) H tables front key here back order safe modified ready);
       }

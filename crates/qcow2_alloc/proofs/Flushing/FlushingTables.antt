@@ -17,8 +17,9 @@ use Rattle.qcow2_alloc.specs.declared.cache.CacheDependency.{CacheDependency}
 use Rattle.qcow2_alloc.specs.Backends.{TableFlushed, written_tables}
 use Rattle.qcow2_alloc.specs.Memory.{Cached, memory}
 use Rattle.qcow2_alloc.specs.Safety.{Safe, IsLeft, IsSettled}
-use Rattle.qcow2_alloc.proofs.Caching.CachedTables.{tables_with, table-settled}
-use Rattle.qcow2_alloc.proofs.Flushing.WritingTables.{this-table, table-left, table-safe}
+use Rattle.qcow2_alloc.proofs.Caching.CachedEntries.{table-kind-laws, entry-fits, entry-settled}
+use Rattle.qcow2_alloc.proofs.Flushing.WritingTables.{table-left, table-safe}
+use Rattle.qcow2_alloc.proofs.Memory.EntryKinds.{table_kind, tables_with}
 use Rattle.qcow2_alloc.proofs.Memory.Patches.{table-long}
 use Rattle.qcow2_alloc.specs.Going.{Going, ReadyTables}
 use Rattle.qcow2_alloc.proofs.Flushing.FlushingEntries.{done_so, spliced-bytes, entry-flushed, entry-clean}
@@ -33,14 +34,14 @@ module _ (H : Header) (order : CacheDependency) (front : List (ℕ × Slot Table
 
   some : here.value.modified ≡ true → Safe (bytes_of old.bytes) H before order → 0 < length (table_bytes here.value.words)
   some modified safe =
-      let this = this-table (bytes_of old.bytes) H safe.consistent front key here back blocks safe.tables_apart modified safe.tables safe.blocks in
+      let this = entry-fits table_kind table-kind-laws (bytes_of old.bytes) H blocks front key here back order safe in
       let size : 0 < cluster_size H.fields = pow_pos H.fields.cluster_bits in
       omega (arith, size, table-long (bytes_of old.bytes) H safe.consistent here.value this.fits this.layout)
 
   there : here.value.modified ≡ true → PutAtOnce old new (key * 2 ^ here.value.layout.cluster_bits) (table_bytes here.value.words) done_so → IsTrue old.shape.keeps → Safe (bytes_of old.bytes) H before order → ReadyTables order before
       → IsSettled H order old.bytes before new.bytes (tables_with front key (record here { value = record here.value { cluster = Some key; modified = false } }) back blocks)
   there modified done keeps safe ready =
-      let this = this-table (bytes_of old.bytes) H safe.consistent front key here back blocks safe.tables_apart modified safe.tables safe.blocks in
+      let this = entry-fits table_kind table-kind-laws (bytes_of old.bytes) H blocks front key here back order safe in
       let bits : 2 ^ here.value.layout.cluster_bits ≡ cluster_size H.fields = ap (λ (l : Layout). 2 ^ l.cluster_bits) this.layout in
       let is : bytes_of new.bytes ≡ splice (bytes_of old.bytes) (key * cluster_size H.fields) (table_bytes here.value.words) =
       spliced-bytes old.bytes (key * 2 ^ here.value.layout.cluster_bits) (table_bytes here.value.words) new.bytes (done.put.answer.content keeps)
@@ -49,7 +50,7 @@ module _ (H : Header) (order : CacheDependency) (front : List (ℕ × Slot Table
         safe = subst (λ (x : Bytes). Safe x H (tables_with front key (record here { value = record here.value { cluster = Some key; modified = false } }) back blocks) order) (sym is)
             (table-safe (bytes_of old.bytes) H front key here back blocks order safe modified ready (record here { value = record here.value { cluster = Some key; modified = false } }) refl refl refl refl);
         memory_same = ap (λ (x : Bytes). memory x H.fields (tables_with front key (record here { value = record here.value { cluster = Some key; modified = false } }) back blocks)) is
-            ∙ table-settled (bytes_of old.bytes) H safe.consistent front key here back blocks safe.tables_apart modified safe.tables safe.blocks (record here { value = record here.value { cluster = Some key; modified = false } }) refl;
+            ∙ entry-settled table_kind table-kind-laws (bytes_of old.bytes) H blocks front key here back order safe modified (record here { value = record here.value { cluster = Some key; modified = false } }) refl;
         left = subst (λ (x : Bytes). IsLeft (bytes_of old.bytes) (memory (bytes_of old.bytes) H.fields before) H x) (sym is)
             (table-left (bytes_of old.bytes) H front key here back blocks order safe modified ready);
       }
@@ -59,7 +60,7 @@ module _ (H : Header) (order : CacheDependency) (front : List (ℕ × Slot Table
       → Going H order (ReadyTables order) (WasNotCutOff result) old before new (tables_with front key (record here { value = value }) back blocks)
   table-flushed =
       entry-flushed written_tables H order (ReadyTables order) (λ slot. tables_with front key slot back blocks) key here old new (λ slot r. r)
-      (λ modified safe. noted here.value key (this-table (bytes_of old.bytes) H safe.consistent front key here back blocks safe.tables_apart modified safe.tables safe.blocks).placed modified)
+      (λ modified safe. noted here.value key (entry-fits table_kind table-kind-laws (bytes_of old.bytes) H blocks front key here back order safe).placed modified)
       (λ result put. (table_bytes here.value.words, put, some)) there
 
 -- One that is flushed isn't modified then.

@@ -29,10 +29,11 @@ use Rattle.qcow2_alloc.specs.declared.cache.CacheDependency.TheVariants.{Unset, 
 use Rattle.qcow2_alloc.specs.Memory.{memory}
 use Rattle.qcow2_alloc.specs.Safety.{IsCachedTable, IsCachedBlock, IsOrdered, Safe, IsLeft, AreTablesClean}
 use Rattle.qcow2_alloc.proofs.Memory.Patches.{all-append, all-front, all-back, all-weaker, all-both, others-before, others-behind, places-differ, place-there, block-length, shaped-in}
-use Rattle.qcow2_alloc.proofs.Caching.CachedBlocks.{blocks_with, this-block, block-shows, block-settled}
+use Rattle.qcow2_alloc.proofs.Caching.CachedEntries.{block-kind-laws, entry-fits, entry-settled, entry-shows}
+use Rattle.qcow2_alloc.proofs.Caching.Entering.{keys-with}
+use Rattle.qcow2_alloc.proofs.Memory.EntryKinds.{block_kind, blocks_with}
 use Rattle.qcow2_alloc.proofs.Memory.KeptEntries.{written-either, table-still, block-still}
 use Rattle.qcow2_alloc.proofs.Memory.MemoryWords.{places-in-memory, slot-same}
-use Rattle.qcow2_alloc.proofs.Flushing.WritingTables.{keys-with}
 
 block-number : (i k : ℕ) → block i ≡ block k → i ≡ k
 block-number i k same = cc
@@ -44,7 +45,7 @@ module _ (f : Bytes) (H : Header) (tables : List (ℕ × Slot TableValue)) (fron
   g = memory f H.fields (blocks_with tables front key here back)
 
   this : IsCachedBlock f H.fields key here.value
-  this = this-block f H safe.consistent tables front key here back safe.blocks_apart modified safe.tables safe.blocks
+  this = entry-fits block_kind block-kind-laws f H tables front key here back order safe
 
   abbrev r : ℕ
   r = (this.modified modified).0
@@ -68,7 +69,7 @@ module _ (f : Bytes) (H : Header) (tables : List (ℕ × Slot TableValue)) (fron
   all = block-length H.fields fits here.value.order here.value.counters this.order this.long
 
   shown : (k : ℕ) → k < cluster_size H.fields → slice_index bytes k ≡ g (block_at f H.fields r + k)
-  shown k less = subst (λ t. slice_index bytes k ≡ g (t + k)) (sym place) (sym (block-shows f H safe.consistent tables front key here back safe.blocks_apart modified safe.tables safe.blocks k (omega (arith, less, all))))
+  shown k less = subst (λ t. slice_index bytes k ≡ g (t + k)) (sym place) (sym (entry-shows block_kind block-kind-laws f H tables front key here back order safe modified k (omega (arith, less, all))))
 
   places : SamePlaces f g H.fields
   places = places-in-memory f H safe.consistent (blocks_with tables front key here back) safe.tables safe.blocks
@@ -141,7 +142,7 @@ module _ (f : Bytes) (H : Header) (tables : List (ℕ × Slot TableValue)) (fron
     memory-same : memory x H.fields (blocks_with tables front key settled back) ≡ g
     memory-same =
         subst (λ t. memory (splice f t bytes) H.fields (blocks_with tables front key settled back) ≡ g) (sym place)
-        (block-settled f H safe.consistent tables front key here back safe.blocks_apart modified safe.tables safe.blocks settled clean)
+        (entry-settled block_kind block-kind-laws f H tables front key here back order safe modified settled clean)
 
     counters-read : counters_in x H.fields (block_at f H.fields r) ≡ here.value.counters
     counters-read =

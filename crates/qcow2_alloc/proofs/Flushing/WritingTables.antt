@@ -2,7 +2,6 @@
 use Rattle.std.proofs.Common.{◌≡◌, ◌≢◌, ℕ, ◌+◌, ◌*◌, ◌/◌, ◌^◌, ◌<◌, ◌≤◌, refl, arith, ap, sym, subst, ◌∙◌, List, [], ◌∷◌, ◌++◌, length, true, false, inl, inr}
 use Rattle.std.specs.Prelude.{Some, nat_eq, slice_index, IsFalse}
 use Rattle.std.specs.List.{AllByRecursion, IsDistinct}
-use Rattle.std.specs.Map.{keys_of}
 use Rattle.std.proofs.lemmas.Bool.{not-true}
 use Rattle.std.proofs.lemmas.Nat.{pow_pos}
 use Rattle.std.proofs.Math.Nat.{mul-div_left}
@@ -34,7 +33,9 @@ use Rattle.qcow2_alloc.specs.Memory.{Cached, memory}
 use Rattle.qcow2_alloc.specs.Safety.{IsCachedTable, IsCachedBlock, IsOrdered, Safe, IsLeft, AreBlocksClean}
 use Rattle.qcow2_alloc.proofs.Memory.Patches.{all-append, all-front, all-back, all-weaker, all-both, others-before, others-behind, places-differ, table-long, place-there}
 use Rattle.qcow2_metadata.proofs.WrittenBack.{read_back}
-use Rattle.qcow2_alloc.proofs.Caching.CachedTables.{tables_with, table-shows, table-settled}
+use Rattle.qcow2_alloc.proofs.Caching.CachedEntries.{table-kind-laws, entry-fits, entry-settled, entry-shows}
+use Rattle.qcow2_alloc.proofs.Caching.Entering.{keys-with}
+use Rattle.qcow2_alloc.proofs.Memory.EntryKinds.{table_kind, tables_with}
 use Rattle.qcow2_alloc.proofs.Memory.KeptEntries.{written-either, table-still, block-still}
 use Rattle.qcow2_alloc.proofs.Memory.MemoryWords.{find-table, places-in-memory, slot-same, counts-same}
 
@@ -42,19 +43,18 @@ table-number : (i k : ℕ) → table i ≡ table k → i ≡ k
 table-number i k same = cc
 
 -- what a modified table's words are in memory
-module _ (f : Bytes) (H : Header) (was : IsConsistent f H) (front : List (ℕ × Slot TableValue)) (key : ℕ) (here : Slot TableValue) (back : List (ℕ × Slot TableValue)) (blocks : List (ℕ × Slot Block))
-    (apart : IsDistinct nat_eq (keys_of (front ++ (key, here) ∷ back))) (modified : here.value.modified ≡ true)
-    (tables : AllByRecursion (λ e. IsCachedTable f H.fields e.0 e.1.value) (front ++ (key, here) ∷ back)) (cached_blocks : AllByRecursion (λ e. IsCachedBlock f H.fields e.0 e.1.value) blocks) where
-  pub this-table : IsCachedTable f H.fields key here.value
-  this-table = (all-back (λ e. IsCachedTable f H.fields e.0 e.1.value) front ((key, here) ∷ back) tables).0
+module _ (f : Bytes) (H : Header) (order : CacheDependency) (front : List (ℕ × Slot TableValue)) (key : ℕ) (here : Slot TableValue) (back : List (ℕ × Slot TableValue)) (blocks : List (ℕ × Slot Block))
+    (safe : Safe f H (tables_with front key here back blocks) order) (modified : here.value.modified ≡ true) where
+  this-table : IsCachedTable f H.fields key here.value
+  this-table = entry-fits table_kind table-kind-laws f H blocks front key here back order safe
 
   long : length (table_bytes here.value.words) ≡ cluster_size H.fields
-  long = table-long f H was here.value this-table.fits this-table.layout
+  long = table-long f H safe.consistent here.value this-table.fits this-table.layout
 
   shows : (k : ℕ) → k < cluster_size H.fields → slice_index (table_bytes here.value.words) k ≡ memory f H.fields (tables_with front key here back blocks) (key * cluster_size H.fields + k)
-  shows k lt = sym (table-shows f H was front key here back blocks apart modified tables cached_blocks k (omega (arith, lt, long)))
+  shows k lt = sym (entry-shows table_kind table-kind-laws f H blocks front key here back order safe modified k (omega (arith, lt, long)))
 
-  pub word-within : (j : ℕ) → j < words_of_cluster H.fields → j < length here.value.words
+  word-within : (j : ℕ) → j < words_of_cluster H.fields → j < length here.value.words
   word-within j lt =
       let whole : length here.value.words * 8 ≡ 2 ^ here.value.layout.cluster_bits = this-table.fits.long in
       let bits : 2 ^ here.value.layout.cluster_bits ≡ cluster_size H.fields = ap (λ (l : Layout). 2 ^ l.cluster_bits) this-table.layout in
@@ -72,35 +72,27 @@ module _ (f : Bytes) (H : Header) (was : IsConsistent f H) (front : List (ℕ ×
       ∙ table-over f (key * cluster_size H.fields) here.value.words j this-table.fits.fit (word-within j lt)
 
 -- Each word in memory has a meaning.
-module _ (f : Bytes) (H : Header) (was : IsConsistent f H) where
-  sound-here : (front : List (ℕ × Slot TableValue)) (key : ℕ) (here : Slot TableValue) (back : List (ℕ × Slot TableValue)) (blocks : List (ℕ × Slot Block))
-      → IsDistinct nat_eq (keys_of (front ++ (key, here) ∷ back)) → here.value.modified ≡ true
-      → AllByRecursion (λ e. IsCachedTable f H.fields e.0 e.1.value) (front ++ (key, here) ∷ back) → AllByRecursion (λ e. IsCachedBlock f H.fields e.0 e.1.value) blocks
+module _ (f : Bytes) (H : Header) (order : CacheDependency) where
+  sound-here : (front : List (ℕ × Slot TableValue)) (key : ℕ) (here : Slot TableValue) (back : List (ℕ × Slot TableValue)) (blocks : List (ℕ × Slot Block)) → Safe f H (tables_with front key here back blocks) order → here.value.modified ≡ true
       → (i j : ℕ) → Live (l2_table f H.fields) H.fields i j → key * cluster_size H.fields ≡ l2_table f H.fields i
       → IsFalse (is_damaged (slot (memory f H.fields (tables_with front key here back blocks)) H.fields i j))
-  sound-here front key here back blocks apart modified tables cached_blocks i j live place =
-      let this = this-table f H was front key here back blocks apart modified tables cached_blocks in
-      let places = places-in-memory f H was (tables_with front key here back blocks) tables cached_blocks in
+  sound-here front key here back blocks safe modified i j live place =
+      let this = this-table f H order front key here back blocks safe modified in
+      let places = places-in-memory f H safe.consistent (tables_with front key here back blocks) safe.tables safe.blocks in
       let means : slot (memory f H.fields (tables_with front key here back blocks)) H.fields i j ≡ mapping_of (layout_of H.fields) (slice_index here.value.words j) =
       ap (λ t. mapping_of (layout_of H.fields) (word (memory f H.fields (tables_with front key here back blocks)) t j)) (places.l1 i ∙ sym place)
-      ∙ ap (mapping_of (layout_of H.fields)) (word-here f H was front key here back blocks apart modified tables cached_blocks j live.in_table) in
+      ∙ ap (mapping_of (layout_of H.fields)) (word-here f H order front key here back blocks safe modified j live.in_table) in
       ap is_damaged means ∙ subst (λ (l : Layout). is_damaged (mapping_of l (slice_index here.value.words j)) ≡ false) this.layout
-      (not-true _ (this.fits.sound j (word-within f H was front key here back blocks apart modified tables cached_blocks j live.in_table)))
+      (not-true _ (this.fits.sound j (word-within f H order front key here back blocks safe modified j live.in_table)))
 
-  pub memory-sound : (cached : Cached) → IsDistinct nat_eq (keys_of cached.tables) → AllByRecursion (λ e. IsCachedTable f H.fields e.0 e.1.value) cached.tables → AllByRecursion (λ e. IsCachedBlock f H.fields e.0 e.1.value) cached.blocks
-      → (i j : ℕ) → Live (l2_table f H.fields) H.fields i j → IsFalse (is_damaged (slot (memory f H.fields cached) H.fields i j))
-  memory-sound cached apart tables blocks i j live = elim (find-table (cluster_size H.fields) (l2_table f H.fields i) cached.tables) [
+  pub memory-sound : (cached : Cached) → Safe f H cached order → (i j : ℕ) → Live (l2_table f H.fields) H.fields i j → IsFalse (is_damaged (slot (memory f H.fields cached) H.fields i j))
+  memory-sound cached safe i j live = elim (find-table (cluster_size H.fields) (l2_table f H.fields i) cached.tables) [
     | inl a ↦
         subst (λ (ts : List (ℕ × Slot TableValue)). IsFalse (is_damaged (slot (memory f H.fields (record { tables = ts; blocks = cached.blocks })) H.fields i j))) (sym a.is)
-        (sound-here a.front a.key a.slot a.back cached.blocks (subst (λ (ts : List (ℕ × Slot TableValue)). IsDistinct nat_eq (keys_of ts)) a.is apart) a.modified
-        (subst (λ (ts : List (ℕ × Slot TableValue)). AllByRecursion (λ e. IsCachedTable f H.fields e.0 e.1.value) ts) a.is tables) blocks i j live a.place_is)
-    | inr none ↦ ap is_damaged (slot-same f H was cached tables blocks i j live none) ∙ (sound-words f H.fields was.readable.tables).slots i j live
+        (sound-here a.front a.key a.slot a.back cached.blocks
+        (subst (λ (ts : List (ℕ × Slot TableValue)). Safe f H (record { tables = ts; blocks = cached.blocks }) order) a.is safe) a.modified i j live a.place_is)
+    | inr none ↦ ap is_damaged (slot-same f H safe.consistent cached safe.tables safe.blocks i j live none) ∙ (sound-words f H.fields safe.consistent.readable.tables).slots i j live
   ]
-
--- keys are the same with another value
-pub keys-with : {V : Type 0} (front : List (ℕ × V)) (key : ℕ) (v w : V) (back : List (ℕ × V)) → keys_of (front ++ (key, v) ∷ back) ≡ keys_of (front ++ (key, w) ∷ back)
-keys-with [] key v w back = refl
-keys-with (e ∷ front) key v w back = ap (λ l. e.0 ∷ l) (keys-with front key v w back)
 
 module _ (f : Bytes) (H : Header) (front : List (ℕ × Slot TableValue)) (key : ℕ) (here : Slot TableValue) (back : List (ℕ × Slot TableValue)) (blocks : List (ℕ × Slot Block)) (order : CacheDependency)
     (safe : Safe f H (tables_with front key here back blocks) order) (modified : here.value.modified ≡ true)
@@ -109,7 +101,7 @@ module _ (f : Bytes) (H : Header) (front : List (ℕ × Slot TableValue)) (key :
   g = memory f H.fields (tables_with front key here back blocks)
 
   this : IsCachedTable f H.fields key here.value
-  this = this-table f H safe.consistent front key here back blocks safe.tables_apart modified safe.tables safe.blocks
+  this = this-table f H order front key here back blocks safe modified
 
   abbrev i : ℕ
   i = (this.modified modified).0
@@ -130,7 +122,7 @@ module _ (f : Bytes) (H : Header) (front : List (ℕ × Slot TableValue)) (key :
   all = table-long f H safe.consistent here.value this.fits this.layout
 
   shown : (k : ℕ) → k < cluster_size H.fields → slice_index bytes k ≡ g (l2_table f H.fields i + k)
-  shown k less = subst (λ t. slice_index bytes k ≡ g (t + k)) (sym place) (sym (table-shows f H safe.consistent front key here back blocks safe.tables_apart modified safe.tables safe.blocks k (omega (arith, less, all))))
+  shown k less = subst (λ t. slice_index bytes k ≡ g (t + k)) (sym place) (sym (entry-shows table_kind table-kind-laws f H blocks front key here back order safe modified k (omega (arith, less, all))))
 
   places : SamePlaces f g H.fields
   places = places-in-memory f H safe.consistent (tables_with front key here back blocks) safe.tables safe.blocks
@@ -175,7 +167,7 @@ module _ (f : Bytes) (H : Header) (front : List (ℕ × Slot TableValue)) (key :
   consistent : IsConsistent x H
   consistent = stop-consistent f x g H safe.consistent (loads-still f g H i bytes safe.consistent lt there all shown places)
       (record { l1 = λ k less. keeps.l1 k less (λ e. cc); blocks = λ k less. keeps.blocks k less (λ e. cc) }) between
-      (memory-sound f H safe.consistent (tables_with front key here back blocks) safe.tables_apart safe.tables safe.blocks) safe.apart
+      (memory-sound f H order (tables_with front key here back blocks) safe) safe.apart
       (counted-by order ordered safe.ordered)
 
   left-there : IsLeft f g H x
@@ -194,7 +186,7 @@ module _ (f : Bytes) (H : Header) (front : List (ℕ × Slot TableValue)) (key :
     memory-same : memory x H.fields (tables_with front key settled back blocks) ≡ g
     memory-same =
         subst (λ t. memory (splice f t bytes) H.fields (tables_with front key settled back blocks) ≡ g) (sym place)
-        (table-settled f H safe.consistent front key here back blocks safe.tables_apart modified safe.tables safe.blocks settled written)
+        (entry-settled table_kind table-kind-laws f H blocks front key here back order safe modified settled written)
 
     settled-fits : IsTable l2_words settled.value
     settled-fits = record {

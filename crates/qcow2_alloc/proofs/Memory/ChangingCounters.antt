@@ -1,14 +1,12 @@
 -- A counter of a cached block is set: what memory becomes, and why what is cached stays safe.
-use Rattle.std.proofs.Common.{◌≡◌, ◌≢◌, ℕ, ◌+◌, ◌-◌, ◌*◌, ◌/◌, ◌%◌, ◌^◌, ◌<◌, ◌≤◌, refl, arith, ap, sym, subst, ◌∙◌, List, [], ◌∷◌, ◌++◌, length, Some, true, false, inl, inr}
+use Rattle.std.proofs.Common.{◌≡◌, ◌≢◌, ℕ, ◌+◌, ◌-◌, ◌*◌, ◌/◌, ◌%◌, ◌^◌, ◌<◌, ◌≤◌, refl, arith, ap, sym, subst, ◌∙◌, List, ◌∷◌, ◌++◌, length, Some, true, false, inl, inr}
 use Rattle.std.specs.Prelude.{nat_eq, slice_index, slice_set, max}
 use Rattle.std.specs.Map.{lookup}
-use Rattle.std.specs.List.{AllByRecursion, IsDistinct, filter_map}
-use Rattle.std.proofs.lemmas.Bool.{cases_Bool, cases_eq, cases_lt}
-use Rattle.std.proofs.lemmas.List.{append_assoc, get_or-set_same, get_or-set_other, length-set}
+use Rattle.std.proofs.lemmas.Bool.{cases_Bool, cases_eq}
+use Rattle.std.proofs.lemmas.List.{get_or-set_same, get_or-set_other, length-set}
 use Rattle.std.proofs.lemmas.List.FromFn.{get_or-map-range_with_len}
 use Rattle.std.proofs.lemmas.Nat.{mod_below, pow_pos, pow-add}
 use Rattle.std.proofs.Math.Nat.{div-add-mod, pow-le-pow_right}
-use Rattle.std.proofs.Math.Path.{fun_ext}
 use Rattle.qcow2_types.specs.Bytes.{Bytes, bytes_of, splice}
 use Rattle.qcow2_types.specs.Header.{Fields, Header, Shaped, cluster_size, refcount_table_entries}
 use Rattle.qcow2_types.specs.Entries.{l2_table}
@@ -18,7 +16,6 @@ use Rattle.qcow2_types.specs.Slots.{slot as slot_in}
 use Rattle.qcow2_types.specs.BlockBytes.{block_bytes, Packs}
 use Rattle.qcow2_types.specs.Consistency.{IsConsistent}
 use Rattle.qcow2_types.specs.Frames.{Same, Outside, Kept, block}
-use Rattle.qcow2_types.specs.Over.{Patch, over}
 use Rattle.qcow2_types.specs.Steps.{BlockWritten, CounterWritten}
 use Rattle.qcow2_types.specs.Versions.{SamePlaces, KeepsSlots, of_either, named, copied, NamedApart, BlocksFirst, TablesFirst}
 use Rattle.qcow2_types.proofs.Numbers.BlockBytes.{bytes-pack}
@@ -26,11 +23,8 @@ use Rattle.qcow2_types.proofs.Changes.BlockSteps.{block-kept, block-written, cou
 use Rattle.qcow2_types.proofs.Counting.Counters.{some-counters, count-same}
 use Rattle.qcow2_types.proofs.Counting.Either.{refs-cached}
 use Rattle.qcow2_types.proofs.Changes.Frames.{splice-is-outside}
-use Rattle.qcow2_types.proofs.Changes.Over.{IsClear, over-first}
-use Rattle.qcow2_types.proofs.Counting.Parts.{block_of, table_of, block-inside, block_at-kept}
-use Rattle.qcow2_types.proofs.Changes.Patches.{part-same, parts-differ}
+use Rattle.qcow2_types.proofs.Counting.Parts.{block-inside, block_at-kept}
 use Rattle.qcow2_types.proofs.Counting.Slots.{slots-same}
-use Rattle.qcow2_types.proofs.Numbers.Splices.{splice-inside, splice-outside}
 use Rattle.qcow2_metadata.specs.Tables.{TableValue}
 use Rattle.qcow2_metadata.specs.Blocks.{Block, with_counter}
 use Rattle.qcow2_metadata.proofs.Powers.{power-counters}
@@ -39,27 +33,15 @@ use Rattle.qcow2_alloc.specs.declared.cache.CacheDependency.{CacheDependency}
 use Rattle.qcow2_alloc.specs.declared.cache.CacheDependency.TheVariants.{Unset, L2DependsOnRb, RbDependsOnL2}
 use Rattle.qcow2_alloc.specs.Cache.{hit}
 use Rattle.qcow2_alloc.specs.Changes.{CachesBlock, SetsCounter, CounterChanged, IsStillCovered}
-use Rattle.qcow2_alloc.specs.Memory.{Cached, table_patch, block_patch, patches, memory}
-use Rattle.qcow2_alloc.specs.Safety.{IsCachedTable, IsCachedBlock, IsOrdered, Safe}
-use Rattle.qcow2_alloc.proofs.Caching.CachedBlocks.{blocks_with, before_block, own_block, patches-with-block}
-use Rattle.qcow2_alloc.proofs.Caching.Entering.{blocks_first, distinct-first, block-first, block-leaves}
+use Rattle.qcow2_alloc.specs.Memory.{Cached, memory}
+use Rattle.qcow2_alloc.specs.Safety.{IsCachedBlock, IsOrdered, Safe}
+use Rattle.qcow2_alloc.proofs.Caching.CachedEntries.{block-kind-laws, entry-fits, over-rest}
+use Rattle.qcow2_alloc.proofs.Memory.ChangingEntries.{entry-put, none-there, put-safe}
+use Rattle.qcow2_alloc.proofs.Memory.EntryKinds.{block_kind, blocks_with}
 use Rattle.qcow2_alloc.proofs.Memory.MemoryImage.{safe-memory}
-use Rattle.qcow2_alloc.proofs.Memory.MemoryWords.{places-in-memory}
-use Rattle.qcow2_alloc.proofs.Memory.Patches.{all-append, all-front, all-back, all-weaker, others-before, others-behind, tables-all, blocks-all, places-differ, place-there, block-length, table-no-block, block-clear-of-table, shaped-in, patches-are}
+use Rattle.qcow2_alloc.proofs.Memory.MemoryWords.{block-same, places-in-memory}
+use Rattle.qcow2_alloc.proofs.Memory.Patches.{place-there, block-length, shaped-in}
 use Rattle.qcow2_alloc.proofs.Caching.Places.{Place, place-of-key, place-hit, slot-of, lookup-hit, hit-again}
-use Rattle.qcow2_alloc.proofs.Flushing.WritingTables.{keys-with}
-
--- The same bytes of a file, written twice.
-pub splice-again : (f : Bytes) (at : ℕ) (a b : List ℕ) → length a ≡ length b → splice (splice f at a) at b ≡ splice f at b
-splice-again f at a b same = fun_ext (λ p. elim (cases_lt p at) [
-  | inl lt ↦ splice-outside (splice f at a) at b p (inl lt) ∙ splice-outside f at a p (inl lt) ∙ sym (splice-outside f at b p (inl lt))
-  | inr le ↦ elim (cases_lt p (at + length b)) [
-    | inl lt ↦
-        let place : at + (p - at) ≡ p = omega (arith, le) in
-        rw place at (splice-inside (splice f at a) at b (p - at) (omega (arith, le, lt)) ∙ sym (splice-inside f at b (p - at) (omega (arith, le, lt))))
-    | inr past ↦ splice-outside (splice f at a) at b p (inr past) ∙ splice-outside f at a p (inr (omega (arith, past, same))) ∙ sym (splice-outside f at b p (inr past))
-  ]
-])
 
 -- Where g' has the words of g, what is named by f or by what is over it is the same.
 module _ (f g g' : Bytes) (h : Fields) (places : SamePlaces f g h) (keeps : KeepsSlots g g' h) where
@@ -79,26 +61,6 @@ module _ (f g g' : Bytes) (h : Fields) (places : SamePlaces f g h) (keeps : Keep
       let same : copied f g' h c ≡ copied f g h c = copied-kept c in
       let once : named f g h c ≤ 1 = apart c (omega (arith, same, some)) in
       omega (arith, once, named-kept c)
-
--- A modified block that goes first among the blocks is put over all else.
-module _ (f : Bytes) (H : Header) (was : IsConsistent f H) (tables : List (ℕ × Slot TableValue)) (cached_tables : AllByRecursion (λ e. IsCachedTable f H.fields e.0 e.1.value) tables)
-    (key : ℕ) (slot : Slot Block) (is : IsCachedBlock f H.fields key slot.value) (modified : slot.value.modified ≡ true) (rest : List (ℕ × Slot Block)) where
-  abbrev T : List Patch
-  T = filter_map (table_patch (cluster_size H.fields)) tables
-
-  abbrev R : List Patch
-  R = filter_map (block_patch (cluster_size H.fields)) rest
-
-  clear : AllByRecursion (IsClear (key * cluster_size H.fields) (length (block_bytes slot.value.order slot.value.counters))) (before_block H.fields tables [] key slot rest)
-  clear = all-append _ T [] (tables-all _ (cluster_size H.fields) tables (all-weaker _ _ (λ e it m. block-clear-of-table f H was key slot.value is modified e.0 e.1.value it m) tables cached_tables)) tt
-
-  pub first-block : memory f H.fields (blocks_first tables key slot rest)
-      ≡ splice (memory f H.fields (record { tables = tables; blocks = rest })) (key * cluster_size H.fields) (block_bytes slot.value.order slot.value.counters)
-  unfolding over
-  first-block =
-      ap (λ (ps : List Patch). over f ps) (patches-with-block H.fields tables [] key slot rest modified)
-      ∙ over-first f (before_block H.fields tables [] key slot rest) (own_block H.fields tables [] key slot rest) R clear
-      ∙ ap (λ (ps : List Patch). splice (over f ps) (key * cluster_size H.fields) (block_bytes slot.value.order slot.value.counters)) (append_assoc T [] R)
 
 -- The announced order allows cluster c this count in memory, where f is the file, and g what is in memory over it: it covers what is to
 -- be covered by what is written first, and nothing is raised while the tables are.
@@ -129,7 +91,7 @@ module _ (f : Bytes) (H : Header) (order : CacheDependency) (tables : List (ℕ 
   shaped = shaped-in f H safe.consistent
 
   this : IsCachedBlock f H.fields key slot.value
-  this = (all-back (λ e. IsCachedBlock f H.fields e.0 e.1.value) front ((key, slot) ∷ back) safe.blocks).0
+  this = entry-fits block_kind block-kind-laws f H tables front key slot back order safe
 
   there : block_at f H.fields r ≢ 0
   there none = place-there (cluster_size H.fields) key (pow_pos H.fields.cluster_bits) some (sym counts_it ∙ none)
@@ -182,21 +144,12 @@ module _ (f : Bytes) (H : Header) (order : CacheDependency) (tables : List (ℕ 
 
   -- Where it is modified, its bytes are over that;
   modified-memory : slot.value.modified ≡ true → g ≡ splice base (key * cluster_size H.fields) bytes
-  modified-memory modified = sym (block-first f H order tables front key slot back safe) ∙ first-block f H safe.consistent tables safe.tables key slot this modified (front ++ back)
+  modified-memory = over-rest block_kind block-kind-laws f H tables front key slot back order safe
 
   -- and where it isn't, its cluster is the file's.
   clean-memory : slot.value.modified ≡ false → Same f g (block_at f H.fields r) (cluster_size H.fields)
-  clean-memory clean =
-      part-same f H safe.consistent (block_of r) lt there (patches H.fields old) (patches-are f H safe.consistent old safe.tables safe.blocks)
-      (all-append (λ e. e.0 ≢ block_at f H.fields r) _ _
-      (tables-all (λ e. e.0 ≢ block_at f H.fields r) (cluster_size H.fields) tables
-      (all-weaker _ _ (λ e is m same. let live = is.modified m in parts-differ f H safe.consistent (table_of live.0) (block_of r) live.1 lt (λ z. there (sym same ∙ sym live.2 ∙ z)) (table-no-block live.0 r) (live.2 ∙ same)) tables safe.tables))
-      (blocks-all (λ e. e.0 ≢ block_at f H.fields r) (cluster_size H.fields) (front ++ (key, slot) ∷ back)
-      (all-append _ front ((key, slot) ∷ back) (elsewhere front (others-before key slot front back safe.blocks_apart))
-      ((λ m. absurd (let both = sym clean ∙ m in cc)), elsewhere back (others-behind key slot front back safe.blocks_apart)))))
-    where
-      elsewhere : (es : List (ℕ × Slot Block)) → AllByRecursion (λ e. key ≢ e.0) es → AllByRecursion (λ e. e.1.value.modified ≡ true → e.0 * cluster_size H.fields ≢ block_at f H.fields r) es
-      elsewhere es apart = all-weaker _ _ (λ e other m same. places-differ (cluster_size H.fields) key e.0 (pow_pos H.fields.cluster_bits) other (sym counts_it ∙ sym same)) es apart
+  clean-memory clean = block-same f H safe.consistent old safe.tables safe.blocks r lt there
+      (none-there block_kind block-kind-laws f H order tables front key slot back safe clean (block_at f H.fields r) counts_it)
 
   -- In memory each of its clusters is counted as its counters say.
   pub counted-in-memory : (d : ℕ) → d / counters_of_block H.fields ≡ r → count g H.fields d ≡ slice_index slot.value.counters (d % counters_of_block H.fields)
@@ -226,7 +179,7 @@ module _ (f : Bytes) (H : Header) (order : CacheDependency) (tables : List (ℕ 
     new = counter_set slot i n
 
     abbrev cached' : Cached
-    cached' = blocks_first tables key (counter_set slot i n) (front ++ back)
+    cached' = record { tables = tables; blocks = (key, counter_set slot i n) ∷ front ++ back }
 
     in_block : i < length slot.value.counters
     in_block = omega (arith, inside c, this.long)
@@ -257,12 +210,7 @@ module _ (f : Bytes) (H : Header) (order : CacheDependency) (tables : List (ℕ 
 
     -- Memory has its cluster's bytes replaced, and nothing else.
     pub counter-put : memory f H.fields cached' ≡ x
-    counter-put = first-block f H safe.consistent tables safe.tables key new new-is refl (front ++ back) ∙ (elim (cases_Bool slot.value.modified) [
-      | inl modified ↦
-          sym (splice-again base (key * cluster_size H.fields) bytes new_bytes (full slot this ∙ sym (full new new-is)))
-          ∙ ap (λ (b : Bytes). splice b (key * cluster_size H.fields) new_bytes) (sym (modified-memory modified))
-      | inr clean ↦ ap (λ (b : Bytes). splice b (key * cluster_size H.fields) new_bytes) (block-leaves f H order tables front key slot back clean)
-    ])
+    counter-put = entry-put block_kind block-kind-laws f H order tables front key slot back safe new new-is refl
 
     outside : Outside g x (key * cluster_size H.fields) (length new_bytes)
     outside = splice-is-outside g (key * cluster_size H.fields) new_bytes
@@ -343,16 +291,11 @@ module _ (f : Bytes) (H : Header) (order : CacheDependency) (tables : List (ℕ 
       -- What is cached stays safe.
       pub counter-changed : AllowsCount order f g H.fields c n → CounterChanged f H order old c n cached'
       counter-changed allows = record {
-        safe = record {
-          consistent = safe.consistent;
-          tables_apart = safe.tables_apart;
-          blocks_apart = distinct-first front key new back (subst (λ (ks : List ℕ). IsDistinct nat_eq ks) (keys-with front key slot new back) safe.blocks_apart);
-          tables = safe.tables;
-          blocks = (new-is, all-append _ front back (all-front _ front ((key, slot) ∷ back) safe.blocks) (all-back _ front ((key, slot) ∷ back) safe.blocks).1);
-          apart = subst (λ (m : Bytes). NamedApart f m H.fields) (sym counter-put) (apart-kept f g x H.fields places block-changed.keeps safe.apart);
-          ordered = subst (λ (m : Bytes). IsOrdered order f m H.fields) (sym counter-put) (ordered order allows safe.ordered);
-          covered = subst (λ (m : Bytes). (d : ℕ) → refs m H.fields d ≤ count m H.fields d) (sym counter-put) covered;
-        };
+        safe = put-safe block_kind block-kind-laws f H order tables front key slot back safe new new-is refl (record {
+          apart = apart-kept f g x H.fields places block-changed.keeps safe.apart;
+          ordered = ordered order allows safe.ordered;
+          covered = covered;
+        });
         written = subst (λ (m : Bytes). CounterWritten g m H c n) (sym counter-put) written;
         names = subst (λ (m : Bytes). (d : ℕ) → named f m H.fields d ≡ named f g H.fields d) (sym counter-put) names;
       }
@@ -403,7 +346,7 @@ module _ (f : Bytes) (H : Header) (cached cached' : Cached) (order : CacheDepend
   abbrev q : Place key cached.blocks s
   q = p f H cached order key c sets.block safe sets.caches
 
-  as-is : cached' ≡ blocks_first cached.tables key (counter_set s (c % counters_of_block H.fields) n) (q.front ++ q.back)
+  as-is : cached' ≡ record { tables = cached.tables; blocks = (key, counter_set s (c % counters_of_block H.fields) n) ∷ q.front ++ q.back }
   as-is =
       ap (λ (ts : List (ℕ × Slot TableValue)). record { tables = ts; blocks = cached'.blocks }) sets.tables
       ∙ ap (λ (bs : List (ℕ × Slot Block)). record { tables = cached.tables; blocks = bs })
@@ -420,7 +363,7 @@ module _ (f : Bytes) (H : Header) (cached cached' : Cached) (order : CacheDepend
       let was = as-was f H cached order key c sets.block safe sets.caches in
       let covers = covers-by order (places-in-memory f H safe.consistent cached safe.tables safe.blocks) allows in
       subst (λ (k : Cached). CounterChanged f H order cached c n k) (sym as-is)
-      (subst (λ (o : Cached). CounterChanged f H order o c n (blocks_first cached.tables key (counter_set s (c % counters_of_block H.fields) n) (q.front ++ q.back))) (sym was)
+      (subst (λ (o : Cached). CounterChanged f H order o c n (record { tables = cached.tables; blocks = (key, counter_set s (c % counters_of_block H.fields) n) ∷ q.front ++ q.back })) (sym was)
       (counter-changed f H order cached.tables q.front key s q.back (safe' f H cached order key c sets.block safe sets.caches) c sets.caches.counts sets.caches.some n fits
       (subst (λ (o : Cached). refs (memory f H.fields o) H.fields c ≤ n) was covers) (subst (λ (o : Cached). AllowsCount order f (memory f H.fields o) H.fields c n) was allows)))
 

@@ -1,8 +1,7 @@
 -- A word of a cached L2 table is set: what memory becomes, and why what is cached stays safe.
-use Rattle.std.proofs.Common.{◌≡◌, ◌≢◌, ℕ, ◌+◌, ◌*◌, ◌/◌, ◌%◌, ◌^◌, ◌<◌, ◌≤◌, refl, arith, ap, sym, subst, ◌∙◌, List, [], ◌∷◌, ◌++◌, length, Some, true, false, inl, inr}
+use Rattle.std.proofs.Common.{◌≡◌, ◌≢◌, ℕ, ◌+◌, ◌*◌, ◌/◌, ◌%◌, ◌^◌, ◌<◌, ◌≤◌, refl, arith, ap, sym, subst, ◌∙◌, List, ◌∷◌, ◌++◌, length, Some, true, false, inl, inr}
 use Rattle.std.specs.Prelude.{◌⊎◌, nat_eq, slice_index, slice_set, max, IsTrue, IsFalse}
 use Rattle.std.specs.Map.{lookup}
-use Rattle.std.specs.List.{AllByRecursion, IsDistinct}
 use Rattle.std.proofs.lemmas.Bool.{cases_Bool, cases_eq, cases_lt, not-true}
 use Rattle.std.proofs.lemmas.List.{get_or-set_same, get_or-set_other}
 use Rattle.std.proofs.lemmas.Nat.{mod_below, pow_pos}
@@ -16,7 +15,6 @@ use Rattle.qcow2_types.specs.Slots.{Live, over_slots, slot as slot_in}
 use Rattle.qcow2_types.specs.TableBytes.{table_bytes}
 use Rattle.qcow2_types.specs.Consistency.{IsConsistent}
 use Rattle.qcow2_types.specs.Frames.{Same, Outside}
-use Rattle.qcow2_types.specs.Over.{Patch, over}
 use Rattle.qcow2_types.specs.Steps.{SlotWritten, TableWritten, TableRewritten}
 use Rattle.qcow2_types.specs.Versions.{SamePlaces, IsBetween, ChangesSlot, of_either, named, copied, NamedApart, BlocksFirst, TablesFirst}
 use Rattle.qcow2_types.proofs.Counting.Consistent.{meets-own, meets-other, some-words}
@@ -42,20 +40,14 @@ use Rattle.qcow2_alloc.specs.Cache.{hit}
 use Rattle.qcow2_alloc.specs.Changes.{CachesTable, SetsWord, WordChanged, NamesNoMore, NamesDropped, ClusterNamed, file_with}
 use Rattle.qcow2_alloc.specs.Memory.{Cached, memory}
 use Rattle.qcow2_alloc.specs.Safety.{IsCachedTable, IsOrdered, Safe}
-use Rattle.qcow2_alloc.proofs.Caching.CachedTables.{tables_with, patches-with}
-use Rattle.qcow2_alloc.proofs.Memory.ChangingCounters.{splice-again}
-use Rattle.qcow2_alloc.proofs.Caching.Entering.{tables_first, distinct-first, table-first, table-leaves}
+use Rattle.qcow2_alloc.proofs.Caching.CachedEntries.{table-kind-laws, entry-fits}
+use Rattle.qcow2_alloc.proofs.Memory.ChangingEntries.{entry-put, none-there, put-safe}
+use Rattle.qcow2_alloc.proofs.Memory.EntryKinds.{table_kind, tables_with}
 use Rattle.qcow2_alloc.proofs.Memory.MemoryImage.{safe-memory}
 use Rattle.qcow2_alloc.proofs.Memory.MemoryWords.{places-in-memory, table-same}
-use Rattle.qcow2_alloc.proofs.Memory.Patches.{all-append, all-front, all-back, all-weaker, others-before, others-behind, places-differ, place-there, table-long, shaped-in}
+use Rattle.qcow2_alloc.proofs.Memory.Patches.{place-there, table-long, shaped-in}
 use Rattle.qcow2_alloc.proofs.Caching.Places.{Place, place-of-key, place-hit, slot-of}
-use Rattle.qcow2_alloc.proofs.Flushing.WritingTables.{keys-with, word-here}
-
--- A modified table that goes first is put over all else.
-first-table : (f : Bytes) (H : Header) (key : ℕ) (slot : Slot TableValue) (rest : List (ℕ × Slot TableValue)) (blocks : List (ℕ × Slot Block)) → slot.value.modified ≡ true
-    → memory f H.fields (tables_first key slot rest blocks) ≡ splice (memory f H.fields (record { tables = rest; blocks = blocks })) (key * cluster_size H.fields) (table_bytes slot.value.words)
-unfolding over
-first-table f H key slot rest blocks modified = ap (λ (ps : List Patch). over f ps) (patches-with H.fields [] key slot rest blocks modified)
+use Rattle.qcow2_alloc.proofs.Flushing.WritingTables.{word-here}
 
 -- What one word changes of what is named by the file or by what is over it.
 module _ (f g x : Bytes) (h : Fields) (i j : ℕ) (step : ChangesSlot f g x h i j) where
@@ -159,7 +151,7 @@ module _ (f : Bytes) (H : Header) (order : CacheDependency) (front : List (ℕ �
   g = memory f H.fields (tables_with front key slot back blocks)
 
   this : IsCachedTable f H.fields key slot.value
-  this = (all-back (λ e. IsCachedTable f H.fields e.0 e.1.value) front ((key, slot) ∷ back) safe.tables).0
+  this = entry-fits table_kind table-kind-laws f H blocks front key slot back order safe
 
   there : l2_table f H.fields i ≢ 0
   there none = place-there (cluster_size H.fields) key (pow_pos H.fields.cluster_bits) some (sym place ∙ none)
@@ -169,10 +161,6 @@ module _ (f : Bytes) (H : Header) (order : CacheDependency) (front : List (ℕ �
 
   at_key : l2_table g H.fields i ≡ key * cluster_size H.fields
   at_key = places.l1 i ∙ place
-
-  -- all else that is cached, in memory
-  abbrev base : Bytes
-  base = memory f H.fields (record { tables = front ++ back; blocks = blocks })
 
   -- a table fills its cluster
   full : (s : Slot TableValue) → IsCachedTable f H.fields key s.value → length (table_bytes s.value.words) ≡ cluster_size H.fields
@@ -184,24 +172,16 @@ module _ (f : Bytes) (H : Header) (order : CacheDependency) (front : List (ℕ �
   within : (s : Slot TableValue) → IsCachedTable f H.fields key s.value → (m : ℕ) → m < words_of_cluster H.fields → m < length s.value.words
   within s is m less = let all = whole s is in let fits = words-fit H.fields m less in omega (arith, all, fits)
 
-  -- Where it is modified, its bytes are over all else;
-  modified-memory : slot.value.modified ≡ true → g ≡ splice base (key * cluster_size H.fields) (table_bytes slot.value.words)
-  modified-memory modified = sym (table-first f H order front key slot back blocks safe) ∙ first-table f H key slot (front ++ back) blocks modified
-
-  -- and where it isn't, it is the file's.
+  -- Where it isn't modified, it is the file's.
   clean-memory : slot.value.modified ≡ false → Same f g (key * cluster_size H.fields) (cluster_size H.fields)
   clean-memory clean = subst (λ t. Same f g t (cluster_size H.fields)) place
       (table-same f H safe.consistent (tables_with front key slot back blocks) safe.tables safe.blocks i in_l1 there
-      (all-append _ front ((key, slot) ∷ back) (elsewhere front (others-before key slot front back safe.tables_apart))
-      ((λ m. absurd (let both = sym clean ∙ m in cc)), elsewhere back (others-behind key slot front back safe.tables_apart))))
-    where
-      elsewhere : (es : List (ℕ × Slot TableValue)) → AllByRecursion (λ e. key ≢ e.0) es → AllByRecursion (λ e. e.1.value.modified ≡ true → e.0 * cluster_size H.fields ≢ l2_table f H.fields i) es
-      elsewhere es apart = all-weaker _ _ (λ e other m same. places-differ (cluster_size H.fields) key e.0 (pow_pos H.fields.cluster_bits) other (sym place ∙ sym same)) es apart
+      (none-there table_kind table-kind-laws f H order blocks front key slot back safe clean (l2_table f H.fields i) place))
 
   -- In memory each of its words is the cached one.
   pub word-in-memory : (m : ℕ) → m < words_of_cluster H.fields → word g (key * cluster_size H.fields) m ≡ slice_index slot.value.words m
   word-in-memory m less = elim (cases_Bool slot.value.modified) [
-    | inl modified ↦ word-here f H safe.consistent front key slot back blocks safe.tables_apart modified safe.tables safe.blocks m less
+    | inl modified ↦ word-here f H order front key slot back blocks safe modified m less
     | inr clean ↦
         word-same f g (key * cluster_size H.fields) (cluster_size H.fields) m (clean-memory clean) (words-fit H.fields m less)
         ∙ sym (words_at f (key * cluster_size H.fields) (words_of_cluster H.fields) m less)
@@ -225,7 +205,7 @@ module _ (f : Bytes) (H : Header) (order : CacheDependency) (front : List (ℕ �
     new = word_set slot j w
 
     abbrev cached' : Cached
-    cached' = tables_first key (word_set slot j w) (front ++ back) blocks
+    cached' = record { tables = (key, word_set slot j w) ∷ front ++ back; blocks = blocks }
 
     new-is : IsCachedTable f H.fields key new.value
     new-is = record {
@@ -247,12 +227,7 @@ module _ (f : Bytes) (H : Header) (order : CacheDependency) (front : List (ℕ �
 
     -- Memory has its cluster's bytes replaced, and nothing else.
     pub word-put : memory f H.fields cached' ≡ x
-    word-put = first-table f H key new (front ++ back) blocks refl ∙ (elim (cases_Bool slot.value.modified) [
-      | inl modified ↦
-          sym (splice-again base (key * cluster_size H.fields) (table_bytes slot.value.words) new_bytes (full slot this ∙ sym (full new new-is)))
-          ∙ ap (λ (b : Bytes). splice b (key * cluster_size H.fields) new_bytes) (sym (modified-memory modified))
-      | inr clean ↦ ap (λ (b : Bytes). splice b (key * cluster_size H.fields) new_bytes) (table-leaves f H order front key slot back blocks clean)
-    ])
+    word-put = entry-put table_kind table-kind-laws f H order blocks front key slot back safe new new-is refl
 
     outside : Outside g x (key * cluster_size H.fields) (length new_bytes)
     outside = splice-is-outside g (key * cluster_size H.fields) new_bytes
@@ -345,16 +320,11 @@ module _ (f : Bytes) (H : Header) (order : CacheDependency) (front : List (ℕ �
       -- What is cached stays safe.
       pub word-changed : WordChanged (file_with f H order old) i j (mapping_in slot.value j) (mapping_of (layout_of H.fields) w) cached'
       word-changed = record {
-        safe = record {
-          consistent = safe.consistent;
-          tables_apart = distinct-first front key new back (subst (λ (ks : List ℕ). IsDistinct nat_eq ks) (keys-with front key slot new back) safe.tables_apart);
-          blocks_apart = safe.blocks_apart;
-          tables = (new-is, all-append _ front back (all-front _ front ((key, slot) ∷ back) safe.tables) (all-back _ front ((key, slot) ∷ back) safe.tables).1);
-          blocks = safe.blocks;
-          apart = subst (λ (m : Bytes). NamedApart f m H.fields) (sym word-put) (few-apart f g x H.fields few table-changed.counts places' safe.apart);
-          ordered = subst (λ (m : Bytes). IsOrdered order f m H.fields) (sym word-put) (few-ordered f g x H.fields few table-changed.counts places' order safe.ordered);
-          covered = subst (λ (m : Bytes). (c : ℕ) → refs m H.fields c ≤ count m H.fields c) (sym word-put) covered;
-        };
+        safe = put-safe table_kind table-kind-laws f H order blocks front key slot back safe new new-is refl (record {
+          apart = few-apart f g x H.fields few table-changed.counts places' safe.apart;
+          ordered = few-ordered f g x H.fields few table-changed.counts places' order safe.ordered;
+          covered = covered;
+        });
         was = slot-in-memory j in_table;
         written = subst (λ (m : Bytes). SlotWritten g m H i j (mapping_of (layout_of H.fields) w)) (sym word-put) written;
         references = subst (λ (m : Bytes). (c : ℕ) → refs m H.fields c + of_mapping H.fields (meets H.fields c) (mapping_in slot.value j) ≡ refs g H.fields c + of_mapping H.fields (meets H.fields c) (mapping_of (layout_of H.fields) w)) (sym word-put)
@@ -452,17 +422,17 @@ module _ (f : Bytes) (H : Header) (cached cached' : Cached) (order : CacheDepend
   was-so : cached ≡ tables_with q.front key s q.back cached.blocks
   was-so = as-was f H cached order key i sets.table safe sets.caches
 
-  as-is : cached' ≡ tables_first key (word_set s j w) (q.front ++ q.back) cached.blocks
+  as-is : cached' ≡ record { tables = (key, word_set s j w) ∷ q.front ++ q.back; blocks = cached.blocks }
   as-is =
       ap (λ (bs : List (ℕ × Slot Block)). record { tables = cached'.tables; blocks = bs }) sets.blocks
       ∙ ap (λ (ts : List (ℕ × Slot TableValue)). record { tables = ts; blocks = cached.blocks })
       (sets.tables ∙ ap (λ (t : TableValue). hit (nat_eq key) cached.tables (with_word t j w)) (sym same) ∙ place-hit key cached.tables s q (with_word s.value j w))
 
   -- what was shown of that entry
-  of-entry : (P : Cached → Mapping → Cached → Type 0) → P (tables_with q.front key s q.back cached.blocks) (mapping_in s.value j) (tables_first key (word_set s j w) (q.front ++ q.back) cached.blocks) → P cached (mapping_in sets.table j) cached'
+  of-entry : (P : Cached → Mapping → Cached → Type 0) → P (tables_with q.front key s q.back cached.blocks) (mapping_in s.value j) (record { tables = (key, word_set s j w) ∷ q.front ++ q.back; blocks = cached.blocks }) → P cached (mapping_in sets.table j) cached'
   of-entry P is = subst (λ (k : Cached). P cached (mapping_in sets.table j) k) (sym as-is)
-      (subst (λ (t : TableValue). P cached (mapping_in t j) (tables_first key (word_set s j w) (q.front ++ q.back) cached.blocks)) same
-      (subst (λ (o : Cached). P o (mapping_in s.value j) (tables_first key (word_set s j w) (q.front ++ q.back) cached.blocks)) (sym was-so) is))
+      (subst (λ (t : TableValue). P cached (mapping_in t j) (record { tables = (key, word_set s j w) ∷ q.front ++ q.back; blocks = cached.blocks })) same
+      (subst (λ (o : Cached). P o (mapping_in s.value j) (record { tables = (key, word_set s j w) ∷ q.front ++ q.back; blocks = cached.blocks })) (sym was-so) is))
 
   abbrev means : Mapping
   means = mapping_of (layout_of H.fields) w

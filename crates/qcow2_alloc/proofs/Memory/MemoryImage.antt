@@ -1,19 +1,16 @@
 -- What is in memory of a safe image is a consistent image.
 use Rattle.std.proofs.Common.{◌≡◌, ◌≢◌, ℕ, ◌*◌, ◌<◌, ◌≤◌, refl, arith, ap, sym, ◌∙◌, List, [], ◌∷◌, length, inr}
-use Rattle.std.specs.Prelude.{nat_eq, true}
-use Rattle.std.specs.List.{AllByRecursion, IsDistinct}
-use Rattle.std.specs.Map.{keys_of}
+use Rattle.std.specs.Prelude.{true}
+use Rattle.std.specs.List.{AllByRecursion}
 use Rattle.std.proofs.lemmas.Bool.Decides.{nat_tests}
 use Rattle.std.proofs.lemmas.Nat.{pow_pos}
 use Rattle.qcow2_types.specs.Bytes.{Bytes, splice}
 use Rattle.qcow2_types.specs.Header.{Header, cluster_size}
 use Rattle.qcow2_types.specs.Entries.{l2_table}
-use Rattle.qcow2_types.specs.Counts.{block_at, count}
-use Rattle.qcow2_types.specs.References.{refs}
+use Rattle.qcow2_types.specs.Counts.{block_at}
 use Rattle.qcow2_types.specs.Consistency.{IsConsistent}
 use Rattle.qcow2_types.specs.Frames.{Same, touches}
 use Rattle.qcow2_types.specs.Over.{Patch, over}
-use Rattle.qcow2_types.specs.Versions.{NamedApart}
 use Rattle.qcow2_types.proofs.Counting.Consistent.{header-kept}
 use Rattle.qcow2_types.proofs.Changes.Frames.{untouched, splice-is-outside, word-same, entries-fit}
 use Rattle.qcow2_types.proofs.Counting.Parts.{Part, header, l1_table, refcount_table, block_of, table_of, IsPart, part_weight, other-part, touches-inside}
@@ -21,7 +18,7 @@ use Rattle.qcow2_types.proofs.Changes.Patches.{IsPatch, part_place, part-once}
 use Rattle.qcow2_types.proofs.Counting.Sound.{stop-consistent}
 use Rattle.qcow2_alloc.specs.declared.cache.CacheDependency.{CacheDependency}
 use Rattle.qcow2_alloc.specs.Memory.{Cached, patches, memory}
-use Rattle.qcow2_alloc.specs.Safety.{IsCachedTable, IsCachedBlock, Safe}
+use Rattle.qcow2_alloc.specs.Safety.{Safe}
 use Rattle.qcow2_alloc.proofs.Memory.Patches.{patches-are}
 use Rattle.qcow2_alloc.proofs.Memory.MemoryWords.{places-in-memory}
 use Rattle.qcow2_alloc.proofs.Flushing.WritingTables.{memory-sound}
@@ -58,22 +55,17 @@ module _ (f : Bytes) (H : Header) (was : IsConsistent f H) where
     range-stays (e ∷ es) all k lt =
         untouched (over f es) (splice (over f es) e.0 e.1) e.0 (length e.1) at n (splice-is-outside (over f es) e.0 e.1) (untouched-by e all.0) k lt ∙ range-stays es all.1 k lt
 
-  pub memory-consistent : (cached : Cached) → IsDistinct nat_eq (keys_of cached.tables) → AllByRecursion (λ e. IsCachedTable f H.fields e.0 e.1.value) cached.tables → AllByRecursion (λ e. IsCachedBlock f H.fields e.0 e.1.value) cached.blocks
-      → NamedApart f (memory f H.fields cached) H.fields → ((c : ℕ) → refs (memory f H.fields cached) H.fields c ≤ count (memory f H.fields cached) H.fields c) → IsConsistent (memory f H.fields cached) H
-  memory-consistent cached distinct tables blocks apart covered =
-      let es : List Patch = patches H.fields cached in
-      let are : AllByRecursion (IsPatch f H.fields) (patches H.fields cached) = patches-are f H was cached tables blocks in
-      let start : Same f (memory f H.fields cached) 0 (cluster_size H.fields) = range-stays header tt refl 0 (cluster_size H.fields) (λ w. refl) (patches H.fields cached) are in
-      let l1 : Same f (memory f H.fields cached) H.fields.l1_offset (H.fields.l1_entries * 8) = range-stays l1_table tt refl H.fields.l1_offset (H.fields.l1_entries * 8) (λ w. refl) (patches H.fields cached) are in
-      let rt : Same f (memory f H.fields cached) H.fields.refcount_table_offset (H.fields.refcount_table_clusters * cluster_size H.fields) =
-      range-stays refcount_table tt refl H.fields.refcount_table_offset (H.fields.refcount_table_clusters * cluster_size H.fields) (λ w. refl) (patches H.fields cached) are in
-      stop-consistent f (memory f H.fields cached) (memory f H.fields cached) H was (header-kept true f (memory f H.fields cached) H was.readable.loads start)
-      (record {
-        l1 = λ i lt. word-same f (memory f H.fields cached) H.fields.l1_offset (H.fields.l1_entries * 8) i l1 (omega (arith, lt));
-        blocks = λ i lt. word-same f (memory f H.fields cached) H.fields.refcount_table_offset (H.fields.refcount_table_clusters * cluster_size H.fields) i rt (entries-fit H.fields i lt);
-      })
-      (record { places = places-in-memory f H was cached tables blocks; slots = λ i j live. inr refl })
-      (memory-sound f H was cached distinct tables blocks) apart covered
-
 pub safe-memory : (f : Bytes) (H : Header) (cached : Cached) (order : CacheDependency) → Safe f H cached order → IsConsistent (memory f H.fields cached) H
-safe-memory f H cached order safe = memory-consistent f H safe.consistent cached safe.tables_apart safe.tables safe.blocks safe.apart safe.covered
+safe-memory f H cached order safe =
+    let are : AllByRecursion (IsPatch f H.fields) (patches H.fields cached) = patches-are f H safe.consistent cached safe.tables safe.blocks in
+    let start : Same f (memory f H.fields cached) 0 (cluster_size H.fields) = range-stays f H safe.consistent header tt refl 0 (cluster_size H.fields) (λ w. refl) (patches H.fields cached) are in
+    let l1 : Same f (memory f H.fields cached) H.fields.l1_offset (H.fields.l1_entries * 8) = range-stays f H safe.consistent l1_table tt refl H.fields.l1_offset (H.fields.l1_entries * 8) (λ w. refl) (patches H.fields cached) are in
+    let rt : Same f (memory f H.fields cached) H.fields.refcount_table_offset (H.fields.refcount_table_clusters * cluster_size H.fields) =
+    range-stays f H safe.consistent refcount_table tt refl H.fields.refcount_table_offset (H.fields.refcount_table_clusters * cluster_size H.fields) (λ w. refl) (patches H.fields cached) are in
+    stop-consistent f (memory f H.fields cached) (memory f H.fields cached) H safe.consistent (header-kept true f (memory f H.fields cached) H safe.consistent.readable.loads start)
+    (record {
+      l1 = λ i lt. word-same f (memory f H.fields cached) H.fields.l1_offset (H.fields.l1_entries * 8) i l1 (omega (arith, lt));
+      blocks = λ i lt. word-same f (memory f H.fields cached) H.fields.refcount_table_offset (H.fields.refcount_table_clusters * cluster_size H.fields) i rt (entries-fit H.fields i lt);
+    })
+    (record { places = places-in-memory f H safe.consistent cached safe.tables safe.blocks; slots = λ i j live. inr refl })
+    (memory-sound f H order cached safe) safe.apart safe.covered

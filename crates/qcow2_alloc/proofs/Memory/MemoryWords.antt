@@ -20,7 +20,8 @@ use Rattle.qcow2_metadata.specs.Tables.{TableValue}
 use Rattle.qcow2_alloc.specs.declared.async_lru_cache.Slot.{Slot}
 use Rattle.qcow2_alloc.specs.Memory.{Cached, patches, memory}
 use Rattle.qcow2_alloc.specs.Safety.{IsCachedTable, IsCachedBlock}
-use Rattle.qcow2_alloc.proofs.Memory.Patches.{all-append, all-weaker, tables-all, blocks-all, patches-are, table-no-block, shaped-in}
+use Rattle.qcow2_alloc.proofs.Memory.EntryKinds.{table_kind, block_kind, patches-all}
+use Rattle.qcow2_alloc.proofs.Memory.Patches.{all-append, all-weaker, patches-are, table-no-block, shaped-in}
 
 -- a modified table among those that are cached, at this place
 pub record Among (size place : ℕ) (tables : List (ℕ × Slot TableValue)) : Type 0 where
@@ -66,8 +67,8 @@ module _ (f : Bytes) (H : Header) (was : IsConsistent f H) (cached : Cached)
   table-same i lt there none =
       part-same f H was (table_of i) lt there (patches H.fields cached) (patches-are f H was cached tables blocks)
       (all-append (λ e. e.0 ≢ l2_table f H.fields i) _ _
-      (tables-all (λ e. e.0 ≢ l2_table f H.fields i) (cluster_size H.fields) cached.tables none)
-      (blocks-all (λ e. e.0 ≢ l2_table f H.fields i) (cluster_size H.fields) cached.blocks
+      (patches-all table_kind (λ e. e.0 ≢ l2_table f H.fields i) (cluster_size H.fields) cached.tables none)
+      (patches-all block_kind (λ e. e.0 ≢ l2_table f H.fields i) (cluster_size H.fields) cached.blocks
       (all-weaker _ _ (λ e is m same. let live = is.modified m in parts-differ f H was (table_of i) (block_of live.0) lt live.1 there (table-no-block i live.0) (sym (live.2 ∙ same))) cached.blocks blocks)))
 
   -- and so do its words.
@@ -83,9 +84,9 @@ module _ (f : Bytes) (H : Header) (was : IsConsistent f H) (cached : Cached)
       (λ there. let lt = block-inside f H.fields (c / counters_of_block H.fields) there in
       part-same f H was (block_of (c / counters_of_block H.fields)) lt there (patches H.fields cached) (patches-are f H was cached tables blocks)
       (all-append _ _ _
-      (tables-all _ (cluster_size H.fields) cached.tables
+      (patches-all table_kind _ (cluster_size H.fields) cached.tables
       (all-weaker _ _ (λ e is m same. let live = is.modified m in parts-differ f H was (table_of live.0) (block_of (c / counters_of_block H.fields)) live.1 lt (λ z. there (sym same ∙ sym live.2 ∙ z)) (table-no-block live.0 (c / counters_of_block H.fields)) (live.2 ∙ same)) cached.tables tables))
-      (blocks-all _ (cluster_size H.fields) cached.blocks (all-weaker _ _ (λ e off m. absurd (let both = sym off ∙ m in cc)) cached.blocks clean))))
+      (patches-all block_kind _ (cluster_size H.fields) cached.blocks (all-weaker _ _ (λ e off m. absurd (let both = sym off ∙ m in cc)) cached.blocks clean))))
 
   -- A block of which no modified one is cached stays in memory.
   pub block-same : (i : ℕ) → i < refcount_table_entries H.fields → block_at f H.fields i ≢ 0 → AllByRecursion (λ e. e.1.value.modified ≡ true → e.0 * cluster_size H.fields ≢ block_at f H.fields i) cached.blocks
@@ -93,6 +94,6 @@ module _ (f : Bytes) (H : Header) (was : IsConsistent f H) (cached : Cached)
   block-same i lt there none =
       part-same f H was (block_of i) lt there (patches H.fields cached) (patches-are f H was cached tables blocks)
       (all-append _ _ _
-      (tables-all _ (cluster_size H.fields) cached.tables
+      (patches-all table_kind _ (cluster_size H.fields) cached.tables
       (all-weaker _ _ (λ e is m same. let live = is.modified m in parts-differ f H was (table_of live.0) (block_of i) live.1 lt (λ z. there (sym same ∙ sym live.2 ∙ z)) (table-no-block live.0 i) (live.2 ∙ same)) cached.tables tables))
-      (blocks-all _ (cluster_size H.fields) cached.blocks none))
+      (patches-all block_kind _ (cluster_size H.fields) cached.blocks none))

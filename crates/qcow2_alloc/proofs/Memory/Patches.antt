@@ -1,9 +1,9 @@
 -- What is to be written of cached tables and blocks, as patches of the image file.
-use Rattle.std.proofs.Common.{◌≡◌, ◌≢◌, ℕ, ◌+◌, ◌-◌, ◌*◌, ◌/◌, ◌^◌, ◌<◌, arith, ap, sym, subst, ◌∙◌, List, [], ◌∷◌, ◌++◌, length, inl, inr, true, false}
+use Rattle.std.proofs.Common.{◌≡◌, ◌≢◌, ℕ, ◌+◌, ◌-◌, ◌*◌, ◌/◌, ◌^◌, ◌<◌, arith, ap, sym, subst, ◌∙◌, List, [], ◌∷◌, ◌++◌, length, true, false}
 use Rattle.std.specs.Prelude.{nat_eq}
-use Rattle.std.specs.List.{AllByRecursion, IsDistinct, filter_map}
+use Rattle.std.specs.List.{AllByRecursion, IsDistinct}
 use Rattle.std.specs.Map.{keys_of}
-use Rattle.std.proofs.lemmas.Bool.{cases_Bool, eqb-false}
+use Rattle.std.proofs.lemmas.Bool.{eqb-false}
 use Rattle.std.proofs.lemmas.List.FromFn.{length-map-range_with_len}
 use Rattle.std.proofs.lemmas.Nat.{pow_pos, pow-add}
 use Rattle.std.proofs.Math.Nat.{mul-div_left, zero-mul}
@@ -16,15 +16,14 @@ use Rattle.qcow2_metadata.proofs.Powers.{power-counters}
 use Rattle.qcow2_types.specs.TableBytes.{table_bytes}
 use Rattle.qcow2_types.specs.BlockBytes.{block_bytes}
 use Rattle.qcow2_types.specs.Consistency.{IsConsistent}
-use Rattle.qcow2_types.specs.Over.{Patch}
 use Rattle.qcow2_types.proofs.Changes.Over.{IsClear, words-length}
 use Rattle.qcow2_types.proofs.Counting.Parts.{block_of, table_of}
 use Rattle.qcow2_types.proofs.Changes.Patches.{IsPatch, clear-of-other}
 use Rattle.qcow2_metadata.specs.Tables.{TableValue, IsTable, l2_words}
 use Rattle.qcow2_metadata.specs.Blocks.{Block}
-use Rattle.qcow2_alloc.specs.declared.async_lru_cache.Slot.{Slot}
-use Rattle.qcow2_alloc.specs.Memory.{Cached, table_patch, block_patch, patches}
+use Rattle.qcow2_alloc.specs.Memory.{Cached, patches}
 use Rattle.qcow2_alloc.specs.Safety.{IsCachedTable, IsCachedBlock}
+use Rattle.qcow2_alloc.proofs.Memory.EntryKinds.{table_kind, block_kind, patches-all}
 
 pub all-append : {X : Type 0} (P : X → Type 0) (xs ys : List X) → AllByRecursion P xs → AllByRecursion P ys → AllByRecursion P (xs ++ ys)
 all-append P [] ys first second = second
@@ -65,21 +64,6 @@ module _ {V : Type 0} where
   unfolding IsDistinct
   others-behind key v [] back apart = others-after key back apart.0
   others-behind key v (e ∷ front) back apart = others-behind key v front back apart.1
-
--- what holds of each patch
-pub tables-all : (P : Patch → Type 0) (size : ℕ) (es : List (ℕ × Slot TableValue)) → AllByRecursion (λ e. e.1.value.modified ≡ true → P (e.0 * size, table_bytes e.1.value.words)) es → AllByRecursion P (filter_map (table_patch size) es)
-tables-all P size [] all = tt
-tables-all P size (e ∷ es) all = elim (cases_Bool e.1.value.modified) [
-  | inl t ↦ rw t (all.0 t, tables-all P size es all.1)
-  | inr t ↦ rw t (tables-all P size es all.1)
-]
-
-pub blocks-all : (P : Patch → Type 0) (size : ℕ) (es : List (ℕ × Slot Block)) → AllByRecursion (λ e. e.1.value.modified ≡ true → P (e.0 * size, block_bytes e.1.value.order e.1.value.counters)) es → AllByRecursion P (filter_map (block_patch size) es)
-blocks-all P size [] all = tt
-blocks-all P size (e ∷ es) all = elim (cases_Bool e.1.value.modified) [
-  | inl t ↦ rw t (all.0 t, blocks-all P size es all.1)
-  | inr t ↦ rw t (blocks-all P size es all.1)
-]
 
 -- clusters stand apart
 pub places-differ : (size a b : ℕ) → 0 < size → a ≢ b → a * size ≢ b * size
@@ -158,5 +142,5 @@ module _ (f : Bytes) (H : Header) (was : IsConsistent f H) where
   patches-are cached tables blocks =
       let size : ℕ = cluster_size H.fields in
       all-append (IsPatch f H.fields) _ _
-      (tables-all (IsPatch f H.fields) (cluster_size H.fields) cached.tables (all-weaker _ _ (λ e is. table-is-patch e.0 e.1.value is) cached.tables tables))
-      (blocks-all (IsPatch f H.fields) (cluster_size H.fields) cached.blocks (all-weaker _ _ (λ e is m. block-is-patch e.0 e.1.value is m) cached.blocks blocks))
+      (patches-all table_kind (IsPatch f H.fields) (cluster_size H.fields) cached.tables (all-weaker _ _ (λ e is. table-is-patch e.0 e.1.value is) cached.tables tables))
+      (patches-all block_kind (IsPatch f H.fields) (cluster_size H.fields) cached.blocks (all-weaker _ _ (λ e is m. block-is-patch e.0 e.1.value is m) cached.blocks blocks))

@@ -1,6 +1,6 @@
 -- What holds of each safe image, and of clean caches.
-use Rattle.std.proofs.Common.{◌≡◌, ℕ, ◌^◌, ◌≤◌, refl, ap, sym, subst, ◌∙◌, List, [], ◌∷◌, ◌++◌, true, false}
-use Rattle.std.specs.List.{AllByRecursion, filter_map}
+use Rattle.std.proofs.Common.{◌≡◌, ℕ, ◌^◌, ◌≤◌, ap, sym, subst, ◌∙◌, List, ◌++◌, true}
+use Rattle.std.specs.List.{filter_map}
 use Rattle.qcow2_types.specs.Bytes.{Bytes, bytes_of}
 use Rattle.qcow2_types.specs.Words.{Layout, max_offset}
 use Rattle.qcow2_types.specs.Header.{Fields, Header, cluster_size}
@@ -15,11 +15,11 @@ use Rattle.qcow2_types.proofs.Changes.BlockSteps.{block-place}
 use Rattle.qcow2_metadata.specs.Places.{IsInReach}
 use Rattle.qcow2_metadata.specs.Tables.{TableValue}
 use Rattle.qcow2_metadata.specs.Blocks.{Block}
-use Rattle.qcow2_alloc.specs.declared.async_lru_cache.Slot.{Slot}
 use Rattle.qcow2_alloc.specs.declared.cache.CacheDependency.{CacheDependency}
-use Rattle.qcow2_alloc.specs.Memory.{Cached, table_patch, block_patch, memory}
+use Rattle.qcow2_alloc.specs.Memory.{Cached, block_patch, memory}
 use Rattle.qcow2_alloc.specs.Safety.{Safe, IsSettled, IsCachedTable, IsCachedBlock, AreTablesClean, AreBlocksClean}
 use Rattle.qcow2_alloc.specs.Going.{AreTablesInReach, AreBlocksInReach}
+use Rattle.qcow2_alloc.proofs.Memory.EntryKinds.{table_kind, block_kind, no-patches}
 use Rattle.qcow2_alloc.proofs.Memory.Patches.{all-weaker}
 
 pub safe-reach : (f : Bytes) (H : Header) (cached : Cached) (order : CacheDependency) → Safe f H cached order → AreTablesInReach cached × AreBlocksInReach cached
@@ -42,19 +42,11 @@ safe-reach f H cached order safe = (
         let bits : 2 ^ b.cluster_bits ≡ cluster_size H.fields = ap (λ n. 2 ^ n) is.cluster_bits in
         rw bits (subst (λ n. n ≤ max_offset) live.2 near)
 
-pub no-tables : (size : ℕ) (es : List (ℕ × Slot TableValue)) → AllByRecursion (λ e. e.1.value.modified ≡ false) es → filter_map (table_patch size) es ≡ []
-no-tables size [] clean = refl
-no-tables size (e ∷ es) clean = rw clean.0 (no-tables size es clean.1)
-
-pub no-blocks : (size : ℕ) (es : List (ℕ × Slot Block)) → AllByRecursion (λ e. e.1.value.modified ≡ false) es → filter_map (block_patch size) es ≡ []
-no-blocks size [] clean = refl
-no-blocks size (e ∷ es) clean = rw clean.0 (no-blocks size es clean.1)
-
 pub clean-memory : (f : Bytes) (h : Fields) (cached : Cached) → AreTablesClean cached → AreBlocksClean cached → memory f h cached ≡ f
 unfolding over
 clean-memory f h cached tables blocks =
-    ap (λ (l : List Patch). over f (l ++ filter_map (block_patch (cluster_size h)) cached.blocks)) (no-tables (cluster_size h) cached.tables tables)
-    ∙ ap (λ (l : List Patch). over f l) (no-blocks (cluster_size h) cached.blocks blocks)
+    ap (λ (l : List Patch). over f (l ++ filter_map (block_patch (cluster_size h)) cached.blocks)) (no-patches table_kind (cluster_size h) cached.tables tables)
+    ∙ ap (λ (l : List Patch). over f l) (no-patches block_kind (cluster_size h) cached.blocks blocks)
 
 pub settled-names : (H : Header) (order : CacheDependency) (old new : List ℕ) (cached cached' : Cached) → IsSettled H order old cached new cached'
     → (c : ℕ) → named (bytes_of new) (memory (bytes_of new) H.fields cached') H.fields c ≤ named (bytes_of old) (memory (bytes_of old) H.fields cached) H.fields c

@@ -1,5 +1,8 @@
-use Rattle.qcow2_alloc.proofs.Caching.Dropping.{tables-dropped}
+use Rattle.qcow2_alloc.proofs.Caching.CachedEntries.{table-kind-laws}
+use Rattle.qcow2_alloc.proofs.Caching.Dropping.{entries-dropped}
+use Rattle.qcow2_alloc.proofs.Memory.EntryKinds.{table_kind}
 use Rattle.qcow2_alloc.proofs.cache.MetadataCaches.invalidate_l2.Goals as goal
 
 pub returns-clause-safe : goal.returns-clause-safe
-returns-clause-safe g c = λ clean. rw c.invalidate.ensures.kept (tables-dropped c.args.self.now.l2.slots.entries c.args.self.now.rb.slots.entries c.args.self.now.order clean)
+returns-clause-safe g c = λ clean. rw c.invalidate.ensures.kept
+    (entries-dropped table_kind table-kind-laws c.args.self.now.rb.slots.entries c.args.self.now.l2.slots.entries c.args.self.now.order clean)

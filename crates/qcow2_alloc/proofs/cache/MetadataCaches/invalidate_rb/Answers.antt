@@ -1,5 +1,8 @@
-use Rattle.qcow2_alloc.proofs.Caching.Dropping.{blocks-dropped}
+use Rattle.qcow2_alloc.proofs.Caching.CachedEntries.{block-kind-laws}
+use Rattle.qcow2_alloc.proofs.Caching.Dropping.{entries-dropped}
+use Rattle.qcow2_alloc.proofs.Memory.EntryKinds.{block_kind}
 use Rattle.qcow2_alloc.proofs.cache.MetadataCaches.invalidate_rb.Goals as goal
 
 pub returns-clause-safe : goal.returns-clause-safe
-returns-clause-safe g c = λ clean. rw c.invalidate.ensures.kept (blocks-dropped c.args.self.now.l2.slots.entries c.args.self.now.rb.slots.entries c.args.self.now.order clean)
+returns-clause-safe g c = λ clean. rw c.invalidate.ensures.kept
+    (entries-dropped block_kind block-kind-laws c.args.self.now.l2.slots.entries c.args.self.now.rb.slots.entries c.args.self.now.order clean)

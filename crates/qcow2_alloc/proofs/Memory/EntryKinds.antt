@@ -1,0 +1,113 @@
+-- What a cached entry is, an L2 table or a refcount block: what is proved of entries in memory is said once, of both kinds.
+use Rattle.std.proofs.Common.{◌≡◌, ℕ, ◌*◌, ◌≤◌, List, [], ◌∷◌, ◌++◌, Option, Some, None, refl, true, false, inl, inr}
+use Rattle.std.specs.Prelude.{nat_eq, if◌then◌else◌}
+use Rattle.std.specs.List.{AllByRecursion, IsDistinct, filter_map}
+use Rattle.std.specs.Map.{keys_of}
+use Rattle.std.proofs.lemmas.Bool.{cases_Bool}
+use Rattle.qcow2_types.specs.Bytes.{Bytes}
+use Rattle.qcow2_types.specs.BlockBytes.{block_bytes}
+use Rattle.qcow2_types.specs.Consistency.{IsConsistent}
+use Rattle.qcow2_types.specs.Counts.{count}
+use Rattle.qcow2_types.specs.Header.{Fields, Header}
+use Rattle.qcow2_types.specs.Over.{Patch}
+use Rattle.qcow2_types.specs.References.{refs}
+use Rattle.qcow2_types.specs.TableBytes.{table_bytes}
+use Rattle.qcow2_types.specs.Versions.{NamedApart}
+use Rattle.qcow2_metadata.specs.Blocks.{Block}
+use Rattle.qcow2_metadata.specs.Tables.{TableValue}
+use Rattle.qcow2_alloc.specs.declared.async_lru_cache.Slot.{Slot}
+use Rattle.qcow2_alloc.specs.declared.cache.CacheDependency.{CacheDependency}
+use Rattle.qcow2_alloc.specs.Backends.{WrittenKind, written_tables, written_blocks}
+use Rattle.qcow2_alloc.specs.Memory.{Cached, table_patch, block_patch, memory}
+use Rattle.qcow2_alloc.specs.Safety.{IsCachedTable, IsCachedBlock, IsOrdered, Safe}
+
+-- What is written of an entry, which fit the file, and where they stand beside those of the other kind: what is to be written of these goes
+-- ahead, or behind.
+pub record EntryKind (V W : Type 0) : Type 1 where
+  pub writes : WrittenKind V
+  pub bytes : V → List ℕ
+  pub Fits : Bytes → Fields → ℕ → V → Type 0
+  pub OtherFits : Bytes → Fields → ℕ → W → Type 0
+  pub put : List (ℕ × Slot W) → List (ℕ × Slot V) → Cached
+  pub ahead : ℕ → List (ℕ × Slot W) → List Patch
+  pub behind : ℕ → List (ℕ × Slot W) → List Patch
+
+-- L2 tables are written ahead of blocks,
+abbrev pub table_kind : EntryKind TableValue Block
+table_kind = record {
+  writes = written_tables;
+  bytes = λ t. table_bytes t.words;
+  Fits = IsCachedTable;
+  OtherFits = IsCachedBlock;
+  put = λ blocks es. record { tables = es; blocks = blocks };
+  ahead = λ size blocks. [];
+  behind = λ size blocks. filter_map (block_patch size) blocks;
+}
+
+-- and blocks behind tables.
+abbrev pub block_kind : EntryKind Block TableValue
+block_kind = record {
+  writes = written_blocks;
+  bytes = λ b. block_bytes b.order b.counters;
+  Fits = IsCachedBlock;
+  OtherFits = IsCachedTable;
+  put = λ tables es. record { tables = tables; blocks = es };
+  ahead = λ size tables. filter_map (table_patch size) tables;
+  behind = λ size tables. [];
+}
+
+-- all that is cached, with one among the tables,
+abbrev pub tables_with : List (ℕ × Slot TableValue) → ℕ → Slot TableValue → List (ℕ × Slot TableValue) → List (ℕ × Slot Block) → Cached
+tables_with front key slot back blocks = record { tables = front ++ (key, slot) ∷ back; blocks = blocks }
+
+-- or the blocks
+abbrev pub blocks_with : List (ℕ × Slot TableValue) → List (ℕ × Slot Block) → ℕ → Slot Block → List (ℕ × Slot Block) → Cached
+blocks_with tables front key slot back = record { tables = tables; blocks = front ++ (key, slot) ∷ back }
+
+-- Entries stand under keys of their own, and fit.
+pub record AreEntries {V : Type 0} (Fits : ℕ → V → Type 0) (es : List (ℕ × Slot V)) : Type 0 where
+  pub apart : IsDistinct nat_eq (keys_of es)
+  pub fit : AllByRecursion (λ (e : ℕ × Slot V). Fits e.0 e.1.value) es
+
+-- What is safe of memory g over a file.
+pub record IsSafeMemory (f g : Bytes) (H : Header) (order : CacheDependency) : Type 0 where
+  pub apart : NamedApart f g H.fields
+  pub ordered : IsOrdered order f g H.fields
+  pub covered : (c : ℕ) → refs g H.fields c ≤ count g H.fields c
+
+pub safe-in-memory : (f : Bytes) (H : Header) (cached : Cached) (order : CacheDependency) → Safe f H cached order
+    → IsSafeMemory f (memory f H.fields cached) H order
+safe-in-memory f H cached order safe = record { apart = safe.apart; ordered = safe.ordered; covered = safe.covered }
+
+pub safe-of : (f : Bytes) (H : Header) (order : CacheDependency) (cached : Cached) → IsConsistent f H → AreEntries (IsCachedTable f H.fields) cached.tables
+    → AreEntries (IsCachedBlock f H.fields) cached.blocks → IsSafeMemory f (memory f H.fields cached) H order → Safe f H cached order
+safe-of f H order cached was tables blocks m = record {
+  consistent = was;
+  tables_apart = tables.apart;
+  blocks_apart = blocks.apart;
+  tables = tables.fit;
+  blocks = blocks.fit;
+  apart = m.apart;
+  ordered = m.ordered;
+  covered = m.covered;
+}
+
+module _ {V W : Type 0} (kind : EntryKind V W) where
+  -- what of an entry is to be written, where clusters have this size
+  abbrev pub patch_of : ℕ → ℕ × Slot V → Option Patch
+  patch_of size e = if kind.writes.modified e.1.value then Some (e.0 * size, kind.bytes e.1.value) else None
+
+  -- what holds of each patch
+  pub patches-all : (P : Patch → Type 0) (size : ℕ) (es : List (ℕ × Slot V))
+      → AllByRecursion (λ e. kind.writes.modified e.1.value ≡ true → P (e.0 * size, kind.bytes e.1.value)) es
+      → AllByRecursion P (filter_map (patch_of size) es)
+  patches-all P size [] all = tt
+  patches-all P size (e ∷ es) all = elim (cases_Bool (kind.writes.modified e.1.value)) [
+    | inl t ↦ rw t (all.0 t, patches-all P size es all.1)
+    | inr t ↦ rw t (patches-all P size es all.1)
+  ]
+
+  -- nothing is, where none is modified
+  pub no-patches : (size : ℕ) (es : List (ℕ × Slot V)) → AllByRecursion (λ e. kind.writes.modified e.1.value ≡ false) es → filter_map (patch_of size) es ≡ []
+  no-patches size [] clean = refl
+  no-patches size (e ∷ es) clean = rw clean.0 (no-patches size es clean.1)
