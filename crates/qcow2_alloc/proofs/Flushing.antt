@@ -1,5 +1,6 @@
 -- Writes of cached tables and blocks, in the announced order.
 pub mod Turns
+pub mod WritingEntries
 pub mod WritingTables
 pub mod WritingBlocks
 pub mod Going

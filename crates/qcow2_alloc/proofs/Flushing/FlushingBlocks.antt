@@ -14,11 +14,12 @@ use Rattle.qcow2_types.proofs.Numbers.BlockBytes.{bytes-only}
 use Rattle.qcow2_alloc.specs.declared.async_lru_cache.Slot.{Slot}
 use Rattle.qcow2_alloc.specs.declared.cache.CacheDependency.{CacheDependency}
 use Rattle.qcow2_alloc.specs.Backends.{BlockFlushed, written_blocks}
-use Rattle.qcow2_alloc.specs.Memory.{Cached, memory}
-use Rattle.qcow2_alloc.specs.Safety.{IsCachedBlock, Safe, IsLeft, IsSettled}
-use Rattle.qcow2_alloc.proofs.Caching.CachedEntries.{block-kind-laws, entry-fits, entry-settled}
+use Rattle.qcow2_alloc.specs.Memory.{Cached}
+use Rattle.qcow2_alloc.specs.Safety.{IsCachedBlock, Safe, IsSettled}
+use Rattle.qcow2_alloc.proofs.Caching.CachedEntries.{block-kind-laws, entry-fits}
 use Rattle.qcow2_alloc.proofs.Memory.EntryKinds.{block_kind, blocks_with}
-use Rattle.qcow2_alloc.proofs.Flushing.WritingBlocks.{block-left, block-safe}
+use Rattle.qcow2_alloc.proofs.Flushing.WritingBlocks.{cached-block-written}
+use Rattle.qcow2_alloc.proofs.Flushing.WritingEntries.{EntryWritten}
 use Rattle.qcow2_alloc.proofs.Memory.Patches.{block-length, shaped-in}
 use Rattle.qcow2_alloc.specs.Going.{Going, ReadyBlocks}
 use Rattle.qcow2_alloc.specs.Going.{WasNotCutOff}
@@ -59,14 +60,9 @@ module _ (H : Header) (order : CacheDependency) (tables : List (ℕ × Slot Tabl
       spliced-bytes old.bytes (key * 2 ^ here.value.cluster_bits) done.bytes new.bytes (done.put.put.answer.content keeps)
       ∙ ap (λ n. splice (bytes_of old.bytes) (key * n) done.bytes) bits
       ∙ ap (λ (l : List ℕ). splice (bytes_of old.bytes) (key * cluster_size H.fields) l) (is_bytes done_so done) in
-      record {
-        safe = subst (λ (x : Bytes). Safe x H (blocks_with tables front key written back) order) (sym is)
-            (block-safe (bytes_of old.bytes) H tables front key here back order safe modified ready (packed done) written refl refl refl refl refl);
-        memory_same = ap (λ (x : Bytes). memory x H.fields (blocks_with tables front key written back)) is
-            ∙ entry-settled block_kind block-kind-laws (bytes_of old.bytes) H tables front key here back order safe modified written refl;
-        left = subst (λ (x : Bytes). IsLeft (bytes_of old.bytes) (memory (bytes_of old.bytes) H.fields before) H x) (sym is)
-            (block-left (bytes_of old.bytes) H tables front key here back order safe modified ready);
-      }
+      let w = subst (λ (x : Bytes). EntryWritten (bytes_of old.bytes) x H order before (blocks_with tables front key written back)) (sym is)
+          (cached-block-written (bytes_of old.bytes) H tables front key here back order safe modified ready (packed done) written refl refl refl refl refl) in
+      record { safe = w.safe; memory_same = w.memory_same; left = w.left }
 
   -- Whatever it is, where it wasn't cut off.
   pub block-flushed : (result : Result Unit Fault) (value : Block) → BlockFlushed old key here.value result new value

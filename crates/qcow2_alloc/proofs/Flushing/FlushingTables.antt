@@ -15,10 +15,11 @@ use Rattle.qcow2_metadata.specs.Blocks.{Block}
 use Rattle.qcow2_alloc.specs.declared.async_lru_cache.Slot.{Slot}
 use Rattle.qcow2_alloc.specs.declared.cache.CacheDependency.{CacheDependency}
 use Rattle.qcow2_alloc.specs.Backends.{TableFlushed, written_tables}
-use Rattle.qcow2_alloc.specs.Memory.{Cached, memory}
-use Rattle.qcow2_alloc.specs.Safety.{Safe, IsLeft, IsSettled}
-use Rattle.qcow2_alloc.proofs.Caching.CachedEntries.{table-kind-laws, entry-fits, entry-settled}
-use Rattle.qcow2_alloc.proofs.Flushing.WritingTables.{table-left, table-safe}
+use Rattle.qcow2_alloc.specs.Memory.{Cached}
+use Rattle.qcow2_alloc.specs.Safety.{Safe, IsSettled}
+use Rattle.qcow2_alloc.proofs.Caching.CachedEntries.{table-kind-laws, entry-fits}
+use Rattle.qcow2_alloc.proofs.Flushing.WritingEntries.{EntryWritten}
+use Rattle.qcow2_alloc.proofs.Flushing.WritingTables.{cached-table-written}
 use Rattle.qcow2_alloc.proofs.Memory.EntryKinds.{table_kind, tables_with}
 use Rattle.qcow2_alloc.proofs.Memory.Patches.{table-long}
 use Rattle.qcow2_alloc.specs.Going.{Going, ReadyTables}
@@ -32,6 +33,9 @@ module _ (H : Header) (order : CacheDependency) (front : List (ℕ × Slot Table
   abbrev before : Cached
   before = tables_with front key here back blocks
 
+  abbrev written : Slot TableValue
+  written = record here { value = record here.value { cluster = Some key; modified = false } }
+
   some : here.value.modified ≡ true → Safe (bytes_of old.bytes) H before order → 0 < length (table_bytes here.value.words)
   some modified safe =
       let this = entry-fits table_kind table-kind-laws (bytes_of old.bytes) H blocks front key here back order safe in
@@ -39,21 +43,16 @@ module _ (H : Header) (order : CacheDependency) (front : List (ℕ × Slot Table
       omega (arith, size, table-long (bytes_of old.bytes) H safe.consistent here.value this.fits this.layout)
 
   there : here.value.modified ≡ true → PutAtOnce old new (key * 2 ^ here.value.layout.cluster_bits) (table_bytes here.value.words) done_so → IsTrue old.shape.keeps → Safe (bytes_of old.bytes) H before order → ReadyTables order before
-      → IsSettled H order old.bytes before new.bytes (tables_with front key (record here { value = record here.value { cluster = Some key; modified = false } }) back blocks)
+      → IsSettled H order old.bytes before new.bytes (tables_with front key written back blocks)
   there modified done keeps safe ready =
       let this = entry-fits table_kind table-kind-laws (bytes_of old.bytes) H blocks front key here back order safe in
       let bits : 2 ^ here.value.layout.cluster_bits ≡ cluster_size H.fields = ap (λ (l : Layout). 2 ^ l.cluster_bits) this.layout in
       let is : bytes_of new.bytes ≡ splice (bytes_of old.bytes) (key * cluster_size H.fields) (table_bytes here.value.words) =
       spliced-bytes old.bytes (key * 2 ^ here.value.layout.cluster_bits) (table_bytes here.value.words) new.bytes (done.put.answer.content keeps)
       ∙ ap (λ n. splice (bytes_of old.bytes) (key * n) (table_bytes here.value.words)) bits in
-      record {
-        safe = subst (λ (x : Bytes). Safe x H (tables_with front key (record here { value = record here.value { cluster = Some key; modified = false } }) back blocks) order) (sym is)
-            (table-safe (bytes_of old.bytes) H front key here back blocks order safe modified ready (record here { value = record here.value { cluster = Some key; modified = false } }) refl refl refl refl);
-        memory_same = ap (λ (x : Bytes). memory x H.fields (tables_with front key (record here { value = record here.value { cluster = Some key; modified = false } }) back blocks)) is
-            ∙ entry-settled table_kind table-kind-laws (bytes_of old.bytes) H blocks front key here back order safe modified (record here { value = record here.value { cluster = Some key; modified = false } }) refl;
-        left = subst (λ (x : Bytes). IsLeft (bytes_of old.bytes) (memory (bytes_of old.bytes) H.fields before) H x) (sym is)
-            (table-left (bytes_of old.bytes) H front key here back blocks order safe modified ready);
-      }
+      let w = subst (λ (x : Bytes). EntryWritten (bytes_of old.bytes) x H order before (tables_with front key written back blocks)) (sym is)
+          (cached-table-written (bytes_of old.bytes) H front key here back blocks order safe modified ready written refl refl refl refl) in
+      record { safe = w.safe; memory_same = w.memory_same; left = w.left }
 
   -- Whatever it is, where it wasn't cut off.
   pub table-flushed : (result : Result Unit Fault) (value : TableValue) → TableFlushed old key here.value result new value

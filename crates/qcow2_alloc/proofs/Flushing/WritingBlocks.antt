@@ -1,7 +1,6 @@
 -- A modified block is written to its cluster: the file stays consistent, and what is cached stays safe.
-use Rattle.std.proofs.Common.{◌≡◌, ◌≢◌, ℕ, ◌+◌, ◌*◌, ◌/◌, ◌^◌, ◌<◌, ◌≤◌, refl, arith, ap, sym, subst, ◌∙◌, List, ◌∷◌, length, true, false, inl, inr}
-use Rattle.std.specs.Prelude.{Some, ◌⊎◌, nat_eq, slice_index}
-use Rattle.std.specs.List.{AllByRecursion, IsDistinct}
+use Rattle.std.proofs.Common.{◌≡◌, ◌≢◌, ℕ, ◌+◌, ◌*◌, ◌/◌, ◌^◌, ◌<◌, ◌≤◌, refl, arith, ap, sym, subst, ◌∙◌, List, length, true, false, inl, inr}
+use Rattle.std.specs.Prelude.{Some, ◌⊎◌, slice_index}
 use Rattle.std.proofs.lemmas.Bool.{cases_eq}
 use Rattle.std.proofs.lemmas.Nat.{pow_pos}
 use Rattle.std.proofs.lemmas.Grind.{same_number_lists}
@@ -14,25 +13,24 @@ use Rattle.qcow2_types.specs.References.{refs}
 use Rattle.qcow2_types.specs.BlockBytes.{block_bytes}
 use Rattle.qcow2_types.specs.Frames.{Same, Outside, Kept, block}
 use Rattle.qcow2_types.specs.Steps.{BlockWritten}
-use Rattle.qcow2_types.specs.Versions.{NamedApart, SamePlaces, IsBetween, KeepsSlots}
+use Rattle.qcow2_types.specs.Versions.{SamePlaces, IsBetween, KeepsSlots}
 use Rattle.qcow2_types.proofs.Changes.BlockSteps.{block-kept, block-written, counters-written}
 use Rattle.qcow2_types.proofs.Counting.Counters.{count-same}
 use Rattle.qcow2_types.proofs.Counting.Either.{refs-file, refs-kept, between-kept, block-before-tables, block-after-tables, block-without-order}
 use Rattle.qcow2_types.proofs.Changes.Frames.{splice-is-outside}
 use Rattle.qcow2_types.proofs.Numbers.Splices.{splice-inside}
-use Rattle.qcow2_types.proofs.Changes.Stops.{apart-falls}
 use Rattle.qcow2_metadata.specs.Tables.{TableValue}
 use Rattle.qcow2_metadata.specs.Blocks.{Block, counters_in}
 use Rattle.qcow2_alloc.specs.declared.async_lru_cache.Slot.{Slot}
 use Rattle.qcow2_alloc.specs.declared.cache.CacheDependency.{CacheDependency}
 use Rattle.qcow2_alloc.specs.declared.cache.CacheDependency.TheVariants.{Unset, L2DependsOnRb, RbDependsOnL2}
 use Rattle.qcow2_alloc.specs.Memory.{memory}
-use Rattle.qcow2_alloc.specs.Safety.{IsCachedTable, IsCachedBlock, IsOrdered, Safe, IsLeft, AreTablesClean}
-use Rattle.qcow2_alloc.proofs.Memory.Patches.{all-append, all-front, all-back, all-weaker, all-both, others-before, others-behind, places-differ, place-there, block-length, shaped-in}
-use Rattle.qcow2_alloc.proofs.Caching.CachedEntries.{block-kind-laws, entry-fits, entry-settled, entry-shows}
-use Rattle.qcow2_alloc.proofs.Caching.Entering.{keys-with}
+use Rattle.qcow2_alloc.specs.Safety.{IsCachedTable, IsCachedBlock, IsOrdered, Safe, AreTablesClean}
+use Rattle.qcow2_alloc.proofs.Memory.Patches.{all-weaker, places-differ, place-there, shaped-in}
+use Rattle.qcow2_alloc.proofs.Caching.CachedEntries.{block-kind-laws, entry-fits}
+use Rattle.qcow2_alloc.proofs.Flushing.WritingEntries.{EntryWritten, entry-written, fills, shown}
 use Rattle.qcow2_alloc.proofs.Memory.EntryKinds.{block_kind, blocks_with}
-use Rattle.qcow2_alloc.proofs.Memory.KeptEntries.{written-either, table-still, block-still}
+use Rattle.qcow2_alloc.proofs.Memory.KeptEntries.{table-still, block-still}
 use Rattle.qcow2_alloc.proofs.Memory.MemoryWords.{places-in-memory, slot-same}
 
 block-number : (i k : ℕ) → block i ≡ block k → i ≡ k
@@ -66,10 +64,10 @@ module _ (f : Bytes) (H : Header) (tables : List (ℕ × Slot TableValue)) (fron
   fits = shaped-in f H safe.consistent
 
   all : length bytes ≡ cluster_size H.fields
-  all = block-length H.fields fits here.value.order here.value.counters this.order this.long
+  all = fills block_kind block-kind-laws f H order tables front key here back safe modified (block_at f H.fields r) place
 
-  shown : (k : ℕ) → k < cluster_size H.fields → slice_index bytes k ≡ g (block_at f H.fields r + k)
-  shown k less = subst (λ t. slice_index bytes k ≡ g (t + k)) (sym place) (sym (entry-shows block_kind block-kind-laws f H tables front key here back order safe modified k (omega (arith, less, all))))
+  show : (k : ℕ) → k < cluster_size H.fields → slice_index bytes k ≡ g (block_at f H.fields r + k)
+  show = shown block_kind block-kind-laws f H order tables front key here back safe modified (block_at f H.fields r) place
 
   places : SamePlaces f g H.fields
   places = places-in-memory f H safe.consistent (blocks_with tables front key here back) safe.tables safe.blocks
@@ -89,7 +87,7 @@ module _ (f : Bytes) (H : Header) (tables : List (ℕ × Slot TableValue)) (fron
   counts-here c own kept_place = sym (count-same x g H.fields c fits
       (subst (λ b. block_at g H.fields b ≡ block_at x H.fields b) (sym own) (places.blocks r ∙ sym kept_place))
       (λ some. subst (λ b. Same x g (block_at x H.fields b) (cluster_size H.fields)) (sym own)
-      (subst (λ t. Same x g t (cluster_size H.fields)) (sym kept_place) (λ k less. sym (shown k less) ∙ sym (splice-inside f (block_at f H.fields r) bytes k (omega (arith, less, all)))))))
+      (subst (λ t. Same x g t (cluster_size H.fields)) (sym kept_place) (λ k less. sym (show k less) ∙ sym (splice-inside f (block_at f H.fields r) bytes k (omega (arith, less, all)))))))
 
   same_place : block_at x H.fields r ≡ block_at f H.fields r
   same_place = block_at-kept f x H.fields (block r) keeps r (λ e. cc)
@@ -125,9 +123,6 @@ module _ (f : Bytes) (H : Header) (tables : List (ℕ × Slot TableValue)) (fron
   between : IsBetween f x g H.fields
   between = between-kept f x g H.fields written.keeps
 
-  left-there : IsLeft f g H x
-  left-there = record { consistent = written.consistent; words = between; bytes = written-either f g (block_at f H.fields r) bytes (λ k inside. shown k (omega (arith, inside, all))) }
-
   -- cached tables, and blocks at other places, fit the file as before
   table-kept : (cluster : ℕ) (other : TableValue) → IsCachedTable f H.fields cluster other → IsCachedTable x H.fields cluster other
   table-kept cluster other = table-still f x H.fields between.places cluster (λ k j at live. keeps.words k j live (λ e. cc)) other
@@ -139,11 +134,6 @@ module _ (f : Bytes) (H : Header) (tables : List (ℕ × Slot TableValue)) (fron
 
   module _ (packs : (k : ℕ) → k < length here.value.counters → counter_of (bytes_of bytes) (2 ^ here.value.order) 0 k ≡ slice_index here.value.counters k)
       (settled : Slot Block) (counters_same : settled.value.counters ≡ here.value.counters) (bits_same : settled.value.cluster_bits ≡ here.value.cluster_bits) (order_same : settled.value.order ≡ here.value.order) (clean : settled.value.modified ≡ false) (at_key : settled.value.cluster ≡ Some key) where
-    memory-same : memory x H.fields (blocks_with tables front key settled back) ≡ g
-    memory-same =
-        subst (λ t. memory (splice f t bytes) H.fields (blocks_with tables front key settled back) ≡ g) (sym place)
-        (entry-settled block_kind block-kind-laws f H tables front key here back order safe modified settled clean)
-
     counters-read : counters_in x H.fields (block_at f H.fields r) ≡ here.value.counters
     counters-read =
         same_number_lists (counters_in x H.fields (block_at f H.fields r)) here.value.counters (length-map-range_with_len _ 0 (counters_of_block H.fields) ∙ sym this.long)
@@ -165,33 +155,7 @@ module _ (f : Bytes) (H : Header) (tables : List (ℕ × Slot TableValue)) (fron
       clean = λ m live. counters_same ∙ sym (subst (λ t. counters_in x H.fields t ≡ here.value.counters) place counters-read);
     }
 
-    blocks-kept : (es : List (ℕ × Slot Block)) → AllByRecursion (λ e. key ≢ e.0) es → AllByRecursion (λ e. IsCachedBlock f H.fields e.0 e.1.value) es → AllByRecursion (λ e. IsCachedBlock x H.fields e.0 e.1.value) es
-    blocks-kept es apart are = all-weaker _ _ (λ e both. block-kept-at e.0 e.1.value both.0 both.1) es (all-both _ _ es apart are)
-
     -- What is cached stays safe.
-    safe-there : Safe x H (blocks_with tables front key settled back) order
-    safe-there = record {
-      consistent = written.consistent;
-      tables_apart = safe.tables_apart;
-      blocks_apart = subst (λ (ks : List ℕ). IsDistinct nat_eq ks) (keys-with front key here settled back) safe.blocks_apart;
-      tables = all-weaker _ _ (λ e is. table-kept e.0 e.1.value is) tables safe.tables;
-      blocks = all-append _ front ((key, settled) ∷ back)
-          (blocks-kept front (others-before key here front back safe.blocks_apart) (all-front _ front ((key, here) ∷ back) safe.blocks))
-          (settled-is, blocks-kept back (others-behind key here front back safe.blocks_apart) (all-back _ front ((key, here) ∷ back) safe.blocks).1);
-      apart = subst (λ (m : Bytes). NamedApart x m H.fields) (sym memory-same) (apart-falls f x g H.fields between safe.apart);
-      ordered = subst (λ (m : Bytes). IsOrdered order x m H.fields) (sym memory-same) (ordered-by order refl safe.ordered);
-      covered = subst (λ (m : Bytes). (c : ℕ) → refs m H.fields c ≤ count m H.fields c) (sym memory-same) safe.covered;
-    }
-
--- The block is at its cluster.
-module _ (f : Bytes) (H : Header) (tables : List (ℕ × Slot TableValue)) (front : List (ℕ × Slot Block)) (key : ℕ) (here : Slot Block) (back : List (ℕ × Slot Block)) (order : CacheDependency)
-    (safe : Safe f H (blocks_with tables front key here back) order) (modified : here.value.modified ≡ true)
-    (ready : order ≡ RbDependsOnL2 → AreTablesClean (blocks_with tables front key here back)) where
-  pub block-left : IsLeft f (memory f H.fields (blocks_with tables front key here back)) H (splice f (key * cluster_size H.fields) (block_bytes here.value.order here.value.counters))
-  block-left = subst (λ t. IsLeft f (memory f H.fields (blocks_with tables front key here back)) H (splice f t (block_bytes here.value.order here.value.counters))) (place f H tables front key here back order safe modified ready) (left-there f H tables front key here back order safe modified ready)
-
-  pub block-safe : ((k : ℕ) → k < length here.value.counters → counter_of (bytes_of (block_bytes here.value.order here.value.counters)) (2 ^ here.value.order) 0 k ≡ slice_index here.value.counters k)
-      → (settled : Slot Block) → settled.value.counters ≡ here.value.counters → settled.value.cluster_bits ≡ here.value.cluster_bits → settled.value.order ≡ here.value.order → settled.value.modified ≡ false → settled.value.cluster ≡ Some key
-      → Safe (splice f (key * cluster_size H.fields) (block_bytes here.value.order here.value.counters)) H (blocks_with tables front key settled back) order
-  block-safe packs settled counters bits order_same clean at_key = subst (λ t. Safe (splice f t (block_bytes here.value.order here.value.counters)) H (blocks_with tables front key settled back) order) (place f H tables front key here back order safe modified ready)
-      (safe-there f H tables front key here back order safe modified ready packs settled counters bits order_same clean at_key)
+    pub cached-block-written : EntryWritten f (splice f (key * cluster_size H.fields) (block_bytes here.value.order here.value.counters)) H order (blocks_with tables front key here back) (blocks_with tables front key settled back)
+    cached-block-written = entry-written block_kind block-kind-laws f H order tables front key here back safe modified (block_at f H.fields r) place
+        written.consistent between (ordered-by order refl safe.ordered) block-kept-at table-kept settled clean settled-is

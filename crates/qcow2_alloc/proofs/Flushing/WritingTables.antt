@@ -1,7 +1,6 @@
 -- A modified table is written to its cluster: the file stays consistent, and what is cached stays safe.
-use Rattle.std.proofs.Common.{◌≡◌, ◌≢◌, ℕ, ◌+◌, ◌*◌, ◌/◌, ◌^◌, ◌<◌, ◌≤◌, refl, arith, ap, sym, subst, ◌∙◌, List, [], ◌∷◌, ◌++◌, length, true, false, inl, inr}
-use Rattle.std.specs.Prelude.{Some, nat_eq, slice_index, IsFalse}
-use Rattle.std.specs.List.{AllByRecursion, IsDistinct}
+use Rattle.std.proofs.Common.{◌≡◌, ◌≢◌, ℕ, ◌+◌, ◌*◌, ◌/◌, ◌^◌, ◌<◌, ◌≤◌, refl, arith, ap, sym, subst, ◌∙◌, List, length, true, false, inl, inr}
+use Rattle.std.specs.Prelude.{Some, slice_index, IsFalse}
 use Rattle.std.proofs.lemmas.Bool.{not-true}
 use Rattle.std.proofs.lemmas.Nat.{pow_pos}
 use Rattle.std.proofs.Math.Nat.{mul-div_left}
@@ -15,13 +14,13 @@ use Rattle.qcow2_types.specs.Slots.{Live, slot}
 use Rattle.qcow2_types.specs.TableBytes.{table_bytes}
 use Rattle.qcow2_types.specs.Consistency.{IsConsistent}
 use Rattle.qcow2_types.specs.Frames.{Same, Kept, table, touches}
-use Rattle.qcow2_types.specs.Versions.{named, NamedApart, SamePlaces, IsBetween}
+use Rattle.qcow2_types.specs.Versions.{named, SamePlaces, IsBetween}
 use Rattle.qcow2_types.proofs.Changes.Over.{table-over}
 use Rattle.qcow2_types.proofs.Changes.Frames.{word-same}
 use Rattle.qcow2_types.proofs.Counting.Parts.{words-fit}
 use Rattle.qcow2_types.proofs.Counting.Sound.{sound-words, stop-consistent}
 use Rattle.qcow2_types.proofs.Numbers.Splices.{splice-inside}
-use Rattle.qcow2_types.proofs.Changes.Stops.{write-between, write-counts, apart-falls}
+use Rattle.qcow2_types.proofs.Changes.Stops.{write-between, write-counts}
 use Rattle.qcow2_types.proofs.Counting.Either.{table-after-blocks, table-before-blocks, table-without-order, refs-between}
 use Rattle.qcow2_types.proofs.Changes.WriteBack.{once, kept, loads-still, shaped}
 use Rattle.qcow2_metadata.specs.Tables.{TableValue, IsTable, l2_words, words_in}
@@ -30,13 +29,13 @@ use Rattle.qcow2_alloc.specs.declared.async_lru_cache.Slot.{Slot}
 use Rattle.qcow2_alloc.specs.declared.cache.CacheDependency.{CacheDependency}
 use Rattle.qcow2_alloc.specs.declared.cache.CacheDependency.TheVariants.{Unset, L2DependsOnRb, RbDependsOnL2}
 use Rattle.qcow2_alloc.specs.Memory.{Cached, memory}
-use Rattle.qcow2_alloc.specs.Safety.{IsCachedTable, IsCachedBlock, IsOrdered, Safe, IsLeft, AreBlocksClean}
-use Rattle.qcow2_alloc.proofs.Memory.Patches.{all-append, all-front, all-back, all-weaker, all-both, others-before, others-behind, places-differ, table-long, place-there}
+use Rattle.qcow2_alloc.specs.Safety.{IsCachedTable, IsCachedBlock, IsOrdered, Safe, AreBlocksClean}
+use Rattle.qcow2_alloc.proofs.Memory.Patches.{places-differ, table-long, place-there}
 use Rattle.qcow2_metadata.proofs.WrittenBack.{read_back}
-use Rattle.qcow2_alloc.proofs.Caching.CachedEntries.{table-kind-laws, entry-fits, entry-settled, entry-shows}
-use Rattle.qcow2_alloc.proofs.Caching.Entering.{keys-with}
+use Rattle.qcow2_alloc.proofs.Caching.CachedEntries.{table-kind-laws, entry-fits, entry-shows}
+use Rattle.qcow2_alloc.proofs.Flushing.WritingEntries.{EntryWritten, entry-written, fills, shown}
 use Rattle.qcow2_alloc.proofs.Memory.EntryKinds.{table_kind, tables_with}
-use Rattle.qcow2_alloc.proofs.Memory.KeptEntries.{written-either, table-still, block-still}
+use Rattle.qcow2_alloc.proofs.Memory.KeptEntries.{table-still, block-still}
 use Rattle.qcow2_alloc.proofs.Memory.MemoryWords.{find-table, places-in-memory, slot-same, counts-same}
 
 table-number : (i k : ℕ) → table i ≡ table k → i ≡ k
@@ -119,10 +118,10 @@ module _ (f : Bytes) (H : Header) (front : List (ℕ × Slot TableValue)) (key :
   bytes = table_bytes here.value.words
 
   all : length bytes ≡ cluster_size H.fields
-  all = table-long f H safe.consistent here.value this.fits this.layout
+  all = fills table_kind table-kind-laws f H order blocks front key here back safe modified (l2_table f H.fields i) place
 
-  shown : (k : ℕ) → k < cluster_size H.fields → slice_index bytes k ≡ g (l2_table f H.fields i + k)
-  shown k less = subst (λ t. slice_index bytes k ≡ g (t + k)) (sym place) (sym (entry-shows table_kind table-kind-laws f H blocks front key here back order safe modified k (omega (arith, less, all))))
+  show : (k : ℕ) → k < cluster_size H.fields → slice_index bytes k ≡ g (l2_table f H.fields i + k)
+  show = shown table_kind table-kind-laws f H order blocks front key here back safe modified (l2_table f H.fields i) place
 
   places : SamePlaces f g H.fields
   places = places-in-memory f H safe.consistent (tables_with front key here back blocks) safe.tables safe.blocks
@@ -131,19 +130,19 @@ module _ (f : Bytes) (H : Header) (front : List (ℕ × Slot TableValue)) (key :
   x = splice f (l2_table f H.fields i) bytes
 
   fits : Shaped H.fields
-  fits = shaped f g H i bytes safe.consistent lt there all shown places
+  fits = shaped f g H i bytes safe.consistent lt there all show places
 
   alone : structure f H.fields (touches (l2_table f H.fields i) (length bytes)) ≤ 1
-  alone = once f g H i bytes safe.consistent lt there all shown places
+  alone = once f g H i bytes safe.consistent lt there all show places
 
   keeps : Kept f x H.fields (table i)
-  keeps = kept f g H i bytes safe.consistent lt there all shown places
+  keeps = kept f g H i bytes safe.consistent lt there all show places
 
   between : IsBetween f x g H.fields
-  between = write-between f g H.fields i bytes fits lt there all shown alone places
+  between = write-between f g H.fields i bytes fits lt there all show alone places
 
   counts : (c : ℕ) → count x H.fields c ≡ count f H.fields c
-  counts = write-counts f g H.fields i bytes fits lt there all shown alone places
+  counts = write-counts f g H.fields i bytes fits lt there all show alone places
 
   clean : order ≡ L2DependsOnRb → (c : ℕ) → count g H.fields c ≡ count f H.fields c
   clean announced = counts-same f H safe.consistent (tables_with front key here back blocks) safe.tables safe.blocks (ready announced)
@@ -165,13 +164,10 @@ module _ (f : Bytes) (H : Header) (front : List (ℕ × Slot TableValue)) (key :
       omega (arith, less, covers, counts c)
 
   consistent : IsConsistent x H
-  consistent = stop-consistent f x g H safe.consistent (loads-still f g H i bytes safe.consistent lt there all shown places)
+  consistent = stop-consistent f x g H safe.consistent (loads-still f g H i bytes safe.consistent lt there all show places)
       (record { l1 = λ k less. keeps.l1 k less (λ e. cc); blocks = λ k less. keeps.blocks k less (λ e. cc) }) between
       (memory-sound f H order (tables_with front key here back blocks) safe) safe.apart
       (counted-by order ordered safe.ordered)
-
-  left-there : IsLeft f g H x
-  left-there = record { consistent = consistent; words = between; bytes = written-either f g (l2_table f H.fields i) bytes (λ k inside. shown k (omega (arith, inside, all))) }
 
   -- cached tables at other places, and blocks, fit the file as before
   table-kept : (cluster : ℕ) (other : TableValue) → key ≢ cluster → IsCachedTable f H.fields cluster other → IsCachedTable x H.fields cluster other
@@ -183,11 +179,6 @@ module _ (f : Bytes) (H : Header) (front : List (ℕ × Slot TableValue)) (key :
   block-kept cluster block = block-still f x H.fields between.places cluster (λ k inside some at. keeps.counters k inside some (λ e. cc)) block
 
   module _ (settled : Slot TableValue) (words_same : settled.value.words ≡ here.value.words) (layout_same : settled.value.layout ≡ here.value.layout) (written : settled.value.modified ≡ false) (at_key : settled.value.cluster ≡ Some key) where
-    memory-same : memory x H.fields (tables_with front key settled back blocks) ≡ g
-    memory-same =
-        subst (λ t. memory (splice f t bytes) H.fields (tables_with front key settled back blocks) ≡ g) (sym place)
-        (entry-settled table_kind table-kind-laws f H blocks front key here back order safe modified settled written)
-
     settled-fits : IsTable l2_words settled.value
     settled-fits = record {
       low = subst (λ (l : Layout). 9 ≤ l.cluster_bits) (sym layout_same) this.fits.low;
@@ -214,32 +205,7 @@ module _ (f : Bytes) (H : Header) (front : List (ℕ × Slot TableValue)) (key :
             let bits : 2 ^ here.value.layout.cluster_bits ≡ cluster_size H.fields = ap (λ (l : Layout). 2 ^ l.cluster_bits) this.layout in
             sym (mul-div_left (length here.value.words) (omega arith)) ∙ ap (λ n. n / 8) (whole ∙ bits)
 
-    tables-kept : (es : List (ℕ × Slot TableValue)) → AllByRecursion (λ e. key ≢ e.0) es → AllByRecursion (λ e. IsCachedTable f H.fields e.0 e.1.value) es → AllByRecursion (λ e. IsCachedTable x H.fields e.0 e.1.value) es
-    tables-kept es apart are = all-weaker _ _ (λ e both. table-kept e.0 e.1.value both.0 both.1) es (all-both _ _ es apart are)
-
     -- What is cached stays safe.
-    safe-there : Safe x H (tables_with front key settled back blocks) order
-    safe-there = record {
-      consistent = consistent;
-      tables_apart = subst (λ (ks : List ℕ). IsDistinct nat_eq ks) (keys-with front key here settled back) safe.tables_apart;
-      blocks_apart = safe.blocks_apart;
-      tables = all-append _ front ((key, settled) ∷ back)
-          (tables-kept front (others-before key here front back safe.tables_apart) (all-front _ front ((key, here) ∷ back) safe.tables))
-          (settled-is, tables-kept back (others-behind key here front back safe.tables_apart) (all-back _ front ((key, here) ∷ back) safe.tables).1);
-      blocks = all-weaker _ _ (λ e is. block-kept e.0 e.1.value is) blocks safe.blocks;
-      apart = subst (λ (m : Bytes). NamedApart x m H.fields) (sym memory-same) (apart-falls f x g H.fields between safe.apart);
-      ordered = subst (λ (m : Bytes). IsOrdered order x m H.fields) (sym memory-same) ordered;
-      covered = subst (λ (m : Bytes). (c : ℕ) → refs m H.fields c ≤ count m H.fields c) (sym memory-same) safe.covered;
-    }
-
--- The table is at its cluster.
-module _ (f : Bytes) (H : Header) (front : List (ℕ × Slot TableValue)) (key : ℕ) (here : Slot TableValue) (back : List (ℕ × Slot TableValue)) (blocks : List (ℕ × Slot Block)) (order : CacheDependency)
-    (safe : Safe f H (tables_with front key here back blocks) order) (modified : here.value.modified ≡ true)
-    (ready : order ≡ L2DependsOnRb → AreBlocksClean (tables_with front key here back blocks)) where
-  pub table-left : IsLeft f (memory f H.fields (tables_with front key here back blocks)) H (splice f (key * cluster_size H.fields) (table_bytes here.value.words))
-  table-left = subst (λ t. IsLeft f (memory f H.fields (tables_with front key here back blocks)) H (splice f t (table_bytes here.value.words))) (place f H front key here back blocks order safe modified ready) (left-there f H front key here back blocks order safe modified ready)
-
-  pub table-safe : (settled : Slot TableValue) → settled.value.words ≡ here.value.words → settled.value.layout ≡ here.value.layout → settled.value.modified ≡ false → settled.value.cluster ≡ Some key
-      → Safe (splice f (key * cluster_size H.fields) (table_bytes here.value.words)) H (tables_with front key settled back blocks) order
-  table-safe settled words layout written at_key = subst (λ t. Safe (splice f t (table_bytes here.value.words)) H (tables_with front key settled back blocks) order) (place f H front key here back blocks order safe modified ready)
-      (safe-there f H front key here back blocks order safe modified ready settled words layout written at_key)
+    pub cached-table-written : EntryWritten f (splice f (key * cluster_size H.fields) (table_bytes here.value.words)) H order (tables_with front key here back blocks) (tables_with front key settled back blocks)
+    cached-table-written = entry-written table_kind table-kind-laws f H order blocks front key here back safe modified (l2_table f H.fields i) place
+        consistent between ordered table-kept block-kept settled written settled-is
