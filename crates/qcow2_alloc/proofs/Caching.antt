@@ -20,8 +20,7 @@ pub mod TableSide
 pub mod BlockSide
 pub mod Dropping
 pub mod Using
-pub mod UsingBlocks
-pub mod UsingTables
+pub mod UsingLent
 pub mod Loose
 pub mod Forgetting
 pub mod ForgettingRuns
