@@ -1,15 +1,16 @@
 -- A cached entry is flushed, of whatever kind.
-use Rattle.std.proofs.Common.{◌≡◌, ℕ, ◌+◌, ◌-◌, ◌*◌, ◌^◌, ◌<◌, arith, ap, sym, subst, ◌∙◌, List, inl, inr, true, false, length, Result, Ok, Err, refl}
+use Rattle.std.proofs.Common.{◌≡◌, ℕ, ◌+◌, ◌-◌, ◌*◌, ◌^◌, ◌<◌, arith, ap, sym, subst, ◌∙◌, List, ◌∷◌, ◌++◌, inl, inr, true, false, length, Result, Ok, Err, refl}
 use Rattle.std.specs.Prelude.{◌⊎◌, ⊤, IsTrue, slice_index}
 use Rattle.std.proofs.lemmas.Bool.{cases_Bool, cases_lt}
+use Rattle.std.proofs.lemmas.Nat.{pow_pos}
 use Rattle.std.proofs.Math.Path.{fun_ext}
 use Rattle.imago_storage.specs.State.{StorageState, InStep, Rose}
 use Rattle.imago_storage.specs.Calls.{Spliced}
 use Rattle.imago_storage.specs.Through.{PutAtOnce}
 use Rattle.imago_storage.specs.declared.fault.Fault.{Fault}
 use Rattle.imago_storage.proofs.Composing.{no_stops, one_stop, tells_on, keeps_on}
-use Rattle.qcow2_types.specs.Bytes.{bytes_of, splice}
-use Rattle.qcow2_types.specs.Header.{Header}
+use Rattle.qcow2_types.specs.Bytes.{Bytes, bytes_of, splice}
+use Rattle.qcow2_types.specs.Header.{Header, cluster_size}
 use Rattle.qcow2_types.specs.Words.{max_offset}
 use Rattle.qcow2_types.proofs.Numbers.Splices.{splice-inside, splice-outside}
 use Rattle.qcow2_metadata.specs.Places.{IsInReach}
@@ -19,8 +20,11 @@ use Rattle.qcow2_alloc.specs.Backends.{WrittenKind, Flushed}
 use Rattle.qcow2_alloc.specs.Going.{Going, IsMild, WasNotCutOff}
 use Rattle.qcow2_alloc.specs.Memory.{Cached, memory}
 use Rattle.qcow2_alloc.specs.Safety.{Safe, IsLeft, IsCalm, IsSettled}
+use Rattle.qcow2_alloc.proofs.Caching.CachedEntries.{EntryLaws, entry-fits}
 use Rattle.qcow2_alloc.proofs.Flushing.Faultless.{never-mild, put-faultless}
 use Rattle.qcow2_alloc.proofs.Flushing.Going.{going-none, going-weaker, settled-same}
+use Rattle.qcow2_alloc.proofs.Flushing.WritingEntries.{EntryWritten}
+use Rattle.qcow2_alloc.proofs.Memory.EntryKinds.{EntryKind}
 
 -- a splice of lists is one of files
 pub spliced-bytes : (old : List ℕ) (at : ℕ) (bytes new : List ℕ) → Spliced old at bytes new → bytes_of new ≡ splice (bytes_of old) at bytes
@@ -129,6 +133,47 @@ module _ {V : Type 0} (kind : WrittenKind V) (H : Header) (order : CacheDependen
       | inr reach ↦ whole-answer result value modified reach flushed
     ]
   ]
+
+-- The same of an L2 table or a refcount block, by what is known of its write.
+module _ {V W : Type 0} (kind : EntryKind V W) (laws : EntryLaws kind) (H : Header) (order : CacheDependency) (Ready : Cached → Type 0)
+    (rest : List (ℕ × Slot W)) (front : List (ℕ × Slot V)) (key : ℕ) (here : Slot V) (back : List (ℕ × Slot V)) (old new : StorageState) where
+  abbrev before : Cached
+  before = kind.put rest (front ++ (key, here) ∷ back)
+
+  abbrev cached_with : V → Cached
+  cached_with value = kind.put rest (front ++ (key, record here { value = value }) ∷ back)
+
+  abbrev Puts : Result Unit Fault → Type 0
+  Puts = kind.writes.Puts here.value (key * 2 ^ kind.writes.cluster_bits here.value) old new
+
+  module _ (ready : (slot : Slot V) → Ready before → Ready (kind.put rest (front ++ (key, slot) ∷ back)))
+      (noted : kind.writes.modified here.value ≡ true → kind.Fits (bytes_of old.bytes) H.fields key here.value → kind.writes.marked here.value key true ≡ here.value)
+      (bits : kind.Fits (bytes_of old.bytes) H.fields key here.value → 2 ^ kind.writes.cluster_bits here.value ≡ cluster_size H.fields)
+      (puts : (result : Result Unit Fault) → Puts result → PutAtOnce old new (key * 2 ^ kind.writes.cluster_bits here.value) (kind.bytes here.value) result)
+      (written : kind.writes.modified here.value ≡ true → Puts done_so → Safe (bytes_of old.bytes) H before order → Ready before
+      → EntryWritten (bytes_of old.bytes) (splice (bytes_of old.bytes) (key * cluster_size H.fields) (kind.bytes here.value)) H order before (cached_with (kind.writes.marked here.value key false))) where
+    fits : Safe (bytes_of old.bytes) H before order → kind.Fits (bytes_of old.bytes) H.fields key here.value
+    fits safe = entry-fits kind laws (bytes_of old.bytes) H rest front key here back order safe
+
+    some : kind.writes.modified here.value ≡ true → Safe (bytes_of old.bytes) H before order → 0 < length (kind.bytes here.value)
+    some modified safe =
+        let size : 0 < cluster_size H.fields = pow_pos H.fields.cluster_bits in
+        let long : length (kind.bytes here.value) ≡ cluster_size H.fields = (laws.is_patch (bytes_of old.bytes) H safe.consistent key here.value (fits safe) modified).long in
+        omega (arith, size, long)
+
+    there : kind.writes.modified here.value ≡ true → Puts done_so → IsTrue old.shape.keeps → Safe (bytes_of old.bytes) H before order → Ready before
+        → IsSettled H order old.bytes before new.bytes (cached_with (kind.writes.marked here.value key false))
+    there modified done keeps safe r =
+        let is : bytes_of new.bytes ≡ splice (bytes_of old.bytes) (key * cluster_size H.fields) (kind.bytes here.value) =
+        spliced-bytes old.bytes (key * 2 ^ kind.writes.cluster_bits here.value) (kind.bytes here.value) new.bytes ((puts done_so done).put.answer.content keeps)
+        ∙ ap (λ n. splice (bytes_of old.bytes) (key * n) (kind.bytes here.value)) (bits (fits safe)) in
+        let w = subst (λ (x : Bytes). EntryWritten (bytes_of old.bytes) x H order before (cached_with (kind.writes.marked here.value key false))) (sym is) (written modified done safe r) in
+        record { safe = w.safe; memory_same = w.memory_same; left = w.left }
+
+    pub kind-flushed : (result : Result Unit Fault) (value : V) → Flushed kind.writes old key here.value result new value
+        → Going H order Ready (WasNotCutOff result) old before new (cached_with value)
+    kind-flushed = entry-flushed kind.writes H order Ready (λ slot. kind.put rest (front ++ (key, slot) ∷ back)) key here old new ready
+        (λ modified safe. noted modified (fits safe)) (λ result put. (kind.bytes here.value, puts result put, some)) there
 
 -- One that is flushed isn't modified then.
 pub entry-clean : {V : Type 0} (kind : WrittenKind V) → ((v : V) (key : ℕ) → kind.modified (kind.marked v key false) ≡ false) → (key : ℕ) (v : V) (old new : StorageState) (v' : V) → Flushed kind old key v done_so new v' → kind.modified v' ≡ false
