@@ -34,23 +34,18 @@ fn allocate_and_write<S: Storage>(
 {
     let _words = table.entries();
     let count = table.cluster_count();
-    match space
+    let pending = space
         .allocator
-        .allocate_clusters(file, caches, &mut space.to_free, count, false)
-    {
-        Ok(pending) => {
-            let cluster = pending.cluster();
-            let _parts = pending.into_entry().into_parts();
-            table.set_cluster(cluster);
-            match table.write(alloc, &mut file.image) {
-                Ok(()) => Ok(cluster),
-                Err(fault) => {
-                    space.to_free.release();
-                    Err(fault)
-                }
-            }
+        .allocate_clusters(file, caches, &mut space.to_free, count, false)?;
+    let cluster = pending.cluster();
+    let _parts = pending.into_entry().into_parts();
+    table.set_cluster(cluster);
+    match table.write(alloc, &mut file.image) {
+        Ok(()) => Ok(cluster),
+        Err(fault) => {
+            space.to_free.release();
+            Err(fault)
         }
-        Err(fault) => Err(fault),
     }
 }
 
@@ -138,16 +133,9 @@ pub fn lengthen_l1<S: Storage>(
     requires room { HasEntries caches.old }
     ensures { LengthensL1 S.state l1.old index (lent file.old caches.old space.old) result l1.new (lent file.new caches.new space.new) }
 {
-    if let Err(fault) = place_l1(l1, &file.header) {
-        return Err(fault);
-    }
-    let mut grown = match l1.clone_and_grow(alloc, index, &file.header) {
-        Ok(grown) => grown,
-        Err(fault) => return Err(fault),
-    };
-    if let Err(fault) = store_l1(alloc, file, caches, space, &mut grown) {
-        return Err(fault);
-    }
+    place_l1(l1, &file.header)?;
+    let mut grown = l1.clone_and_grow(alloc, index, &file.header)?;
+    store_l1(alloc, file, caches, space, &mut grown)?;
     match name_l1(alloc, file, &grown, l1) {
         Ok(()) => {
             give_up_l1(&mut space.to_free, l1);

@@ -77,17 +77,9 @@ fn place_table<S: Storage>(
     ensures { PlacesTable S.state content.now l1.old index (lent file.old caches.old space.old) result l1.new
         (lent file.new caches.new space.new) }
 {
-    if let Err(fault) = place_l1(l1, &file.header) {
-        return Err(fault);
-    }
-    let mut table = match L2Table::new_cleared(alloc, &file.header) {
-        Ok(table) => table,
-        Err(fault) => return Err(fault),
-    };
-    let cluster = match store(alloc, file, caches, space, content) {
-        Ok(cluster) => cluster,
-        Err(fault) => return Err(fault),
-    };
+    place_l1(l1, &file.header)?;
+    let mut table = L2Table::new_cleared(alloc, &file.header)?;
+    let cluster = store(alloc, file, caches, space, content)?;
     table.set_cluster(cluster);
     match enter_table(alloc, file, l1, index, &table) {
         Ok(()) => Ok(cluster),
@@ -116,17 +108,10 @@ pub fn make_table<S: Storage>(
     requires bounds { index < length l1.old.words }
     ensures { MakesTable S.state l1.old index (lent file.old caches.old space.old) result l1.new (lent file.new caches.new space.new) }
 {
-    let content = match clear_content(alloc, &file.header) {
-        Ok(content) => content,
-        Err(fault) => return Err(fault),
-    };
-    match place_table(alloc, file, caches, space, l1, index, &content) {
-        Ok(cluster) => {
-            space.to_free.release();
-            Ok(cluster)
-        }
-        Err(fault) => Err(fault),
-    }
+    let content = clear_content(alloc, &file.header)?;
+    let cluster = place_table(alloc, file, caches, space, l1, index, &content)?;
+    space.to_free.release();
+    Ok(cluster)
 }
 
 // The cluster of the L2 table that the word at an index of the L1 table names, if it names one that there can be.
@@ -155,15 +140,10 @@ fn read_cluster<S: Storage>(
     ensures later { Later (S.state file.old.image) (S.state file.new.image) }
     ensures header { file.new.header ≡ file.old.header }
 {
-    let mut bytes = match clear_content(alloc, &file.header) {
-        Ok(bytes) => bytes,
-        Err(fault) => return Err(fault),
-    };
+    let mut bytes = clear_content(alloc, &file.header)?;
     let place = cluster.offset(file.header.cluster_bits());
-    match file.image.read(alloc, &mut bytes, place.0) {
-        Ok(()) => Ok(bytes),
-        Err(fault) => Err(fault),
-    }
+    file.image.read(alloc, &mut bytes, place.0)?;
+    Ok(bytes)
 }
 
 /// Copies the L2 table that the word at an index of the L1 table names, word for word, to a cluster that was free, and has the word name
@@ -186,16 +166,9 @@ pub fn copy_table<S: Storage>(
     let Some(old) = table_at(l1, index, &file.header) else {
         return Err(Fault::DamagedTable);
     };
-    let content = match read_cluster(alloc, file, old) {
-        Ok(content) => content,
-        Err(fault) => return Err(fault),
-    };
-    match place_table(alloc, file, caches, space, l1, index, &content) {
-        Ok(cluster) => {
-            let entry = ClustersToFreeEntry::metadata(old, ClusterCount(1));
-            space.to_free.give_back(PendingClusters::new(entry));
-            Ok(cluster)
-        }
-        Err(fault) => Err(fault),
-    }
+    let content = read_cluster(alloc, file, old)?;
+    let cluster = place_table(alloc, file, caches, space, l1, index, &content)?;
+    let entry = ClustersToFreeEntry::metadata(old, ClusterCount(1));
+    space.to_free.give_back(PendingClusters::new(entry));
+    Ok(cluster)
 }

@@ -40,8 +40,6 @@ pub(crate) fn settle<S: Storage, T: Drop>(
     }
     let flushed = caches.flush_all(file);
     drop_cached(caches);
-    match flushed {
-        Ok(()) => given,
-        Err(fault) => Err(fault),
-    }
+    flushed?;
+    given
 }

@@ -47,22 +47,17 @@ fn allocate_and_write<S: Storage>(
     ensures { StoresRunUnsettled S.state count content.now (lent file.old caches.old space.old)
         result (lent file.new caches.new space.new) }
 {
-    match space
+    let pending = space
         .allocator
-        .allocate_clusters(file, caches, &mut space.to_free, count, false)
-    {
-        Ok(pending) => {
-            let cluster = pending.cluster();
-            let _parts = pending.into_entry().into_parts();
-            match write_cluster(alloc, file, cluster, content) {
-                Ok(()) => Ok(cluster),
-                Err(fault) => {
-                    space.to_free.release();
-                    Err(fault)
-                }
-            }
+        .allocate_clusters(file, caches, &mut space.to_free, count, false)?;
+    let cluster = pending.cluster();
+    let _parts = pending.into_entry().into_parts();
+    match write_cluster(alloc, file, cluster, content) {
+        Ok(()) => Ok(cluster),
+        Err(fault) => {
+            space.to_free.release();
+            Err(fault)
         }
-        Err(fault) => Err(fault),
     }
 }
 

@@ -12,13 +12,14 @@ use Rattle.qcow2_clusters.proofs.AllocatingRuns.{run-bits, run-refused}
 use Rattle.qcow2_clusters.proofs.LengtheningL1.{some-taken, words-fit}
 use Rattle.qcow2_clusters.proofs.Settled.{done_so, refused_so}
 use Rattle.qcow2_clusters.proofs.StoringRuns.{stored-refused, stored-unsettled}
+use Rattle.qcow2_alloc.proofs.Faults.{handed-on}
 use Rattle.qcow2_clusters.proofs.lengthening.allocate_and_write.Goals as goal
 
 abbrev room_for : List FreeEntry → ℕ → FreeList
 room_for entries held = record { entries = entries; held = held }
 
-pub returns-in-Ok-write-clause-stores : goal.returns-in-Ok-write-clause-stores
-returns-in-Ok-write-clause-stores g c =
+pub returns-in-Ok-clause-stores : goal.returns-in-Ok-clause-stores
+returns-in-Ok-clause-stores g c =
     let state = g.S.Storage.state in
     let old = lent c.args.file.now c.args.caches.now c.args.space.now in
     let h = c.args.file.now.header.fields in
@@ -28,47 +29,55 @@ returns-in-Ok-write-clause-stores g c =
     let n = c.cluster_count-count.result in
     let after = record new.file { image = c.write.new.image } in
     let taken : n ≡ clusters_for h (length ws) = c.cluster_count-count.ensures ∙ ap (λ b. (8 * length ws + (2 ^ b - 1)) / 2 ^ b) c.requires.bits in
-    let bits = run-bits state old c.requires.rest c.requires.room n mid (Ok c.in-Ok.pending) c.in-Ok.ensures.allocates in
-    let at : c.cluster-cluster.result * 2 ^ c.args.table.now.layout.cluster_bits ≡ c.in-Ok.pending.first * cluster_size new.file.header.fields =
-    ap (λ k. k * 2 ^ c.args.table.now.layout.cluster_bits) c.cluster-cluster.ensures ∙ ap (λ b. c.in-Ok.pending.first * 2 ^ b) (c.requires.bits ∙ sym bits) in
+    let bits = run-bits state old c.requires.rest c.requires.room n mid (Ok c.in_ok-pending.pending) c.in_ok-pending.ensures.allocates in
+    let at : c.cluster-cluster.result * 2 ^ c.args.table.now.layout.cluster_bits ≡ c.in_ok-pending.pending.first * cluster_size
+    new.file.header.fields =
+    ap (λ k. k * 2 ^ c.args.table.now.layout.cluster_bits) c.cluster-cluster.ensures ∙ ap (λ b. c.in_ok-pending.pending.first * 2 ^ b)
+    (c.requires.bits ∙ sym bits) in
     let put = subst (λ p. Put (state new.file.image) (state after.image) p (table_bytes ws) done_so) at
-    (subst (λ (t : TableValue). Put (state new.file.image) (state after.image) (table_place t) (table_bytes t.words) done_so) c.set_cluster.ensures c.in-Ok-write.ensures.request) in
+    (subst (λ (t : TableValue). Put (state new.file.image) (state after.image) (table_place t) (table_bytes t.words) done_so)
+    c.set_cluster.ensures c.in-Ok.ensures.request) in
     let some : 0 < n = (let more = some-taken h (length ws) c.requires.some in omega (arith, more, taken)) in
     let long : length (table_bytes ws) ≤ n * cluster_size h = subst (λ k. length (table_bytes ws) ≤ k * cluster_size h) (sym taken) (words-fit h ws) in
-    let stores = stored-unsettled state old c.requires.rest c.requires.room n mid c.in-Ok.pending c.in-Ok.ensures.allocates some
-    (table_bytes ws) long after refl put c.in-Ok.ensures.held in
+    let stores = stored-unsettled state old c.requires.rest c.requires.room n mid c.in_ok-pending.pending c.in_ok-pending.ensures.allocates
+    some
+    (table_bytes ws) long after refl put c.in_ok-pending.ensures.held in
     subst (λ k. StoresRunUnsettled state k (table_bytes ws) old (Ok c.cluster-cluster.result) (lent after new.caches (record { allocator = new.self; to_free = new.list }))) taken
     (subst (λ k. StoresRunUnsettled state n (table_bytes ws) old (Ok k) (lent after new.caches (record { allocator = new.self; to_free = new.list }))) (sym c.cluster-cluster.ensures) stores)
-
-pub returns-in-Err-write-clause-stores : goal.returns-in-Err-write-clause-stores
-returns-in-Err-write-clause-stores g c =
-    let state = g.S.Storage.state in
-    let old = lent c.args.file.now c.args.caches.now c.args.space.now in
-    let h = c.args.file.now.header.fields in
-    let ws = c.args.table.now.words in
-    let new = c.allocate_clusters.new in
-    let mid = lent new.file new.caches (record { allocator = new.self; to_free = new.list }) in
-    let n = c.cluster_count-count.result in
-    let after = record new.file { image = c.write.new.image } in
-    let fault = c.in-Err-write.fault in
-    let taken : n ≡ clusters_for h (length ws) = c.cluster_count-count.ensures ∙ ap (λ b. (8 * length ws + (2 ^ b - 1)) / 2 ^ b) c.requires.bits in
-    let bits = run-bits state old c.requires.rest c.requires.room n mid (Ok c.in-Ok.pending) c.in-Ok.ensures.allocates in
-    let at : c.cluster-cluster.result * 2 ^ c.args.table.now.layout.cluster_bits ≡ c.in-Ok.pending.first * cluster_size new.file.header.fields =
-    ap (λ k. k * 2 ^ c.args.table.now.layout.cluster_bits) c.cluster-cluster.ensures ∙ ap (λ b. c.in-Ok.pending.first * 2 ^ b) (c.requires.bits ∙ sym bits) in
-    let put = subst (λ p. Put (state new.file.image) (state after.image) p (table_bytes ws) (refused_so fault)) at
-    (subst (λ (t : TableValue). Put (state new.file.image) (state after.image) (table_place t) (table_bytes t.words) (refused_so fault)) c.set_cluster.ensures c.in-Err-write.ensures.request) in
-    let some : 0 < n = (let more = some-taken h (length ws) c.requires.some in omega (arith, more, taken)) in
-    let long : length (table_bytes ws) ≤ n * cluster_size h = subst (λ k. length (table_bytes ws) ≤ k * cluster_size h) (sym taken) (words-fit h ws) in
-    let held : new.list.held - 1 ≡ c.args.space.now.to_free.held = (let more = c.in-Ok.ensures.held in omega (arith, more)) in
-    let left : c.release.new.self ≡ room_for new.list.entries c.args.space.now.to_free.held = c.release.ensures ∙ ap (λ (k : ℕ). room_for new.list.entries k) held in
-    let stores = stored-refused state old c.requires.rest c.requires.room n mid c.in-Ok.pending c.in-Ok.ensures.allocates some
-    (table_bytes ws) long after refl fault put in
-    subst (λ k. StoresRunUnsettled state k (table_bytes ws) old (Err fault) (lent after new.caches (record { allocator = new.self; to_free = c.release.new.self }))) taken
-    (subst (λ (l : FreeList). StoresRunUnsettled state n (table_bytes ws) old (Err fault) (lent after new.caches (record { allocator = new.self; to_free = l }))) (sym left) stores)
 
 pub returns-in-Err-clause-stores : goal.returns-in-Err-clause-stores
 returns-in-Err-clause-stores g c =
     let state = g.S.Storage.state in
+    let old = lent c.args.file.now c.args.caches.now c.args.space.now in
+    let h = c.args.file.now.header.fields in
+    let ws = c.args.table.now.words in
+    let new = c.allocate_clusters.new in
+    let mid = lent new.file new.caches (record { allocator = new.self; to_free = new.list }) in
+    let n = c.cluster_count-count.result in
+    let after = record new.file { image = c.write.new.image } in
+    let fault = c.in-Err.fault in
+    let taken : n ≡ clusters_for h (length ws) = c.cluster_count-count.ensures ∙ ap (λ b. (8 * length ws + (2 ^ b - 1)) / 2 ^ b) c.requires.bits in
+    let bits = run-bits state old c.requires.rest c.requires.room n mid (Ok c.in_ok-pending.pending) c.in_ok-pending.ensures.allocates in
+    let at : c.cluster-cluster.result * 2 ^ c.args.table.now.layout.cluster_bits ≡ c.in_ok-pending.pending.first * cluster_size
+    new.file.header.fields =
+    ap (λ k. k * 2 ^ c.args.table.now.layout.cluster_bits) c.cluster-cluster.ensures ∙ ap (λ b. c.in_ok-pending.pending.first * 2 ^ b)
+    (c.requires.bits ∙ sym bits) in
+    let put = subst (λ p. Put (state new.file.image) (state after.image) p (table_bytes ws) (refused_so fault)) at
+    (subst (λ (t : TableValue). Put (state new.file.image) (state after.image) (table_place t) (table_bytes t.words) (refused_so fault))
+    c.set_cluster.ensures c.in-Err.ensures.request) in
+    let some : 0 < n = (let more = some-taken h (length ws) c.requires.some in omega (arith, more, taken)) in
+    let long : length (table_bytes ws) ≤ n * cluster_size h = subst (λ k. length (table_bytes ws) ≤ k * cluster_size h) (sym taken) (words-fit h ws) in
+    let held : new.list.held - 1 ≡ c.args.space.now.to_free.held = (let more = c.in_ok-pending.ensures.held in omega (arith, more)) in
+    let left : c.release.new.self ≡ room_for new.list.entries c.args.space.now.to_free.held = c.release.ensures ∙ ap (λ (k : ℕ). room_for new.list.entries k) held in
+    let stores = stored-refused state old c.requires.rest c.requires.room n mid c.in_ok-pending.pending c.in_ok-pending.ensures.allocates
+    some
+    (table_bytes ws) long after refl fault put in
+    subst (λ k. StoresRunUnsettled state k (table_bytes ws) old (Err fault) (lent after new.caches (record { allocator = new.self; to_free = c.release.new.self }))) taken
+    (subst (λ (l : FreeList). StoresRunUnsettled state n (table_bytes ws) old (Err fault) (lent after new.caches (record { allocator = new.self; to_free = l }))) (sym left) stores)
+
+pub returns-in_err-pending-clause-stores : goal.returns-in_err-pending-clause-stores
+returns-in_err-pending-clause-stores g c = rw (handed-on _ _ c.from_residual.ensures.1) (
+    let state = g.S.Storage.state in
     let h = c.args.file.now.header.fields in
     let ws = c.args.table.now.words in
     let old = lent c.args.file.now c.args.caches.now c.args.space.now in
@@ -76,6 +85,6 @@ returns-in-Err-clause-stores g c =
     let mid = lent new.file new.caches (record { allocator = new.self; to_free = new.list }) in
     let n = c.cluster_count-count.result in
     let taken : n ≡ clusters_for h (length ws) = c.cluster_count-count.ensures ∙ ap (λ b. (8 * length ws + (2 ^ b - 1)) / 2 ^ b) c.requires.bits in
-    subst (λ k. StoresRunUnsettled state k (table_bytes ws) old (Err c.in-Err.fault) mid) taken
-    (run-refused state old c.requires.rest c.requires.room n mid c.in-Err.fault c.in-Err.ensures.allocates
-    (table_bytes ws) c.in-Err.ensures.held)
+    subst (λ k. StoresRunUnsettled state k (table_bytes ws) old (Err c.in_err-pending.field-0.0) mid) taken
+    (run-refused state old c.requires.rest c.requires.room n mid c.in_err-pending.field-0.0 c.in_err-pending.ensures.allocates
+    (table_bytes ws) c.in_err-pending.ensures.held))

@@ -6,56 +6,73 @@ use Rattle.qcow2_alloc.specs.FreeList.{FreeList}
 use Rattle.qcow2_clusters.specs.Lengthening.{IsTooLong, IsTop, LengthensL1, clusters_for}
 use Rattle.qcow2_clusters.specs.Rest.{IsReady, lent}
 use Rattle.qcow2_clusters.proofs.LengtheningL1.{clusters-taken, grow-refused, l1-named, l1-not-begun, l1-not-named, l1-not-placed, l1-not-stored}
+use Rattle.qcow2_alloc.proofs.Faults.{handed-on}
 use Rattle.qcow2_clusters.proofs.lengthening.lengthen_l1.Goals as goal
 
-pub returns-in-Err : goal.returns-in-Err
-returns-in-Err g c =
-    l1-not-placed g.S.Storage.state c.args.l1.now c.args.index (lent c.args.file.now c.args.caches.now c.args.space.now) c.in-Err.fault c.place_l1.new.l1 c.requires.rest c.in-Err.ensures
+pub returns-in_err-place_l1 : goal.returns-in_err-place_l1
+returns-in_err-place_l1 g c = rw (handed-on _ _ c.from_residual.ensures.1) (
+    l1-not-placed g.S.Storage.state c.args.l1.now c.args.index (lent c.args.file.now c.args.caches.now c.args.space.now)
+    c.in_err-place_l1.field-0.0 c.place_l1.new.l1 c.requires.rest c.in_err-place_l1.ensures)
 
-pub returns-in-Err-clone_and_grow : goal.returns-in-Err-clone_and_grow
-returns-in-Err-clone_and_grow g c =
-    l1-not-begun g.S.Storage.state c.args.l1.now c.args.index (lent c.args.file.now c.args.caches.now c.args.space.now) c.in-Err-clone_and_grow.fault c.place_l1.new.l1 c.requires.rest
-    c.place_l1.ensures.same (λ ready asked long. let e = c.in-Err-clone_and_grow.ensures.limit (omega (arith, long)) in cc e) (grow-refused (IsReady g.S.Storage.state (lent c.args.file.now c.args.caches.now c.args.space.now) × IsTop g.S.Storage.state c.args.l1.now (lent c.args.file.now c.args.caches.now c.args.space.now))
-    (IsTooLong g.S.Storage.state c.args.l1.now c.args.index (lent c.args.file.now c.args.caches.now c.args.space.now) (lent c.args.file.now c.args.caches.now c.args.space.now)) c.args.index (min (c.args.index + 1) (2 ^ 64 - 1)) (g.S.Storage.state c.args.file.now.image).faults c.in-Err-clone_and_grow.fault
-    (λ far. c.in-Err-clone_and_grow.ensures.limit (omega (arith, far))) (λ near. c.in-Err-clone_and_grow.ensures.few (omega (arith, near))) (λ far. inl (far, refl)))
+pub returns-in_err-grown : goal.returns-in_err-grown
+returns-in_err-grown g c = rw (handed-on _ _ c.from_residual-in_err-grown.ensures.1) (
+    l1-not-begun g.S.Storage.state c.args.l1.now c.args.index (lent c.args.file.now c.args.caches.now c.args.space.now)
+    c.in_err-grown.field-0.0 c.place_l1.new.l1 c.requires.rest
+    c.place_l1.ensures.same (λ ready asked long. let e = c.in_err-grown.ensures.limit (omega (arith, long)) in cc e)
+    (grow-refused (IsReady g.S.Storage.state (lent c.args.file.now c.args.caches.now c.args.space.now) × IsTop g.S.Storage.state
+    c.args.l1.now (lent c.args.file.now c.args.caches.now c.args.space.now))
+    (IsTooLong g.S.Storage.state c.args.l1.now c.args.index (lent c.args.file.now c.args.caches.now c.args.space.now)
+    (lent c.args.file.now c.args.caches.now c.args.space.now)) c.args.index (min (c.args.index + 1) (2 ^ 64 - 1))
+    (g.S.Storage.state c.args.file.now.image).faults c.in_err-grown.field-0.0
+    (λ far. c.in_err-grown.ensures.limit (omega (arith, far))) (λ near. c.in_err-grown.ensures.few (omega (arith, near)))
+    (λ far. inl (far, refl))))
 
-pub returns-in-Err-store_l1 : goal.returns-in-Err-store_l1
-returns-in-Err-store_l1 g c =
+pub returns-in_err-store_l1 : goal.returns-in_err-store_l1
+returns-in_err-store_l1 g c = rw (handed-on _ _ c.from_residual-in_err-store_l1.ensures.1) (
     let new = c.store_l1.new in
-    let ws = c.in-Ok.grown.words in
+    let ws = c.in_ok-grown.grown.words in
     l1-not-stored g.S.Storage.state c.args.l1.now c.args.index (lent c.args.file.now c.args.caches.now c.args.space.now) (clusters_for c.args.file.now.header.fields (length ws)) (table_bytes ws)
-    c.in-Err-store_l1.fault c.place_l1.new.l1 (lent new.file new.caches new.space) c.place_l1.ensures.same (λ long. let e = c.in-Ok.ensures.limit (omega (arith, long)) in absurd (cc e))
-    (clusters-taken c.args.file.now.header.fields c.args.l1.now c.place_l1.new.l1 c.in-Ok.grown c.args.index c.place_l1.ensures.same.words c.in-Ok.ensures.ok) c.in-Err-store_l1.ensures.stores
+    c.in_err-store_l1.field-0.0 c.place_l1.new.l1 (lent new.file new.caches new.space) c.place_l1.ensures.same
+    (λ long. let e = c.in_ok-grown.ensures.limit (omega (arith, long)) in absurd (cc e))
+    (clusters-taken c.args.file.now.header.fields c.args.l1.now c.place_l1.new.l1 c.in_ok-grown.grown c.args.index
+    c.place_l1.ensures.same.words c.in_ok-grown.ensures.ok) c.in_err-store_l1.ensures.stores)
 
 abbrev room_for : List FreeEntry → ℕ → FreeList
 room_for entries held = record { entries = entries; held = held }
 
-pub returns-in-Ok-name_l1 : goal.returns-in-Ok-name_l1
-returns-in-Ok-name_l1 g c =
+pub returns-in-Ok : goal.returns-in-Ok
+returns-in-Ok g c =
     let state = g.S.Storage.state in
     let old = lent c.args.file.now c.args.caches.now c.args.space.now in
     let new = c.store_l1.new in
     let c1 = lent new.file new.caches new.space in
     let file = c.name_l1.new.file in
-    let grown = c.in-Ok.grown in
+    let grown = c.in_ok-grown.grown in
     let left : c.give_up_l1.new.to_free ≡ _ = c.give_up_l1.ensures in
     subst (λ (l : FreeList). LengthensL1 state c.args.l1.now c.args.index old (Ok tt) new.table (lent file new.caches (record { allocator = new.space.allocator; to_free = l }))) (sym left)
-    (l1-named state c.args.l1.now c.place_l1.new.l1 grown c.args.index old c.in_default-store_l1.field-0 c1 c.in_default.ensures c.in-Ok.ensures.ok c.in_default-store_l1.ensures.stores
-    new.table c.in_default-store_l1.ensures.stands c.store_l1.ensures.fit (Ok tt) file c.in-Ok-name_l1.ensures (λ long. let e = c.in-Ok.ensures.limit (omega (arith, long)) in absurd (cc e)) refl c.in-Ok-name_l1.ensures.ok (new.space.to_free.held - 1)
-    (let more = c.in_default-store_l1.ensures.stores.held in omega (arith, more)))
+    (l1-named state c.args.l1.now c.place_l1.new.l1 grown c.args.index old c.in_ok-store_l1.field-0 c1 c.in_ok-place_l1.ensures
+    c.in_ok-grown.ensures.ok c.in_ok-store_l1.ensures.stores
+    new.table c.in_ok-store_l1.ensures.stands c.store_l1.ensures.fit (Ok tt) file c.in-Ok.ensures
+    (λ long. let e = c.in_ok-grown.ensures.limit (omega (arith, long)) in absurd (cc e)) refl c.in-Ok.ensures.ok
+    (new.space.to_free.held - 1)
+    (let more = c.in_ok-store_l1.ensures.stores.held in omega (arith, more)))
 
-pub returns-in-Err-name_l1 : goal.returns-in-Err-name_l1
-returns-in-Err-name_l1 g c =
+pub returns-in-Err : goal.returns-in-Err
+returns-in-Err g c =
     let state = g.S.Storage.state in
     let old = lent c.args.file.now c.args.caches.now c.args.space.now in
     let new = c.store_l1.new in
     let c1 = lent new.file new.caches new.space in
     let file = c.name_l1.new.file in
-    let grown = c.in-Ok.grown in
-    let fault = c.in-Err-name_l1.fault in
-    let held : new.space.to_free.held - 1 ≡ c.args.space.now.to_free.held = (let more = c.in_default-store_l1.ensures.stores.held in omega (arith, more)) in
+    let grown = c.in_ok-grown.grown in
+    let fault = c.in-Err.fault in
+    let held : new.space.to_free.held - 1 ≡ c.args.space.now.to_free.held =
+    (let more = c.in_ok-store_l1.ensures.stores.held in omega (arith, more)) in
     let left : c.release.new.self ≡ room_for new.space.to_free.entries c.args.space.now.to_free.held = c.release.ensures ∙ ap (λ (k : ℕ). room_for new.space.to_free.entries k) held in
     subst (λ (l : FreeList). LengthensL1 state c.args.l1.now c.args.index old (Err fault) c.place_l1.new.l1 (lent file new.caches (record { allocator = new.space.allocator; to_free = l }))) (sym left)
-    (l1-not-named state c.args.l1.now c.place_l1.new.l1 grown c.args.index old c.in_default-store_l1.field-0 c1 c.in_default.ensures c.in-Ok.ensures.ok c.in_default-store_l1.ensures.stores
-    new.table c.in_default-store_l1.ensures.stands c.store_l1.ensures.fit (Err fault) file c.in-Err-name_l1.ensures (λ long. let e = c.in-Ok.ensures.limit (omega (arith, long)) in absurd (cc e)) fault refl
-    (record { allocator = new.space.allocator; to_free = room_for new.space.to_free.entries c.args.space.now.to_free.held }) refl c.in-Err-name_l1.ensures.err)
+    (l1-not-named state c.args.l1.now c.place_l1.new.l1 grown c.args.index old c.in_ok-store_l1.field-0 c1 c.in_ok-place_l1.ensures
+    c.in_ok-grown.ensures.ok c.in_ok-store_l1.ensures.stores
+    new.table c.in_ok-store_l1.ensures.stands c.store_l1.ensures.fit (Err fault) file c.in-Err.ensures
+    (λ long. let e = c.in_ok-grown.ensures.limit (omega (arith, long)) in absurd (cc e)) fault refl
+    (record { allocator = new.space.allocator; to_free = room_for new.space.to_free.entries c.args.space.now.to_free.held }) refl
+    c.in-Err.ensures.err)

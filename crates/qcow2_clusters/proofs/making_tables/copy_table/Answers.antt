@@ -6,6 +6,7 @@ use Rattle.qcow2_alloc.specs.FreeList.{FreeList}
 use Rattle.qcow2_clusters.specs.MakingTables.{CopiesTable, FindsTable, IsClusterOf}
 use Rattle.qcow2_clusters.specs.Rest.{lent}
 use Rattle.qcow2_clusters.proofs.CopyingTables.{content-behind, copied-so, found-behind, none-found, not-copied, not-found, not-read, read-before}
+use Rattle.qcow2_alloc.proofs.Faults.{handed-on}
 use Rattle.qcow2_clusters.proofs.making_tables.copy_table.Goals as goal
 
 pub returns-in_default : goal.returns-in_default
@@ -14,33 +15,34 @@ returns-in_default g c =
     (subst (FindsTable c.args.file.now.header.fields.cluster_bits (slice_index c.args.l1.now.words c.args.index))
     (none-found c.table_at.result c.in_default.not-Some) c.table_at.ensures)
 
-pub returns-in-Err : goal.returns-in-Err
-returns-in-Err g c =
+pub returns-in_err-content : goal.returns-in_err-content
+returns-in_err-content g c = rw (handed-on _ _ c.from_residual.ensures.1) (
     let read = c.read_cluster.ensures in
-    not-read g.S.Storage.state c.args.l1.now c.args.index (lent c.args.file.now c.args.caches.now c.args.space.now) c.in-Err.fault
+    not-read g.S.Storage.state c.args.l1.now c.args.index (lent c.args.file.now c.args.caches.now c.args.space.now)
+    c.in_err-content.field-0.0
     (lent c.read_cluster.new.file c.args.caches.now c.args.space.now) c.requires.rest
-    record { kept = read.kept; later = read.later; header = read.header; caches = refl } refl c.in-Err.ensures.faults
+    record { kept = read.kept; later = read.later; header = read.header; caches = refl } refl c.in_err-content.ensures.faults)
 
 -- the list with an entry in the room that was held for it
 abbrev given_back : FreeList → FreeEntry → FreeList
 given_back list entry = record { entries = list.entries ++ entry ∷ []; held = list.held - 1 }
 
-pub returns-in-Ok-place_table : goal.returns-in-Ok-place_table
-returns-in-Ok-place_table g c =
+pub returns : goal.returns
+returns g c =
     let state = g.S.Storage.state in
     let old = lent c.args.file.now c.args.caches.now c.args.space.now in
     let read = c.read_cluster.ensures in
     let file = c.read_cluster.new.file in
-    let image = kept_same (state c.args.file.now.image) (state file.image) read.kept c.in-Ok.ensures.faults in
+    let image = kept_same (state c.args.file.now.image) (state file.image) read.kept c.in_ok-content.ensures.faults in
     let mid = lent file c.args.caches.now c.args.space.now in
     let new = c.place_table.new in
     let l1 = c.args.l1.now in
-    let t = c.in-Ok-place_table.cluster in
-    let places = c.in-Ok-place_table.ensures in
+    let t = c.in_ok-cluster.cluster in
+    let places = c.in_ok-cluster.ensures in
     let finds = found-behind state old file image read.header l1 c.args.index c.in-Some.old c.in-Some.ensures in
     let is = content-behind state old file image read.header l1 c.args.index c.in-Some.old c.deref.result.now
     (subst (IsClusterOf (state c.args.file.now.image).bytes c.args.file.now.header.fields c.in-Some.old) (sym c.deref.ensures.value)
-    c.in-Ok.ensures.ok) in
+    c.in_ok-content.ensures.ok) in
     let more = places.held in
     subst (λ (r : FreeList). CopiesTable state l1 c.args.index old (Ok t) new.l1
     (lent new.file new.caches (record { allocator = new.space.allocator; to_free = r })))
@@ -49,20 +51,20 @@ returns-in-Ok-place_table g c =
     (copied-so state l1 c.args.index mid c.in-Some.old c.deref.result.now finds is t new.l1 (lent new.file new.caches new.space) places
     (new.space.to_free.held - 1) (omega (arith, more))))
 
-pub returns : goal.returns
-returns g c =
+pub returns-in_err-cluster : goal.returns-in_err-cluster
+returns-in_err-cluster g c = rw (handed-on _ _ c.from_residual-in_err-cluster.ensures.1) (
     let state = g.S.Storage.state in
     let old = lent c.args.file.now c.args.caches.now c.args.space.now in
     let read = c.read_cluster.ensures in
     let file = c.read_cluster.new.file in
-    let image = kept_same (state c.args.file.now.image) (state file.image) read.kept c.in-Ok.ensures.faults in
+    let image = kept_same (state c.args.file.now.image) (state file.image) read.kept c.in_ok-content.ensures.faults in
     let new = c.place_table.new in
     let l1 = c.args.l1.now in
     let finds = found-behind state old file image read.header l1 c.args.index c.in-Some.old c.in-Some.ensures in
     let is = content-behind state old file image read.header l1 c.args.index c.in-Some.old c.deref.result.now
     (subst (IsClusterOf (state c.args.file.now.image).bytes c.args.file.now.header.fields c.in-Some.old) (sym c.deref.ensures.value)
-    c.in-Ok.ensures.ok) in
-    let fault = c.in-Err-place_table.fault in
+    c.in_ok-content.ensures.ok) in
+    let fault = c.in_err-cluster.field-0.0 in
     read-before state old file image read.header l1 c.args.index (Err fault) new.l1 (lent new.file new.caches new.space)
     (not-copied state l1 c.args.index (lent file c.args.caches.now c.args.space.now) c.in-Some.old c.deref.result.now finds is fault new.l1
-    (lent new.file new.caches new.space) c.in-Err-place_table.ensures)
+    (lent new.file new.caches new.space) c.in_err-cluster.ensures))

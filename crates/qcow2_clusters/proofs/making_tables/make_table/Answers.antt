@@ -6,34 +6,35 @@ use Rattle.qcow2_alloc.specs.FreeList.{FreeList}
 use Rattle.qcow2_clusters.specs.MakingTables.{MakesTable, PlacesTable}
 use Rattle.qcow2_clusters.specs.Rest.{lent}
 use Rattle.qcow2_clusters.proofs.CopyingTables.{made, not-filled, not-made}
+use Rattle.qcow2_alloc.proofs.Faults.{handed-on}
 use Rattle.qcow2_clusters.proofs.making_tables.make_table.Goals as goal
 
-pub returns-in-Err : goal.returns-in-Err
-returns-in-Err g c =
+pub returns-in_err-content : goal.returns-in_err-content
+returns-in_err-content g c = rw (handed-on _ _ c.from_residual.ensures.1) (
     let old = lent c.args.file.now c.args.caches.now c.args.space.now in
     subst (λ (fault : Fault). MakesTable g.S.Storage.state c.args.l1.now c.args.index old (Err fault) c.args.l1.now old)
-    (sym c.in-Err.ensures.err) (not-filled g.S.Storage.state c.args.l1.now c.args.index old c.requires.rest)
-
-pub returns-in-Ok-place_table : goal.returns-in-Ok-place_table
-returns-in-Ok-place_table g c =
-    let state = g.S.Storage.state in
-    let old = lent c.args.file.now c.args.caches.now c.args.space.now in
-    let new = c.place_table.new in
-    let places : PlacesTable state (replicate (cluster_size c.args.file.now.header.fields) 0) c.args.l1.now c.args.index old
-    (Ok c.in-Ok-place_table.cluster) new.l1 (lent new.file new.caches new.space) =
-    subst (λ (l : List ℕ). PlacesTable state l c.args.l1.now c.args.index old (Ok c.in-Ok-place_table.cluster) new.l1
-    (lent new.file new.caches new.space)) (c.deref.ensures.value ∙ c.in-Ok.ensures.ok) c.in-Ok-place_table.ensures in
-    let more = places.held in
-    subst (λ (l : FreeList). MakesTable state c.args.l1.now c.args.index old (Ok c.in-Ok-place_table.cluster) new.l1
-    (lent new.file new.caches (record { allocator = new.space.allocator; to_free = l }))) (sym c.release.ensures)
-    (made state c.args.l1.now c.args.index old c.in-Ok-place_table.cluster new.l1 (lent new.file new.caches new.space)
-    (new.space.to_free.held - 1) (omega (arith, more)) places)
+    (sym c.in_err-content.ensures.err) (not-filled g.S.Storage.state c.args.l1.now c.args.index old c.requires.rest))
 
 pub returns : goal.returns
 returns g c =
     let state = g.S.Storage.state in
     let old = lent c.args.file.now c.args.caches.now c.args.space.now in
     let new = c.place_table.new in
-    not-made state c.args.l1.now c.args.index old c.in-Err-place_table.fault new.l1 (lent new.file new.caches new.space)
-    (subst (λ (l : List ℕ). PlacesTable state l c.args.l1.now c.args.index old (Err c.in-Err-place_table.fault) new.l1
-    (lent new.file new.caches new.space)) (c.deref.ensures.value ∙ c.in-Ok.ensures.ok) c.in-Err-place_table.ensures)
+    let places : PlacesTable state (replicate (cluster_size c.args.file.now.header.fields) 0) c.args.l1.now c.args.index old
+    (Ok c.in_ok-cluster.cluster) new.l1 (lent new.file new.caches new.space) =
+    subst (λ (l : List ℕ). PlacesTable state l c.args.l1.now c.args.index old (Ok c.in_ok-cluster.cluster) new.l1
+    (lent new.file new.caches new.space)) (c.deref.ensures.value ∙ c.in_ok-content.ensures.ok) c.in_ok-cluster.ensures in
+    let more = places.held in
+    subst (λ (l : FreeList). MakesTable state c.args.l1.now c.args.index old (Ok c.in_ok-cluster.cluster) new.l1
+    (lent new.file new.caches (record { allocator = new.space.allocator; to_free = l }))) (sym c.release.ensures)
+    (made state c.args.l1.now c.args.index old c.in_ok-cluster.cluster new.l1 (lent new.file new.caches new.space)
+    (new.space.to_free.held - 1) (omega (arith, more)) places)
+
+pub returns-in_err-cluster : goal.returns-in_err-cluster
+returns-in_err-cluster g c = rw (handed-on _ _ c.from_residual-in_err-cluster.ensures.1) (
+    let state = g.S.Storage.state in
+    let old = lent c.args.file.now c.args.caches.now c.args.space.now in
+    let new = c.place_table.new in
+    not-made state c.args.l1.now c.args.index old c.in_err-cluster.field-0.0 new.l1 (lent new.file new.caches new.space)
+    (subst (λ (l : List ℕ). PlacesTable state l c.args.l1.now c.args.index old (Err c.in_err-cluster.field-0.0) new.l1
+    (lent new.file new.caches new.space)) (c.deref.ensures.value ∙ c.in_ok-content.ensures.ok) c.in_err-cluster.ensures))

@@ -2,6 +2,7 @@ use Rattle.std.proofs.Common.{ap, ◌∙◌}
 use Rattle.qcow2_alloc.specs.Caches.{HasRoomOf, cached_in}
 use Rattle.qcow2_alloc.specs.Memory.{Cached}
 use Rattle.qcow2_clusters.proofs.Settled.{settled-refused, settled-whole, unpinned-blocks, unpinned-tables}
+use Rattle.qcow2_alloc.proofs.Faults.{handed-on}
 use Rattle.qcow2_clusters.proofs.settling.settle.Goals as goal
 
 pub drop_cached-requires-2 : goal.drop_cached-requires-2
@@ -14,10 +15,10 @@ drop_cached-requires-2 g c =
       };
     }
 
-pub returns-in-Ok : goal.returns-in-Ok
-returns-in-Ok g c =
+pub returns : goal.returns
+returns g c =
     let new = c.drop_cached-2.new.caches in
-    let done = c.in-Ok.ensures in
+    let done = c.in_ok-flushed.ensures in
     let room : HasRoomOf c.args.caches.now new = record {
       tables = c.drop_cached-2.ensures.room.tables ∙ done.room.tables;
       blocks = c.drop_cached-2.ensures.room.blocks ∙ done.room.blocks;
@@ -25,13 +26,14 @@ returns-in-Ok g c =
     settled-whole g.S.Storage.state c.args.given c.args.file.now c.args.caches.now new c.drop_cached-2.ensures.empty room c.if-not-was_not_cut_off.ensures
     c.flush_all-flushed.new.file (cached_in c.flush_all-flushed.new.self) done.others.1 done.going done.cause done.tables done.blocks (done.faults tt)
 
-pub returns-in-Err : goal.returns-in-Err
-returns-in-Err g c =
+pub returns-in_err-flushed : goal.returns-in_err-flushed
+returns-in_err-flushed g c = rw (handed-on _ _ c.from_residual.ensures.1) (
     let new = c.drop_cached-2.new.caches in
-    let done = c.in-Err.ensures in
+    let done = c.in_err-flushed.ensures in
     let room : HasRoomOf c.args.caches.now new = record {
       tables = c.drop_cached-2.ensures.room.tables ∙ done.room.tables;
       blocks = c.drop_cached-2.ensures.room.blocks ∙ done.room.blocks;
     } in
     settled-refused g.S.Storage.state c.args.given c.args.file.now c.args.caches.now new c.drop_cached-2.ensures.empty room c.if-not-was_not_cut_off.ensures
-    c.flush_all-flushed.new.file (cached_in c.flush_all-flushed.new.self) done.others.1 c.in-Err.fault done.going done.cause done.faults
+    c.flush_all-flushed.new.file (cached_in c.flush_all-flushed.new.self) done.others.1 c.in_err-flushed.field-0.0 done.going done.cause
+    done.faults)

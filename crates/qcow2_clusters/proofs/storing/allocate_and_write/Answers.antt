@@ -8,41 +8,48 @@ use Rattle.qcow2_clusters.specs.Storing.{StoresRunUnsettled}
 use Rattle.qcow2_clusters.proofs.AllocatingRuns.{run-refused}
 use Rattle.qcow2_clusters.proofs.Settled.{done_so, refused_so}
 use Rattle.qcow2_clusters.proofs.StoringRuns.{stored-refused, stored-unsettled, whole-fits}
+use Rattle.qcow2_alloc.proofs.Faults.{handed-on}
 use Rattle.qcow2_clusters.proofs.storing.allocate_and_write.Goals as goal
 
 abbrev room_for : List FreeEntry → ℕ → FreeList
 room_for entries held = record { entries = entries; held = held }
 
-pub returns-in-Ok-write_cluster : goal.returns-in-Ok-write_cluster
-returns-in-Ok-write_cluster g c =
+pub returns-in-Ok : goal.returns-in-Ok
+returns-in-Ok g c =
     let state = g.S.Storage.state in
     let old = lent c.args.file.now c.args.caches.now c.args.space.now in
     let new = c.allocate_clusters.new in
     let mid = lent new.file new.caches (record { allocator = new.self; to_free = new.list }) in
     let after = c.write_cluster.new.file in
-    let put = subst (λ (n : ℕ). Put (state new.file.image) (state after.image) (n * cluster_size new.file.header.fields) c.args.content.now done_so) c.cluster-cluster.ensures c.in-Ok-write_cluster.ensures.put in
+    let put = subst (λ (n : ℕ). Put (state new.file.image) (state after.image) (n * cluster_size new.file.header.fields) c.args.content.now
+    done_so) c.cluster-cluster.ensures c.in-Ok.ensures.put in
     subst (λ (n : ℕ). StoresRunUnsettled state c.args.count c.args.content.now old (Ok n) (lent after new.caches (record { allocator = new.self; to_free = new.list }))) (sym c.cluster-cluster.ensures)
-    (stored-unsettled state old c.requires.rest c.requires.room c.args.count mid c.in-Ok.pending c.in-Ok.ensures.allocates c.requires.any
-    c.args.content.now (whole-fits c.args.content.now c.args.count (cluster_size c.args.file.now.header.fields) c.requires.any c.requires.whole) after c.write_cluster.ensures.header put c.in-Ok.ensures.held)
-
-pub returns-in-Err-write_cluster : goal.returns-in-Err-write_cluster
-returns-in-Err-write_cluster g c =
-    let state = g.S.Storage.state in
-    let old = lent c.args.file.now c.args.caches.now c.args.space.now in
-    let new = c.allocate_clusters.new in
-    let mid = lent new.file new.caches (record { allocator = new.self; to_free = new.list }) in
-    let after = c.write_cluster.new.file in
-    let fault = c.in-Err-write_cluster.fault in
-    let put = subst (λ (n : ℕ). Put (state new.file.image) (state after.image) (n * cluster_size new.file.header.fields) c.args.content.now (refused_so fault)) c.cluster-cluster.ensures c.in-Err-write_cluster.ensures.put in
-    let held : new.list.held - 1 ≡ c.args.space.now.to_free.held = (let more = c.in-Ok.ensures.held in omega (arith, more)) in
-    let left : c.release.new.self ≡ record { entries = new.list.entries; held = c.args.space.now.to_free.held } =
-    c.release.ensures ∙ ap (λ (n : ℕ). room_for new.list.entries n) held in
-    subst (λ (l : FreeList). StoresRunUnsettled state c.args.count c.args.content.now old (Err fault) (lent after new.caches (record { allocator = new.self; to_free = l }))) (sym left)
-    (stored-refused state old c.requires.rest c.requires.room c.args.count mid c.in-Ok.pending c.in-Ok.ensures.allocates c.requires.any
-    c.args.content.now (whole-fits c.args.content.now c.args.count (cluster_size c.args.file.now.header.fields) c.requires.any c.requires.whole) after c.write_cluster.ensures.header fault put)
+    (stored-unsettled state old c.requires.rest c.requires.room c.args.count mid c.in_ok-pending.pending c.in_ok-pending.ensures.allocates
+    c.requires.any
+    c.args.content.now (whole-fits c.args.content.now c.args.count (cluster_size c.args.file.now.header.fields) c.requires.any
+    c.requires.whole) after c.write_cluster.ensures.header put c.in_ok-pending.ensures.held)
 
 pub returns-in-Err : goal.returns-in-Err
 returns-in-Err g c =
+    let state = g.S.Storage.state in
+    let old = lent c.args.file.now c.args.caches.now c.args.space.now in
+    let new = c.allocate_clusters.new in
+    let mid = lent new.file new.caches (record { allocator = new.self; to_free = new.list }) in
+    let after = c.write_cluster.new.file in
+    let fault = c.in-Err.fault in
+    let put = subst (λ (n : ℕ). Put (state new.file.image) (state after.image) (n * cluster_size new.file.header.fields) c.args.content.now
+    (refused_so fault)) c.cluster-cluster.ensures c.in-Err.ensures.put in
+    let held : new.list.held - 1 ≡ c.args.space.now.to_free.held = (let more = c.in_ok-pending.ensures.held in omega (arith, more)) in
+    let left : c.release.new.self ≡ record { entries = new.list.entries; held = c.args.space.now.to_free.held } =
+    c.release.ensures ∙ ap (λ (n : ℕ). room_for new.list.entries n) held in
+    subst (λ (l : FreeList). StoresRunUnsettled state c.args.count c.args.content.now old (Err fault) (lent after new.caches (record { allocator = new.self; to_free = l }))) (sym left)
+    (stored-refused state old c.requires.rest c.requires.room c.args.count mid c.in_ok-pending.pending c.in_ok-pending.ensures.allocates
+    c.requires.any
+    c.args.content.now (whole-fits c.args.content.now c.args.count (cluster_size c.args.file.now.header.fields) c.requires.any c.requires.whole) after c.write_cluster.ensures.header fault put)
+
+pub returns-in_err-pending : goal.returns-in_err-pending
+returns-in_err-pending g c = rw (handed-on _ _ c.from_residual.ensures.1) (
     let new = c.allocate_clusters.new in
     run-refused g.S.Storage.state (lent c.args.file.now c.args.caches.now c.args.space.now) c.requires.rest c.requires.room c.args.count
-    (lent new.file new.caches (record { allocator = new.self; to_free = new.list })) c.in-Err.fault c.in-Err.ensures.allocates c.args.content.now c.in-Err.ensures.held
+    (lent new.file new.caches (record { allocator = new.self; to_free = new.list })) c.in_err-pending.field-0.0
+    c.in_err-pending.ensures.allocates c.args.content.now c.in_err-pending.ensures.held)
