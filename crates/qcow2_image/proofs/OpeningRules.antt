@@ -1,6 +1,6 @@
 -- Which rule keeps a file from being opened, and what is loaded where none does.
 use Rattle.std.proofs.Common.{◌≡◌, ◌≢◌, ℕ, ◌*◌, ◌/◌, ◌<◌, ◌≤◌, refl, arith, ap, sym, subst, ◌∙◌, Bool, true, false, Result, Ok, Err, List, [], ◌∷◌, length, inl, inr}
-use Rattle.std.specs.Prelude.{⊤, not, ◌&&◌, slice_index}
+use Rattle.std.specs.Prelude.{⊤, not, ◌&&◌, slice_index, IfOk, OnOk}
 use Rattle.std.proofs.Math.Nat.{div-add-mod}
 use Rattle.std.proofs.lemmas.Bool.{cases_Bool}
 use Rattle.imago_storage.specs.State.{StorageState}
@@ -200,14 +200,16 @@ module _ (writable : Bool) (f : Bytes) where
         long = words_long f (cluster * cluster_size H.fields) H.fields.l1_entries
 
         -- What is loaded is the file's.
-        pub table-loaded : (table : TableValue) → table ≡ table_in f H.fields cluster H.fields.l1_entries → AreSound l1_words (layout_of H.fields) words → IsL1Of f H.fields table
+        pub table-loaded : (r : Result TableValue Fault) → IfOk r (λ table. table ≡ table_in f H.fields cluster H.fields.l1_entries)
+            → OnOk r (AreSound l1_words (layout_of H.fields) words) → IfOk r (IsL1Of f H.fields)
         unfolding l1_table_sound
-        table-loaded table is sound = record {
+        table-loaded (Ok table) is sound = record {
           layout = ap (λ (t : TableValue). t.layout) is;
           words = ap (λ (t : TableValue). t.words) is ∙ ap (λ p. words_in f p H.fields.l1_entries) place;
           sound = all-below-holds H.fields.l1_entries (λ i. l1_word_sound H.fields.cluster_bits (word f H.fields.l1_offset i))
               (λ i inside. subst (λ w. l1_word_sound H.fields.cluster_bits w ≡ true) (word-of i inside) (sound i (omega (arith, long, inside))));
         }
+        table-loaded (Err fault) is sound = tt
 
         -- One of its words without a meaning damages all of it.
         unsound : HasUnsound l1_words (layout_of H.fields) words → l1_table_sound f H.fields ≡ false

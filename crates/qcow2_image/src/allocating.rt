@@ -48,14 +48,12 @@ fn is_full(stored: &Result<HostCluster, Fault>) -> bool
 fn as_placed(stored: Result<HostCluster, Fault>, count: ClusterCount) -> Result<Placed, Fault>
     ensures { result ≡ placed_by count stored }
 {
-    match stored {
-        Ok(host) => Ok(Placed {
-            host,
-            count,
-            is_kept: false,
-        }),
-        Err(fault) => Err(fault),
-    }
+    let host = stored?;
+    Ok(Placed {
+        host,
+        count,
+        is_kept: false,
+    })
 }
 
 // What a guest cluster shows that is mapped so.
@@ -239,10 +237,8 @@ impl<S: Storage> Qcow2<S> {
         ensures { EnsuresTable S.Storage (enough_for_table self.old.tables guest) guest self.old result self.new }
     {
         let index = guest.l1_index(self.tables.file.header.cluster_bits());
-        match self.ensure_word(alloc, index) {
-            Ok(()) => self.own_table(alloc, guest),
-            Err(fault) => Err(fault),
-        }
+        self.ensure_word(alloc, index)?;
+        self.own_table(alloc, guest)
     }
 
     // Stores the content of a guest cluster in the first of host clusters in a row that were free.
@@ -331,14 +327,14 @@ impl<S: Storage> Qcow2<S> {
         ensures { (guest : ℕ) → PlacesContent S.Storage guest kept count content.now self.old result self.new }
     {
         match kept {
-            Some(host) => match self.fill_content(alloc, host, content) {
-                Ok(()) => Ok(Placed {
+            Some(host) => {
+                self.fill_content(alloc, host, content)?;
+                Ok(Placed {
                     host,
                     count: ClusterCount(1),
                     is_kept: true,
-                }),
-                Err(fault) => Err(fault),
-            },
+                })
+            }
             None => self.store_most(alloc, content, count),
         }
     }
@@ -372,10 +368,7 @@ impl<S: Storage> Qcow2<S> {
     pub(crate) fn flush_freed(&mut self) -> Result<(), Fault>
         ensures { FlushesFreed S.Storage self.old result self.new }
     {
-        match self.free_pending() {
-            Ok(()) => {}
-            Err(fault) => return Err(fault),
-        }
+        self.free_pending()?;
         let answer = self.tables.file.image.flush();
         self.settle_change(answer)
     }

@@ -65,13 +65,8 @@ impl<S: Storage> Qcow2OpenBuilder<S> {
         ensures ok { IsOk result ↔ AreCacheSizes l2_tables refcount_blocks }
         ensures err { IsOkUnless result Fault.BadArgument }
     {
-        match CacheEntries::new(l2_tables, refcount_blocks) {
-            Ok(entries) => {
-                self.entries = entries;
-                Ok(self)
-            }
-            Err(fault) => Err(fault),
-        }
+        self.entries = CacheEntries::new(l2_tables, refcount_blocks)?;
+        Ok(self)
     }
 }
 

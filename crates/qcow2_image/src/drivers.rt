@@ -265,10 +265,9 @@ impl<S: Storage> FormatDriverInstance for Qcow2<S> {
             Ok(()) => {}
             Err(fault) => return Err(fault),
         }
-        match self.home_run(offset, length) {
-            Ok(Some((place, count))) => Ok(PreparedDataMapping::existing(0, place, count)),
-            Ok(None) => self.prepare_fresh(alloc, below, offset, length, overwrite),
-            Err(fault) => Err(fault),
+        match self.home_run(offset, length)? {
+            Some((place, count)) => Ok(PreparedDataMapping::existing(0, place, count)),
+            None => self.prepare_fresh(alloc, below, offset, length, overwrite),
         }
     }
 
@@ -354,21 +353,13 @@ impl<S: Storage> FormatDriverInstance for Qcow2<S> {
         if length == 0 {
             return Ok(());
         }
-        match self.check_change(guest, length) {
-            Ok(()) => {}
-            Err(fault) => return Err(fault),
+        self.check_change(guest, length)?;
+        if !self.is_mapped_at(guest, place, length)? {
+            return Err(Fault::Outdated);
         }
-        match self.is_mapped_at(guest, place, length) {
-            Ok(true) => match self.write_at(alloc, place, bytes) {
-                Ok(()) => {
-                    self.note(guest, length);
-                    Ok(())
-                }
-                Err(fault) => Err(fault),
-            },
-            Ok(false) => Err(Fault::Outdated),
-            Err(fault) => Err(fault),
-        }
+        self.write_at(alloc, place, bytes)?;
+        self.note(guest, length);
+        Ok(())
     }
 
     fn ensure_zero_mapping(

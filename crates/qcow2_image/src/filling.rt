@@ -133,20 +133,12 @@ impl<S: Storage> Qcow2<S> {
     {
         let cluster_bits = self.tables.file.header.cluster_bits();
         let guest = GuestOffset(offset).cluster(cluster_bits);
-        let shown = match self.shown_at(guest) {
-            Ok(shown) => shown,
-            Err(fault) => return Err(fault),
-        };
+        let shown = self.shown_at(guest)?;
         let size = self.tables.file.header.cluster_size();
-        let mut content = match zeroes(alloc, size) {
-            Ok(content) => content,
-            Err(fault) => return Err(fault),
-        };
+        let mut content = zeroes(alloc, size)?;
         let (start, end) = self.first_places(offset);
         let part = copied_part(start, end, offset, length, overwrite);
-        match self.copy_shown(alloc, below, shown, &mut content, start, part) {
-            Ok(()) => Ok(content),
-            Err(fault) => Err(fault),
-        }
+        self.copy_shown(alloc, below, shown, &mut content, start, part)?;
+        Ok(content)
     }
 }

@@ -80,10 +80,8 @@ fn in_table<S: Storage>(
         UsesTable S.state table (ReadsRun bits guest most) (cached_file caches.old file.old) result (cached_file caches.new file.new) }
 {
     let cluster_bits = file.header.cluster_bits();
-    match caches.l2_get_or_insert(file, table) {
-        Ok(table) => run_of(table, guest, most, cluster_bits),
-        Err(fault) => Err(fault),
-    }
+    let table = caches.l2_get_or_insert(file, table)?;
+    run_of(table, guest, most, cluster_bits)
 }
 
 // How a guest cluster is mapped, and how many from it on, of at most so many under one L2 table, go on from one another.

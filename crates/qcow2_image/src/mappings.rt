@@ -98,23 +98,15 @@ impl<S: Storage> Qcow2<S> {
         requires free { self.old.unspent ≡ None }
         ensures { Reserves S.Storage guest kept count content.now self.old result self.new }
     {
-        match self.load_space(alloc) {
-            Ok(()) => {}
-            Err(fault) => return Err(fault),
-        }
-        let table = match self.ensure_table(alloc, guest) {
-            Ok(table) => table,
-            Err(fault) => return Err(fault),
-        };
-        match self.place_content(alloc, kept, content, count) {
-            Ok(placed) => Ok(Reserved {
-                table,
-                host: placed.host,
-                count: placed.count,
-                is_kept: placed.is_kept,
-            }),
-            Err(fault) => Err(fault),
-        }
+        self.load_space(alloc)?;
+        let table = self.ensure_table(alloc, guest)?;
+        let placed = self.place_content(alloc, kept, content, count)?;
+        Ok(Reserved {
+            table,
+            host: placed.host,
+            count: placed.count,
+            is_kept: placed.is_kept,
+        })
     }
 
     // Prepares a mapping of what lies in so many guest clusters in a row at most, from that of a range's first place on, whose data is in
@@ -142,21 +134,11 @@ impl<S: Storage> Qcow2<S> {
         let cluster_bits = self.tables.file.header.cluster_bits();
         let guest = GuestOffset(offset).cluster(cluster_bits);
         let first = self.run_in(ClusterCount(1), offset, length);
-        let content = match self.content_for(alloc, below, offset, first, overwrite) {
-            Ok(content) => content,
-            Err(fault) => return Err(fault),
-        };
-        let kept = match self.kept_at(guest) {
-            Ok(kept) => kept,
-            Err(fault) => return Err(fault),
-        };
-        match self.reserve(alloc, guest, kept, &content, count) {
-            Ok(clusters) => {
-                let run = self.run_in(clusters.count, offset, length);
-                Ok(self.hold(clusters, offset, run, overwrite))
-            }
-            Err(fault) => Err(fault),
-        }
+        let content = self.content_for(alloc, below, offset, first, overwrite)?;
+        let kept = self.kept_at(guest)?;
+        let clusters = self.reserve(alloc, guest, kept, &content, count)?;
+        let run = self.run_in(clusters.count, offset, length);
+        Ok(self.hold(clusters, offset, run, overwrite))
     }
 
     // The same, of as many as can be had at once.
@@ -175,10 +157,8 @@ impl<S: Storage> Qcow2<S> {
         ensures { let asked = asking offset length overwrite in
             PreparesRun S.Storage B.SeenBelow asked (self.old, below.old) result (self.new, below.new) }
     {
-        match self.covered_run(offset, length, overwrite) {
-            Ok(count) => self.prepare_run(alloc, below, offset, length, overwrite, count),
-            Err(fault) => Err(fault),
-        }
+        let count = self.covered_run(offset, length, overwrite)?;
+        self.prepare_run(alloc, below, offset, length, overwrite, count)
     }
 
     // Keeps what was reserved as the mapping that is prepared.

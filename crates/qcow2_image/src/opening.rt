@@ -37,10 +37,7 @@ pub(crate) fn load_header<S: Storage>(
     ensures same { OnOk result (S.state image.new ≡ S.state image.old) }
     ensures kept { Kept (S.state image.old) (S.state image.new) }
 {
-    let header = match Header::load(alloc, image, writable) {
-        Ok(header) => header,
-        Err(fault) => return Err(fault),
-    };
+    let header = Header::load(alloc, image, writable)?;
     if header.external_data_file() {
         return Err(Fault::Unsupported);
     }
@@ -62,10 +59,7 @@ pub(crate) fn load_l1<S: Storage>(
     ensures kept { Kept (S.state image.old) (S.state image.new) }
 {
     let cluster = header.l1_table_offset().cluster(header.cluster_bits());
-    match L1Table::load(alloc, image, header, cluster, header.l1_table_entries()) {
-        Ok(l1) => Ok(l1),
-        Err(fault) => Err(fault),
-    }
+    L1Table::load(alloc, image, header, cluster, header.l1_table_entries())
 }
 
 // Both of them. Nothing but reads is asked of the storage.
@@ -81,14 +75,9 @@ fn load_metadata<S: Storage>(
     ensures same { OnOk result (S.state image.new ≡ S.state image.old) }
     ensures kept { Kept (S.state image.old) (S.state image.new) }
 {
-    let header = match load_header(alloc, image, writable) {
-        Ok(header) => header,
-        Err(fault) => return Err(fault),
-    };
-    match load_l1(alloc, image, &header) {
-        Ok(l1) => Ok((header, l1)),
-        Err(fault) => Err(fault),
-    }
+    let header = load_header(alloc, image, writable)?;
+    let l1 = load_l1(alloc, image, &header)?;
+    Ok((header, l1))
 }
 
 // The free space of an image with this header that is to be written; of another nothing is known. Nothing but reads is asked of the
@@ -111,10 +100,8 @@ pub(crate) fn load_free_space<S: Storage>(
     if !writable {
         return Ok(None);
     }
-    match Space::load(alloc, file) {
-        Ok(space) => Ok(Some(space)),
-        Err(fault) => Err(fault),
-    }
+    let space = Space::load(alloc, file)?;
+    Ok(Some(space))
 }
 
 // Opens the metadata of an image, with caches of so many entries.
@@ -127,19 +114,10 @@ fn open_tables<S: Storage>(
     ensures ok { IfOk result (IsJustOpened S.Storage (S.state image) writable entries.l2_tables entries.refcount_blocks) }
     ensures err { IfErr result (WhyNotOpened S.state writable (file (S.state image))) }
 {
-    let (header, l1) = match load_metadata(alloc, &mut image, writable) {
-        Ok(loaded) => loaded,
-        Err(fault) => return Err(fault),
-    };
+    let (header, l1) = load_metadata(alloc, &mut image, writable)?;
     let mut file = ImageFile { image, header };
-    let space = match load_free_space(alloc, &mut file, writable) {
-        Ok(space) => space,
-        Err(fault) => return Err(fault),
-    };
-    let caches = match MetadataCaches::new(alloc, entries.l2_tables, entries.refcount_blocks) {
-        Ok(caches) => caches,
-        Err(fault) => return Err(fault),
-    };
+    let space = load_free_space(alloc, &mut file, writable)?;
+    let caches = MetadataCaches::new(alloc, entries.l2_tables, entries.refcount_blocks)?;
     Ok(Tables {
         file,
         l1,
@@ -162,10 +140,7 @@ pub(crate) fn open_with<S: Storage>(
     ensures seen { IfOk result (IsOpened ⟦<Qcow2<S> as Seen>⟧ format.Qcow2 writable number (S.state image)) }
     ensures err { IfErr result (WhyNotOpened S.state writable (file (S.state image))) }
 {
-    let tables = match open_tables(alloc, image, writable, entries) {
-        Ok(tables) => tables,
-        Err(fault) => return Err(fault),
-    };
+    let tables = open_tables(alloc, image, writable, entries)?;
     let backing = match backing {
         Some(backing) => backing,
         None => tables.file.header.backing_filename().is_some(),
@@ -223,9 +198,7 @@ impl<S: Storage> Qcow2<S> {
         ensures faults { CountsFaults (S.state image.old).faults (S.state image.new).faults result }
     {
         let mut start = [0u8; 72];
-        match image.read(alloc, &mut start, 0) {
-            Ok(()) => Ok(begins_image(&start)),
-            Err(fault) => Err(fault),
-        }
+        image.read(alloc, &mut start, 0)?;
+        Ok(begins_image(&start))
     }
 }

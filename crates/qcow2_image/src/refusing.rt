@@ -29,10 +29,7 @@ impl<S: Storage> Qcow2<S> {
         let image = &self.tables.file.image;
         let unit = larger_alignment(image.req_align(), image.mem_align());
         let size = self.tables.file.header.size();
-        match check_range(self.mode.writable, unit as u64, size, offset, length) {
-            Ok(()) => Ok(()),
-            Err(fault) => Err(fault),
-        }
+        check_range(self.mode.writable, unit as u64, size, offset, length)
     }
 
     // Declines to zero or to discard a range. One of no bytes is done.
@@ -51,10 +48,8 @@ impl<S: Storage> Qcow2<S> {
         if length == 0 {
             return Ok((offset, 0));
         }
-        match self.check_change(offset, length) {
-            Ok(()) => Err(Fault::Unsupported),
-            Err(fault) => Err(fault),
-        }
+        self.check_change(offset, length)?;
+        Err(Fault::Unsupported)
     }
 
     // Why a mapping with state that is to be committed is given back, if it is.

@@ -30,10 +30,8 @@ fn load_header_anew<S: Storage>(alloc: Global, image: &mut S) -> Result<Header, 
     ensures same { OnOk result (S.state image.new ≡ S.state image.old) }
     ensures kept { Kept (S.state image.old) (S.state image.new) }
 {
-    match image.invalidate_cache() {
-        Ok(()) => load_header(alloc, image, false),
-        Err(fault) => Err(fault),
-    }
+    image.invalidate_cache()?;
+    load_header(alloc, image, false)
 }
 
 // Why an image with this header open isn't read anew, where the L1 table of the file's header isn't loaded: first because the header can't
@@ -64,10 +62,7 @@ fn load_anew<S: Storage>(
     ensures kept { Kept (S.state image.old) (S.state image.new) }
     ensures later { Later (S.state image.old) (S.state image.new) }
 {
-    let header = match load_header_anew(alloc, image) {
-        Ok(header) => header,
-        Err(fault) => return Err(fault),
-    };
+    let header = load_header_anew(alloc, image)?;
     match load_l1(alloc, image, &header) {
         Ok(l1) => Ok((header, l1)),
         Err(fault) => Err(first_fault(header, opened, fault)),
@@ -81,10 +76,8 @@ pub(crate) fn drop_cached<S: Storage>(caches: &mut MetadataCaches<S>) -> Result<
     ensures empty { cached_in caches.new ≡ record { tables = []; blocks = [] } }
     ensures room { HasRoomOf caches.old caches.new }
 {
-    match caches.invalidate_l2() {
-        Ok(()) => caches.invalidate_rb(),
-        Err(fault) => Err(fault),
-    }
+    caches.invalidate_l2()?;
+    caches.invalidate_rb()
 }
 
 // The free space of an image that is written, by the header that was read anew in place of the open one; of another nothing is known. The
@@ -122,21 +115,14 @@ pub(crate) fn reload<S: Storage>(
 ) -> Result<(), Fault>
     ensures { Reloads S.Storage writable tables.old result tables.new }
 {
-    let (header, l1) = match load_anew(alloc, &mut tables.file.image, &tables.file.header) {
-        Ok(loaded) => loaded,
-        Err(fault) => return Err(fault),
-    };
+    let (header, l1) = load_anew(alloc, &mut tables.file.image, &tables.file.header)?;
     let (header, loaded) = load_space_anew(alloc, &mut tables.file, header, writable);
     let space = match loaded {
         Ok(space) => space,
         Err(fault) => return Err(first_fault(header, &tables.file.header, fault)),
     };
-    match tables.file.header.update(&header) {
-        Ok(()) => {
-            tables.l1 = l1;
-            tables.space = space;
-            drop_cached(&mut tables.caches)
-        }
-        Err(fault) => Err(fault),
-    }
+    tables.file.header.update(&header)?;
+    tables.l1 = l1;
+    tables.space = space;
+    drop_cached(&mut tables.caches)
 }

@@ -50,10 +50,7 @@ impl<S: Storage> Qcow2<S> {
         ensures cause { let d = ⟦<Qcow2<S> as Seen>⟧ in
             IsSeen S.Storage self.old.tables → IfErr result (RefusesLookup d offset length self.old self.new) }
     {
-        let (mapping, count) = match self.run_from(offset, length) {
-            Ok(run) => run,
-            Err(fault) => return Err(fault),
-        };
+        let (mapping, count) = self.run_from(offset, length)?;
         match writable_place(mapping) {
             Some(place) => Ok(Some((place, count))),
             None => Ok(self.held_run(offset, count)),
@@ -92,15 +89,14 @@ impl<S: Storage> Qcow2<S> {
     {
         let mut done = 0;
         while done < length {
-            match self.home_run(guest + done, length - done) {
-                Ok(Some((at, count))) => {
+            match self.home_run(guest + done, length - done)? {
+                Some((at, count)) => {
                     if at != place + done {
                         return Ok(false);
                     }
                     done += count;
                 }
-                Ok(None) => return Ok(false),
-                Err(fault) => return Err(fault),
+                None => return Ok(false),
             }
         }
         Ok(true)

@@ -3,7 +3,9 @@ use Rattle.qcow2_image.specs.Looking.{ReadsRun}
 use Rattle.qcow2_alloc.proofs.Caching.UsingLent.{table-used}
 use Rattle.qcow2_image.proofs.lookup.in_table.Goals as goal
 
-pub returns-in-Ok : goal.returns-in-Ok
-returns-in-Ok g c =
+pub returns : goal.returns
+returns g c =
     let bits = c.cluster_bits-cluster_bits.ensures.value in
-    table-used g.S.Storage.state c.args.table (ReadsRun c.args.file.now.header.fields.cluster_bits c.args.guest c.args.most) c.args.caches.now c.args.file.now _ c.l2_get_or_insert.new.file c.l2_get_or_insert.result c.in-Ok.table c.run_of.result c.run_of.new.table c.in-Ok.is (c.l2_get_or_insert.follows.holds c.run_of.new.table) (rw (sym bits) c.run_of.ensures)
+    table-used g.S.Storage.state c.args.table (ReadsRun c.args.file.now.header.fields.cluster_bits c.args.guest c.args.most)
+    c.args.caches.now c.args.file.now _ c.l2_get_or_insert.new.file c.l2_get_or_insert.result c.in_ok-table.table c.run_of.result
+    c.run_of.new.table c.in_ok-table.was (c.l2_get_or_insert.follows.holds c.run_of.new.table) (rw (sym bits) c.run_of.ensures)

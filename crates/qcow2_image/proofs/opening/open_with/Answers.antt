@@ -9,18 +9,27 @@ returns-clause-seen g c =
     let before = g.S.Storage.state c.args.image in
     let l2 = c.args.entries.l2_tables in
     let rb = c.args.entries.refcount_blocks in
-    let d : Qcow2 g.row.S.Denot g.S.Storage = record { tables = c.in-Ok.tables; mode = record { writable = c.args.writable; backing = c.match-backing.backing }; number = c.args.number; failed = false; claims = 0; unspent = None } in
+    let d : Qcow2 g.row.S.Denot g.S.Storage = record {
+      tables = c.in_ok-tables.tables;
+      mode = record
+          { writable = c.args.writable; backing = c.match-backing.backing };
+      number = c.args.number;
+      failed = false;
+      claims = 0;
+      unspent = None;
+    }
+    in
     record {
       format_is = refl;
       writable_is = refl;
       number_is = refl;
-      size_is = let meant = opened-meant g.S.Storage before c.args.writable l2 rb d c.in-Ok.ensures.ok in sym (meant.exactly refl);
-      meant = opened-meant g.S.Storage before c.args.writable l2 rb d c.in-Ok.ensures.ok;
-      kept = opened-kept g.S.Storage before c.args.writable l2 rb d c.in-Ok.ensures.ok;
+      size_is = let meant = opened-meant g.S.Storage before c.args.writable l2 rb d c.in_ok-tables.ensures.ok in sym (meant.exactly refl);
+      meant = opened-meant g.S.Storage before c.args.writable l2 rb d c.in_ok-tables.ensures.ok;
+      kept = opened-kept g.S.Storage before c.args.writable l2 rb d c.in_ok-tables.ensures.ok;
       free = refl;
       usable = refl;
-      sees = record { seen = c.in-Ok.ensures.ok.seen; sure = inl (refl, c.in-Ok.ensures.ok.space.idle) };
-      still = opened-still g.S.Storage before c.args.writable l2 rb d c.in-Ok.ensures.ok;
+      sees = record { seen = c.in_ok-tables.ensures.ok.seen; sure = inl (refl, c.in_ok-tables.ensures.ok.space.idle) };
+      still = opened-still g.S.Storage before c.args.writable l2 rb d c.in_ok-tables.ensures.ok;
       lasting = tt;
-      safe = λ keeps sound. opened-safe g.S.Storage before c.args.writable l2 rb d c.in-Ok.ensures.ok refl refl keeps sound;
+      safe = λ keeps sound. opened-safe g.S.Storage before c.args.writable l2 rb d c.in_ok-tables.ensures.ok refl refl keeps sound;
     }

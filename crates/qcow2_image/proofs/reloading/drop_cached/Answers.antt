@@ -3,14 +3,14 @@ use Rattle.qcow2_alloc.specs.Dropping.{Dropped}
 use Rattle.qcow2_image.proofs.Anew.{drops-all, drops-ok}
 use Rattle.qcow2_image.proofs.reloading.drop_cached.Goals as goal
 
-pub returns-in-Ok-clause-ok : goal.returns-in-Ok-clause-ok
-returns-in-Ok-clause-ok g c =
+pub returns-clause-ok : goal.returns-clause-ok
+returns-clause-ok g c =
     let old = c.args.caches.now in
     let blocks = ap (λ x. x.slots.entries) c.invalidate_l2.ensures.others.0 in
     drops-ok old.rb.slots.entries _ c.invalidate_rb.result (subst (λ es. Dropped es c.invalidate_rb.result c.invalidate_rb.new.self.rb.slots.entries) blocks c.invalidate_rb.ensures.dropped) c.requires.loose.1
 
-pub returns-in-Ok-clause-empty : goal.returns-in-Ok-clause-empty
-returns-in-Ok-clause-empty g c =
+pub returns-clause-empty : goal.returns-clause-empty
+returns-clause-empty g c =
     let old = c.args.caches.now in
     let a = c.invalidate_l2.ensures in
     let b = c.invalidate_rb.ensures in
@@ -19,5 +19,6 @@ returns-in-Ok-clause-empty g c =
     let no_blocks = drops-all old.rb.slots.entries _ c.invalidate_rb.result (subst (λ es. Dropped es c.invalidate_rb.result c.invalidate_rb.new.self.rb.slots.entries) blocks b.dropped) c.requires.loose.1 in
     λ i. record { tables = no_tables i; blocks = no_blocks i }
 
-pub returns-in-Err : goal.returns-in-Err
-returns-in-Err g c = absurd (let e = drops-ok c.args.caches.now.l2.slots.entries _ _ c.in-Err.ensures.dropped c.requires.loose.0 in cc)
+pub returns-in_err-invalidate_l2 : goal.returns-in_err-invalidate_l2
+returns-in_err-invalidate_l2 g c = absurd (let e = drops-ok c.args.caches.now.l2.slots.entries _ _ c.in_err-invalidate_l2.ensures.dropped
+    c.requires.loose.0 in cc)

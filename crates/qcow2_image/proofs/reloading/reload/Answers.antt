@@ -9,16 +9,17 @@ use Rattle.qcow2_image.specs.Opening.{IsSpaceOpened, WhyNoSpace}
 use Rattle.qcow2_image.specs.Steps.{IsFirstFault}
 use Rattle.qcow2_image.proofs.Anew.{counts-fine, counts-later, first-counts, never-differs, on-ok, seen-anew, updating-why}
 use Rattle.qcow2_image.proofs.OpeningRules.{none-refused}
+use Rattle.qcow2_alloc.proofs.Faults.{handed-on}
 use Rattle.qcow2_image.proofs.reloading.reload.Goals as goal
 
 pub load_space_anew-header-requires : goal.load_space_anew-header-requires
 load_space_anew-header-requires g c =
-    let loaded = c.in-Ok.ensures in record {
-      loads = subst (λ (s : StorageState). header_of false (file s) ≡ Ok c.in-Ok.loaded.0) (sym loaded.same) loaded.loads;
+    let loaded = c.in_ok-header.ensures in record {
+      loads = subst (λ (s : StorageState). header_of false (file s) ≡ Ok c.in_ok-header.header) (sym loaded.same) loaded.loads;
     }
 
-pub returns-in-Err : goal.returns-in-Err
-returns-in-Err g c =
+pub returns-in_err-header : goal.returns-in_err-header
+returns-in_err-header g c = rw (handed-on _ _ c.from_residual.ensures.1) (
     let old = g.S.Storage.state c.args.tables.now.file.image in record {
       kept = c.load_anew.ensures.kept;
       later = c.load_anew.ensures.later;
@@ -30,23 +31,24 @@ returns-in-Err g c =
       space = search rules;
       same = search rules;
       left = search rules;
-      cause = c.in-Err.ensures.err c.args.writable;
-      known = λ seen sound. c.in-Err.ensures.known seen.loads (none-refused false (file old) c.args.tables.now.file.header seen.loads seen.inside seen.l1.sound (λ w. absurd (cc w)));
-    }
+      cause = c.in_err-header.ensures.err c.args.writable;
+      known = λ seen sound. c.in_err-header.ensures.known seen.loads
+          (none-refused false (file old) c.args.tables.now.file.header seen.loads seen.inside seen.l1.sound (λ w. absurd (cc w)));
+    })
 
-pub returns-in-Err-loaded : goal.returns-in-Err-loaded
-returns-in-Err-loaded g c =
+pub returns-in-Err : goal.returns-in-Err
+returns-in-Err g c =
     let t = c.args.tables.now in
     let old = g.S.Storage.state t.file.image in
     let mid = g.S.Storage.state c.load_anew.new.image in
     let new = g.S.Storage.state c.load_space_anew-header.new.file.image in
-    let loaded = c.in-Ok.ensures in
+    let loaded = c.in_ok-header.ensures in
     let spaced = c.load_space_anew-header.ensures in
-    let H = c.in-Ok.loaded.0 in
-    let fault = c.in-Err-loaded.fault in
+    let H = c.in_ok-header.header in
+    let fault = c.in-Err.fault in
     let first = c.first_fault.result in
     let why = subst (λ (s : StorageState). WhyNoSpace (file s) H.fields c.args.writable s.faults new.faults fault) loaded.same
-    (subst (λ r. IfErr r (WhyNoSpace (file mid) H.fields c.args.writable mid.faults new.faults)) c.in-Err-loaded.is spaced.err) in
+    (subst (λ r. IfErr r (WhyNoSpace (file mid) H.fields c.args.writable mid.faults new.faults)) c.in-Err.is spaced.err) in
     let kept = subst (λ (s : StorageState). Kept s new) loaded.same spaced.kept in
     let opens = none-refused false (file old) H loaded.loads loaded.inside loaded.l1.sound (λ w. absurd (cc w)) in
     let is = subst (λ (K : Header). IsFirstFault K t.file.header fault first) spaced.back
@@ -66,17 +68,17 @@ returns-in-Err-loaded g c =
           is why;
     }
 
-pub returns-in-Err-update : goal.returns-in-Err-update
-returns-in-Err-update g c =
+pub returns-in_err-update : goal.returns-in_err-update
+returns-in_err-update g c = rw (handed-on _ _ c.from_residual-in_err-update.ensures.1) (
     let t = c.args.tables.now in
     let old = g.S.Storage.state t.file.image in
     let new = g.S.Storage.state c.load_space_anew-header.new.file.image in
     let mid = g.S.Storage.state c.load_anew.new.image in
-    let loaded = c.in-Ok.ensures in
+    let loaded = c.in_ok-header.ensures in
     let spaced = c.load_space_anew-header.ensures in
-    let refused = c.in-Err-update.ensures in
-    let H = c.in-Ok.loaded.0 in
-    let same : new ≡ old = subst (λ r. OnOk r (new ≡ mid)) c.in-Ok-loaded.is spaced.same ∙ loaded.same in
+    let refused = c.in_err-update.ensures in
+    let H = c.in_ok-header.header in
+    let same : new ≡ old = subst (λ r. OnOk r (new ≡ mid)) c.in-Ok.is spaced.same ∙ loaded.same in
     let differs : with_places_of H t.file.header ≢ H = λ is.
     let is' = subst (λ (K : Header). with_places_of H K ≡ H) (sym spaced.header) is in
     absurd (let ok = refused.allowed.1 (subst (λ (K : Header). with_places_of K c.load_space_anew-header.new.file.header ≡ K) (sym spaced.back) is') in cc ok) in record {
@@ -90,24 +92,25 @@ returns-in-Err-update g c =
       space = tt;
       same = λ seen. tt;
       left = (refused.err ∙ spaced.header, refl, refl, refl);
-      cause = updating-why c.args.writable (file old) t.file.header H old.faults new.faults c.in-Err-update.fault loaded.loads differs refused.fault;
+      cause = updating-why c.args.writable (file old) t.file.header H old.faults new.faults c.in_err-update.field-0.0 loaded.loads differs
+          refused.fault;
       known = λ seen sound. absurd (never-differs (file old) t.file.header H seen.loads loaded.loads differs);
-    }
+    })
 
-pub returns-in-Ok-update : goal.returns-in-Ok-update
-returns-in-Ok-update g c =
+pub returns : goal.returns
+returns g c =
     let t = c.args.tables.now in
     let old = g.S.Storage.state t.file.image in
     let new = g.S.Storage.state c.load_space_anew-header.new.file.image in
     let mid = g.S.Storage.state c.load_anew.new.image in
-    let loaded = c.in-Ok.ensures in
+    let loaded = c.in_ok-header.ensures in
     let spaced = c.load_space_anew-header.ensures in
-    let H = c.in-Ok.loaded.0 in
+    let H = c.in_ok-header.header in
     let K = c.update.new.self in
-    let same : new ≡ old = subst (λ r. OnOk r (new ≡ mid)) c.in-Ok-loaded.is spaced.same ∙ loaded.same in
-    let header : K ≡ H = c.in-Ok-update.ensures.ok ∙ spaced.back in
-    let space : IsSpaceOpened mid H.fields c.args.writable c.in-Ok-loaded.space =
-    subst (λ r. IfOk r (IsSpaceOpened mid H.fields c.args.writable)) c.in-Ok-loaded.is spaced.ok in record {
+    let same : new ≡ old = subst (λ r. OnOk r (new ≡ mid)) c.in-Ok.is spaced.same ∙ loaded.same in
+    let header : K ≡ H = c.in_ok-update.ensures.ok ∙ spaced.back in
+    let space : IsSpaceOpened mid H.fields c.args.writable c.in-Ok.space =
+    subst (λ r. IfOk r (IsSpaceOpened mid H.fields c.args.writable)) c.in-Ok.is spaced.ok in record {
       kept = search rules;
       later = search rules;
       faults = search rules;
@@ -115,9 +118,9 @@ returns-in-Ok-update g c =
       anew = on-ok c.drop_cached.result _ (seen-anew g.S.Storage _ old H same header c.drop_cached.ensures.empty loaded.loads loaded.inside loaded.l1);
       empty = search rules;
       room = search rules;
-      space = on-ok c.drop_cached.result _ (subst (λ (x : Header). IsSpaceOpened new x.fields c.args.writable c.in-Ok-loaded.space) (sym header)
-          (subst (λ (s : StorageState). IsSpaceOpened s H.fields c.args.writable c.in-Ok-loaded.space)
-          (sym (subst (λ r. OnOk r (new ≡ mid)) c.in-Ok-loaded.is spaced.same)) space));
+      space = on-ok c.drop_cached.result _ (subst (λ (x : Header). IsSpaceOpened new x.fields c.args.writable c.in-Ok.space) (sym header)
+          (subst (λ (s : StorageState). IsSpaceOpened s H.fields c.args.writable c.in-Ok.space)
+          (sym (subst (λ r. OnOk r (new ≡ mid)) c.in-Ok.is spaced.same)) space));
       same = search rules;
       left = search rules;
       cause = search rules;

@@ -8,6 +8,7 @@ use Rattle.qcow2_image.specs.Seen.{layer_of}
 use Rattle.qcow2_image.proofs.Preparations.Prepared.{fresh-cut, fresh-free, fresh-mine, fresh-reaches, fresh-run, fresh-size, fresh-whole, limit-where, prepares-fresh, unspent-none}
 use Rattle.qcow2_image.proofs.Preparations.Preparing.{part-why, prepares-mapped, prepares-refused}
 use Rattle.qcow2_image.proofs.Preparations.Reserving.{fresh-lacks, prepared-behind}
+use Rattle.qcow2_alloc.proofs.Faults.{handed-on}
 use Rattle.qcow2_image.proofs.drivers.Qcow2FormatDriverInstance.prepare_data_mapping.Goals as goal
 use Rattle.qcow2_image.proofs.KeptLeaks.{leaks-kept}
 
@@ -20,157 +21,165 @@ returns-then-length-eq0-clause-below g c = looked_under_same g.B.SeenBelow ⊤ c
 pub returns-in-Err-clause-below : goal.returns-in-Err-clause-below
 returns-in-Err-clause-below g c = looked_under_same g.B.SeenBelow (IsMild c.in-Err.fault) c.args.below.now
 
-pub returns-in-Err-home_run-clause-below : goal.returns-in-Err-home_run-clause-below
-returns-in-Err-home_run-clause-below g c = looked_under_same g.B.SeenBelow (IsMild c.in-Err-home_run.fault) c.args.below.now
+pub returns-in_err-place-clause-below : goal.returns-in_err-place-clause-below
+returns-in_err-place-clause-below g c = rw (handed-on _ _ c.from_residual.ensures.1)
+    (looked_under_same g.B.SeenBelow (IsMild c.in_err-place.field-0.0) c.args.below.now)
 
-pub returns-in-Ok-Some-clause-below : goal.returns-in-Ok-Some-clause-below
-returns-in-Ok-Some-clause-below g c = looked_under_same g.B.SeenBelow ⊤ c.args.below.now
+pub returns-in-Some-clause-below : goal.returns-in-Some-clause-below
+returns-in-Some-clause-below g c = looked_under_same g.B.SeenBelow ⊤ c.args.below.now
 
-pub returns-in-Err-home_run-clause-does : goal.returns-in-Err-home_run-clause-does
-returns-in-Err-home_run-clause-does g c =
+pub returns-in_err-place-clause-does : goal.returns-in_err-place-clause-does
+returns-in_err-place-clause-does g c = rw (handed-on _ _ c.from_residual.ensures.1) (
     let st = g.S.Storage in
     let asked = asking c.args.offset c.args.length c.args.overwrite in
-    let e = c.in-Err-home_run.fault in
+    let e = c.in_err-place.field-0.0 in
     prepares-refused g.row.S st g.S.Storage-dict g.S.Destruct-dict c.args.self.now c.home_run.new.self g.B.SeenBelow c.args.below.now asked e
-    c.in-Err-home_run.ensures.keeps c.in-Err-home_run.ensures.failed
+    c.in_err-place.ensures.keeps c.in_err-place.ensures.failed
     (λ safe under d call begun part same.
     part-why g.row.S st g.S.Storage-dict g.S.Destruct-dict c.args.self.now c.home_run.new.self g.B.SeenBelow c.args.below.now asked e safe.runs
-    (c.in-Err-home_run.ensures.cause safe.seen) safe d call)
+    (c.in_err-place.ensures.cause safe.seen) safe d call))
 
-pub returns-in-Ok-Some-clause-does : goal.returns-in-Ok-Some-clause-does
-returns-in-Ok-Some-clause-does g c =
+pub returns-in-Some-clause-does : goal.returns-in-Some-clause-does
+returns-in-Some-clause-does g c =
     let st = g.S.Storage in
     let asked = asking c.args.offset c.args.length c.args.overwrite in
-    let is = c.in-Ok-Some.field-0-is in
-    let all = c.in-Ok-Some.ensures in
-    rw c.existing-in-Ok-Some.ensures (prepares-mapped g.row.S st g.S.Storage-dict g.S.Destruct-dict c.args.self.now c.home_run.new.self g.B.SeenBelow c.args.below.now asked
-    c.in-Ok-Some.place c.in-Ok-Some.count (rw is at all.keeps) c.requires.free c.in-Ok.ensures.inside (omega (arith, c.if-length-eq0.false)) (rw is at all.run) (λ seen. rw is at (all.home seen)) (λ seen. rw is at (all.whole c.requires.free seen)))
+    let is = c.in-Some.is in
+    let all = c.in_ok-place.ensures in
+    rw c.existing-in-Some.ensures (prepares-mapped g.row.S st g.S.Storage-dict g.S.Destruct-dict c.args.self.now c.home_run.new.self
+    g.B.SeenBelow c.args.below.now asked
+    c.in-Some.place c.in-Some.count (rw is at all.keeps) c.requires.free c.in-Ok.ensures.inside
+    (omega (arith, c.if-length-eq0.false)) (rw is at all.run) (λ seen. rw is at (all.home seen))
+    (λ seen. rw is at (all.whole c.requires.free seen)))
 
 pub prepare_fresh-requires-clause-free : goal.prepare_fresh-requires-clause-free
-prepare_fresh-requires-clause-free g c = c.in-Ok-None.ensures.keeps.unspent ∙ unspent-none g.S.Storage c.args.self.now.unspent c.requires.free
+prepare_fresh-requires-clause-free g c = c.in_ok-place.ensures.keeps.unspent ∙ unspent-none g.S.Storage c.args.self.now.unspent
+    c.requires.free
 
-pub returns-in-Ok-None-clause-run : goal.returns-in-Ok-None-clause-run
-returns-in-Ok-None-clause-run g c =
+pub returns-in-None-clause-run : goal.returns-in-None-clause-run
+returns-in-None-clause-run g c =
     let st = g.S.Storage in
     let asked = asking c.args.offset c.args.length c.args.overwrite in
     let u = g.B.SeenBelow in
     let x = c.args.below.now in
     let y = c.prepare_fresh.new.below in
-    let looked = rw c.in-Ok-None.field-0-is at c.in-Ok-None.ensures.keeps in
+    let looked = rw c.in-None.is at c.in_ok-place.ensures.keeps in
     let fresh = prepared-behind st {T = Option (ℕ × ℕ)} u asked c.args.self.now c.home_run.new.self x None looked c.prepare_fresh.result c.prepare_fresh.new.self y c.prepare_fresh.ensures in
-    fresh-run g.row.S st g.S.Storage-dict g.S.Destruct-dict u asked c.args.self.now c.prepare_fresh.new.self x y c.prepare_fresh.result (omega (arith, c.if-length-eq0.false)) c.in-Ok.ensures.inside fresh
+    fresh-run g.row.S st g.S.Storage-dict g.S.Destruct-dict u asked c.args.self.now c.prepare_fresh.new.self x y c.prepare_fresh.result
+    (omega (arith, c.if-length-eq0.false)) c.in-Ok.ensures.inside fresh
 
-pub returns-in-Ok-None-clause-mine : goal.returns-in-Ok-None-clause-mine
-returns-in-Ok-None-clause-mine g c =
+pub returns-in-None-clause-mine : goal.returns-in-None-clause-mine
+returns-in-None-clause-mine g c =
     let st = g.S.Storage in
     let asked = asking c.args.offset c.args.length c.args.overwrite in
     let u = g.B.SeenBelow in
     let x = c.args.below.now in
     let y = c.prepare_fresh.new.below in
-    let looked = rw c.in-Ok-None.field-0-is at c.in-Ok-None.ensures.keeps in
+    let looked = rw c.in-None.is at c.in_ok-place.ensures.keeps in
     let fresh = prepared-behind st {T = Option (ℕ × ℕ)} u asked c.args.self.now c.home_run.new.self x None looked c.prepare_fresh.result c.prepare_fresh.new.self y c.prepare_fresh.ensures in
     fresh-mine g.row.S st g.S.Storage-dict g.S.Destruct-dict u asked c.args.self.now c.prepare_fresh.new.self x y c.prepare_fresh.result fresh
 
-pub returns-in-Ok-None-clause-size : goal.returns-in-Ok-None-clause-size
-returns-in-Ok-None-clause-size g c =
+pub returns-in-None-clause-size : goal.returns-in-None-clause-size
+returns-in-None-clause-size g c =
     let st = g.S.Storage in
     let asked = asking c.args.offset c.args.length c.args.overwrite in
     let u = g.B.SeenBelow in
     let x = c.args.below.now in
     let y = c.prepare_fresh.new.below in
-    let looked = rw c.in-Ok-None.field-0-is at c.in-Ok-None.ensures.keeps in
+    let looked = rw c.in-None.is at c.in_ok-place.ensures.keeps in
     let fresh = prepared-behind st {T = Option (ℕ × ℕ)} u asked c.args.self.now c.home_run.new.self x None looked c.prepare_fresh.result c.prepare_fresh.new.self y c.prepare_fresh.ensures in
     fresh-size g.row.S st g.S.Storage-dict g.S.Destruct-dict u asked c.args.self.now c.prepare_fresh.new.self x y c.prepare_fresh.result fresh
 
-pub returns-in-Ok-None-clause-free : goal.returns-in-Ok-None-clause-free
-returns-in-Ok-None-clause-free g c =
+pub returns-in-None-clause-free : goal.returns-in-None-clause-free
+returns-in-None-clause-free g c =
     let st = g.S.Storage in
     let asked = asking c.args.offset c.args.length c.args.overwrite in
     let u = g.B.SeenBelow in
     let x = c.args.below.now in
     let y = c.prepare_fresh.new.below in
-    let looked = rw c.in-Ok-None.field-0-is at c.in-Ok-None.ensures.keeps in
+    let looked = rw c.in-None.is at c.in_ok-place.ensures.keeps in
     let fresh = prepared-behind st {T = Option (ℕ × ℕ)} u asked c.args.self.now c.home_run.new.self x None looked c.prepare_fresh.result c.prepare_fresh.new.self y c.prepare_fresh.ensures in
     fresh-free g.row.S st g.S.Storage-dict g.S.Destruct-dict u asked c.args.self.now c.prepare_fresh.new.self x y c.prepare_fresh.result c.requires.free fresh
 
-pub returns-in-Ok-None-clause-does : goal.returns-in-Ok-None-clause-does
-returns-in-Ok-None-clause-does g c =
+pub returns-in-None-clause-does : goal.returns-in-None-clause-does
+returns-in-None-clause-does g c =
     let st = g.S.Storage in
     let asked = asking c.args.offset c.args.length c.args.overwrite in
     let u = g.B.SeenBelow in
     let x = c.args.below.now in
     let y = c.prepare_fresh.new.below in
-    let looked = rw c.in-Ok-None.field-0-is at c.in-Ok-None.ensures.keeps in
+    let looked = rw c.in-None.is at c.in_ok-place.ensures.keeps in
     let fresh = prepared-behind st {T = Option (ℕ × ℕ)} u asked c.args.self.now c.home_run.new.self x None looked c.prepare_fresh.result c.prepare_fresh.new.self y c.prepare_fresh.ensures in
     prepares-fresh g.row.S st g.S.Storage-dict g.S.Destruct-dict u asked c.args.self.now c.prepare_fresh.new.self x y c.prepare_fresh.result c.requires.free (omega (arith, c.if-length-eq0.false))
-    (λ seen. c.in-Ok-None.ensures.none seen c.in-Ok-None.field-0-is) c.in-Ok.ensures.inside c.in-Ok.ensures.writable fresh
+    (λ seen. c.in_ok-place.ensures.none seen c.in-None.is) c.in-Ok.ensures.inside c.in-Ok.ensures.writable fresh
 
-pub returns-in-Ok-None-clause-below : goal.returns-in-Ok-None-clause-below
-returns-in-Ok-None-clause-below g c = c.prepare_fresh.ensures.prepares.below
+pub returns-in-None-clause-below : goal.returns-in-None-clause-below
+returns-in-None-clause-below g c = c.prepare_fresh.ensures.prepares.below
 
-pub returns-in-Ok-None-clause-whole : goal.returns-in-Ok-None-clause-whole
-returns-in-Ok-None-clause-whole g c =
+pub returns-in-None-clause-whole : goal.returns-in-None-clause-whole
+returns-in-None-clause-whole g c =
     let st = g.S.Storage in
     let asked = asking c.args.offset c.args.length c.args.overwrite in
     let u = g.B.SeenBelow in
     let x = c.args.below.now in
     let y = c.prepare_fresh.new.below in
-    let looked = rw c.in-Ok-None.field-0-is at c.in-Ok-None.ensures.keeps in
+    let looked = rw c.in-None.is at c.in_ok-place.ensures.keeps in
     let fresh = prepared-behind st {T = Option (ℕ × ℕ)} u asked c.args.self.now c.home_run.new.self x None looked c.prepare_fresh.result c.prepare_fresh.new.self y c.prepare_fresh.ensures in
     λ sees. fresh-whole g.row.S st g.S.Storage-dict g.S.Destruct-dict u asked c.args.self.now c.prepare_fresh.new.self x y c.prepare_fresh.result (λ m. IsWholeRunIn st c.args.self.now.tables c.args.offset c.args.length m.length) fresh
 
-pub returns-in-Ok-None-clause-part : goal.returns-in-Ok-None-clause-part
-returns-in-Ok-None-clause-part g c =
+pub returns-in-None-clause-part : goal.returns-in-None-clause-part
+returns-in-None-clause-part g c =
     let st = g.S.Storage in
     let asked = asking c.args.offset c.args.length c.args.overwrite in
     let u = g.B.SeenBelow in
     let x = c.args.below.now in
     let y = c.prepare_fresh.new.below in
-    let looked = rw c.in-Ok-None.field-0-is at c.in-Ok-None.ensures.keeps in
+    let looked = rw c.in-None.is at c.in_ok-place.ensures.keeps in
     let fresh = prepared-behind st {T = Option (ℕ × ℕ)} u asked c.args.self.now c.home_run.new.self x None looked c.prepare_fresh.result c.prepare_fresh.new.self y c.prepare_fresh.ensures in
     fresh-cut g.row.S st g.S.Storage-dict g.S.Destruct-dict u asked c.args.self.now c.prepare_fresh.new.self x y c.prepare_fresh.result fresh
 
-pub returns-in-Ok-None-clause-reaches : goal.returns-in-Ok-None-clause-reaches
-returns-in-Ok-None-clause-reaches g c =
+pub returns-in-None-clause-reaches : goal.returns-in-None-clause-reaches
+returns-in-None-clause-reaches g c =
     let st = g.S.Storage in
     let asked = asking c.args.offset c.args.length c.args.overwrite in
     let u = g.B.SeenBelow in
     let x = c.args.below.now in
     let y = c.prepare_fresh.new.below in
-    let looked = rw c.in-Ok-None.field-0-is at c.in-Ok-None.ensures.keeps in
+    let looked = rw c.in-None.is at c.in_ok-place.ensures.keeps in
     let fresh = prepared-behind st {T = Option (ℕ × ℕ)} u asked c.args.self.now c.home_run.new.self x None looked c.prepare_fresh.result c.prepare_fresh.new.self y c.prepare_fresh.ensures in
     fresh-reaches g.row.S st g.S.Storage-dict g.S.Destruct-dict u asked c.args.self.now c.prepare_fresh.new.self x y c.prepare_fresh.result fresh
 
-pub returns-in-Ok-None-clause-limit : goal.returns-in-Ok-None-clause-limit
-returns-in-Ok-None-clause-limit g c = λ sees. limit-where c.prepare_fresh.result ((layer_of g.S.Storage c.args.self.now).home c.args.offset ≡ None)
-    (c.in-Ok-None.ensures.none sees.seen c.in-Ok-None.field-0-is)
+pub returns-in-None-clause-limit : goal.returns-in-None-clause-limit
+returns-in-None-clause-limit g c = λ sees. limit-where c.prepare_fresh.result
+    ((layer_of g.S.Storage c.args.self.now).home c.args.offset ≡ None)
+    (c.in_ok-place.ensures.none sees.seen c.in-None.is)
 
-pub returns-in-Ok-None-clause-full : goal.returns-in-Ok-None-clause-full
-returns-in-Ok-None-clause-full g c =
+pub returns-in-None-clause-full : goal.returns-in-None-clause-full
+returns-in-None-clause-full g c =
     let st = g.S.Storage in
     let asked = asking c.args.offset c.args.length c.args.overwrite in
     let u = g.B.SeenBelow in
     let x = c.args.below.now in
     let y = c.prepare_fresh.new.below in
-    let looked = rw c.in-Ok-None.field-0-is at c.in-Ok-None.ensures.keeps in
+    let looked = rw c.in-None.is at c.in_ok-place.ensures.keeps in
     let fresh = prepared-behind st {T = Option (ℕ × ℕ)} u asked c.args.self.now c.home_run.new.self x None looked c.prepare_fresh.result c.prepare_fresh.new.self y c.prepare_fresh.ensures in
     λ safe under. fresh-lacks st u asked fresh.n c.args.self.now c.prepare_fresh.new.self x y c.prepare_fresh.result fresh.prepares safe under
 
-pub returns-in-Err-home_run-clause-leaks : goal.returns-in-Err-home_run-clause-leaks
-returns-in-Err-home_run-clause-leaks g c = λ safe whole. leaks-kept g.S.Storage {T = Option (ℕ × ℕ)} c.args.self.now c.home_run.new.self
-    (Err c.in-Err-home_run.fault) c.in-Err-home_run.ensures.keeps
+pub returns-in_err-place-clause-leaks : goal.returns-in_err-place-clause-leaks
+returns-in_err-place-clause-leaks g c = rw (handed-on _ _ c.from_residual.ensures.1)
+    (λ safe whole. leaks-kept g.S.Storage {T = Option (ℕ × ℕ)} c.args.self.now c.home_run.new.self
+    (Err c.in_err-place.field-0.0) c.in_err-place.ensures.keeps)
 
-pub returns-in-Ok-Some-clause-leaks : goal.returns-in-Ok-Some-clause-leaks
-returns-in-Ok-Some-clause-leaks g c = λ safe whole. leaks-kept g.S.Storage {T = Option (ℕ × ℕ)} c.args.self.now c.home_run.new.self
-    (Ok c.in-Ok-Some.field-0) c.in-Ok-Some.ensures.keeps
+pub returns-in-Some-clause-leaks : goal.returns-in-Some-clause-leaks
+returns-in-Some-clause-leaks g c = λ safe whole. leaks-kept g.S.Storage {T = Option (ℕ × ℕ)} c.args.self.now c.home_run.new.self
+    (Ok c.in_ok-place.field-0) c.in_ok-place.ensures.keeps
 
-pub returns-in-Ok-None-clause-leaks : goal.returns-in-Ok-None-clause-leaks
-returns-in-Ok-None-clause-leaks g c =
+pub returns-in-None-clause-leaks : goal.returns-in-None-clause-leaks
+returns-in-None-clause-leaks g c =
     let st = g.S.Storage in
     let asked = asking c.args.offset c.args.length c.args.overwrite in
     let u = g.B.SeenBelow in
     let x = c.args.below.now in
     let y = c.prepare_fresh.new.below in
-    let looked = rw c.in-Ok-None.field-0-is at c.in-Ok-None.ensures.keeps in
+    let looked = rw c.in-None.is at c.in_ok-place.ensures.keeps in
     let fresh = prepared-behind st {T = Option (ℕ × ℕ)} u asked c.args.self.now c.home_run.new.self x None looked c.prepare_fresh.result c.prepare_fresh.new.self y c.prepare_fresh.ensures in
     λ safe whole. fresh.prepares.leaks safe (unspent-none st c.args.self.now.unspent c.requires.free) whole

@@ -2,17 +2,20 @@ use Rattle.std.proofs.Common.{◌≡◌, ◌∙◌, ◌/◌, ap}
 use Rattle.qcow2_types.specs.Places.{l2_entries}
 use Rattle.qcow2_types.specs.Header.{words_of_cluster}
 use Rattle.qcow2_image.proofs.ClusterSteps.{table-behind-word, table-wordless}
+use Rattle.qcow2_alloc.proofs.Faults.{handed-on}
 use Rattle.qcow2_image.proofs.qcow2.Qcow2.ensure_table.Goals as goal
 
-pub returns-in-Ok : goal.returns-in-Ok
-returns-in-Ok g c =
+pub returns : goal.returns
+returns g c =
     let index : c.l1_index-index.result ≡ c.args.guest / words_of_cluster c.args.self.now.tables.file.header.fields =
     c.l1_index-index.ensures ∙ ap (λ b. c.args.guest / l2_entries b) c.cluster_bits.ensures.value in
-    table-behind-word g.S.Storage c.args.guest c.l1_index-index.result c.args.self.now c.ensure_word.new.self c.own_table.new.self index c.in-Ok.ensures
+    table-behind-word g.S.Storage c.args.guest c.l1_index-index.result c.args.self.now c.ensure_word.new.self c.own_table.new.self index
+    c.in_ok-ensure_word.ensures
     c.own_table.result c.own_table.ensures
 
-pub returns-in-Err : goal.returns-in-Err
-returns-in-Err g c =
+pub returns-in_err-ensure_word : goal.returns-in_err-ensure_word
+returns-in_err-ensure_word g c = rw (handed-on _ _ c.from_residual.ensures.1) (
     let index : c.l1_index-index.result ≡ c.args.guest / words_of_cluster c.args.self.now.tables.file.header.fields =
     c.l1_index-index.ensures ∙ ap (λ b. c.args.guest / l2_entries b) c.cluster_bits.ensures.value in
-    table-wordless g.S.Storage c.args.guest c.l1_index-index.result c.args.self.now c.ensure_word.new.self index c.in-Err.fault c.in-Err.ensures
+    table-wordless g.S.Storage c.args.guest c.l1_index-index.result c.args.self.now c.ensure_word.new.self index
+    c.in_err-ensure_word.field-0.0 c.in_err-ensure_word.ensures)

@@ -29,7 +29,7 @@ returns g c =
     (ap (λ (x : Qcow2 g.row.S.Denot g.S.Storage). x.number) is) (ap (λ (x : Qcow2 g.row.S.Denot g.S.Storage). x.unspent) is)
     answer c.flush-answer.ensures.faults failed in
     subst (λ (r : Result Unit Fault). FlushesFreed g.S.Storage q r d) (sym same)
-    (flushes-freed g.S.Storage q m d answer (rw c.in-Ok.is at c.free_pending.ensures) keeps
+    (flushes-freed g.S.Storage q m d answer (rw c.in_ok-free_pending.was at c.free_pending.ensures) keeps
     (leaks-asked g.S.Storage m d t c.flush-answer.ensures.kept state (ap (λ (x : Qcow2 g.row.S.Denot g.S.Storage). x.tables.file.header) is)
     (ap (λ (x : Qcow2 g.row.S.Denot g.S.Storage). x.tables.space) is) (ap (λ (x : Qcow2 g.row.S.Denot g.S.Storage). x.unspent) is))
     (subst (λ (u : StorageState). CountsFaults (g.S.Storage.state m.tables.file.image).faults u.faults answer) (sym state) c.flush-answer.ensures.faults) failed

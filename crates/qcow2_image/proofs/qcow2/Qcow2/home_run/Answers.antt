@@ -9,18 +9,20 @@ pub returns-in-None-clause-home : goal.returns-in-None-clause-home
 returns-in-None-clause-home g c = λ seen.
     let st = g.S.Storage in
     let old = c.args.self.now in
-    let keeps = c.in-Ok.ensures.keeps in
-    let run = c.in-Ok.run' in
-    let held = subst (λ u. HoldsRun (holding_in st u) c.args.offset run.1 c.held_run.result) keeps.unspent c.held_run.ensures.run in
-    held-goes-on (holding_in st old.unspent) (homes_of st old) c.args.offset run.1 c.held_run.result held
-    (words-none st old c.args.offset c.args.length run.1 run.0 (c.in-Ok.ensures.entry seen) (sym c.writable_place.ensures ∙ c.in-None.is) (c.in-Ok.ensures.whole seen))
+    let keeps = c.in_ok-mapping.ensures.keeps in
+    let held = subst (λ u. HoldsRun (holding_in st u) c.args.offset c.in_ok-mapping.count c.held_run.result) keeps.unspent
+    c.held_run.ensures.run in
+    held-goes-on (holding_in st old.unspent) (homes_of st old) c.args.offset c.in_ok-mapping.count c.held_run.result held
+    (words-none st old c.args.offset c.args.length c.in_ok-mapping.count c.in_ok-mapping.mapping (c.in_ok-mapping.ensures.entry seen)
+    (sym c.writable_place.ensures ∙ c.in-None.is) (c.in_ok-mapping.ensures.whole seen))
 
 pub returns-in-None-clause-none : goal.returns-in-None-clause-none
 returns-in-None-clause-none g c = λ seen nowhere.
     let st = g.S.Storage in
     let old = c.args.self.now in
-    let keeps = c.in-Ok.ensures.keeps in
-    let run = c.in-Ok.run' in
-    let held = subst (λ u. HoldsRun (holding_in st u) c.args.offset run.1 c.held_run.result) keeps.unspent c.held_run.ensures.run in
-    held-nowhere (holding_in st old.unspent) (homes_of st old) c.args.offset run.1 c.held_run.result held
-    (word-none st old c.args.offset c.args.length run.1 run.0 (c.in-Ok.ensures.entry seen) (sym c.writable_place.ensures ∙ c.in-None.is)) nowhere
+    let keeps = c.in_ok-mapping.ensures.keeps in
+    let held = subst (λ u. HoldsRun (holding_in st u) c.args.offset c.in_ok-mapping.count c.held_run.result) keeps.unspent
+    c.held_run.ensures.run in
+    held-nowhere (holding_in st old.unspent) (homes_of st old) c.args.offset c.in_ok-mapping.count c.held_run.result held
+    (word-none st old c.args.offset c.args.length c.in_ok-mapping.count c.in_ok-mapping.mapping (c.in_ok-mapping.ensures.entry seen)
+    (sym c.writable_place.ensures ∙ c.in-None.is)) nowhere

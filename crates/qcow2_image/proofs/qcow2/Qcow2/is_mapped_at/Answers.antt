@@ -6,14 +6,15 @@ use Rattle.qcow2_image.specs.Writing.{IsHomeAt}
 use Rattle.qcow2_image.specs.Seen.{layer_of}
 use Rattle.qcow2_image.proofs.Mapped.{home-both, homeless-unmapped, elsewhere-unmapped, kept-seen, why-told}
 use Rattle.qcow2_image.proofs.Steps.{keeps-as, keeps-both}
+use Rattle.qcow2_alloc.proofs.Faults.{handed-on}
 use Rattle.qcow2_image.proofs.qcow2.Qcow2.is_mapped_at.Goals as goal
 
 pub loop-done-preserved : goal.loop-done-preserved
 loop-done-preserved g c =
     let st = g.S.Storage in
     let inv = c.loop-done.invariant in
-    let next = c.in-Ok-Some.ensures in
-    let is = c.in-Ok-Some.field-0-is in
+    let next = c.in_ok-at.ensures in
+    let is = c.in-Some.is in
     let run = rw is at next.run in
     let near = rw is at next.near in
     let keeps = rw is at next.keeps in
@@ -22,37 +23,41 @@ loop-done-preserved g c =
       omega (arith, run.0, c.loop-done-test.true),
       λ some. omega (arith, near, c.if-at-place.false),
       keeps-both {T = Unit} st entry now c.home_run.new.self (Ok tt) inv.2
-          (keeps-as {T = Option (ℕ × ℕ)} {U = Unit} st now c.home_run.new.self (Ok (Some (c.in-Ok-Some.at, c.in-Ok-Some.count))) (Ok tt) (λ w. w) (λ f. refl) keeps),
+          (keeps-as {T = Option (ℕ × ℕ)} {U = Unit} st now c.home_run.new.self (Ok (Some (c.in-Some.at, c.in-Some.count))) (Ok tt) (λ w. w)
+          (λ f. refl) keeps),
       λ seen.
           let same = kept-seen st entry now inv.2 seen in
-          home-both (layer_of st entry) c.args.guest c.args.place c.loop-done.done c.in-Ok-Some.count c.in-Ok-Some.at (omega (arith, c.if-at-place.false)) (inv.3 seen)
-          (subst (λ (l : Layer). IsHomeAt l (c.args.guest + c.loop-done.done) c.in-Ok-Some.at c.in-Ok-Some.count) same.0 (rw is at (next.home same.1))),
+          home-both (layer_of st entry) c.args.guest c.args.place c.loop-done.done c.in-Some.count c.in-Some.at
+          (omega (arith, c.if-at-place.false)) (inv.3 seen)
+          (subst (λ (l : Layer). IsHomeAt l (c.args.guest + c.loop-done.done) c.in-Some.at c.in-Some.count) same.0
+          (rw is at (next.home same.1))),
     )
 
-pub returns-in-Ok-None-clause-no : goal.returns-in-Ok-None-clause-no
-returns-in-Ok-None-clause-no g c = λ seen no.
+pub returns-in-None-clause-no : goal.returns-in-None-clause-no
+returns-in-None-clause-no g c = λ seen no.
     let st = g.S.Storage in
     let entry = c.args.self.now in
     let same = kept-seen st entry c.loop-done.self c.loop-done.invariant.2 seen in
     homeless-unmapped (layer_of st entry) c.args.guest c.args.place c.args.length c.loop-done.done c.loop-done-test.true
-    (subst (λ (l : Layer). l.home (c.args.guest + c.loop-done.done) ≡ None) same.0 (c.in-Ok-None.ensures.none same.1 c.in-Ok-None.field-0-is))
+    (subst (λ (l : Layer). l.home (c.args.guest + c.loop-done.done) ≡ None) same.0 (c.in_ok-at.ensures.none same.1 c.in-None.is))
 
 pub returns-then-at-place-clause-no : goal.returns-then-at-place-clause-no
 returns-then-at-place-clause-no g c = λ seen no.
     let st = g.S.Storage in
     let entry = c.args.self.now in
     let done = c.loop-done.done in
-    let at = c.in-Ok-Some.at in
+    let at = c.in-Some.at in
     let same = kept-seen st entry c.loop-done.self c.loop-done.invariant.2 seen in
-    let some : 0 < c.in-Ok-Some.count = (rw c.in-Ok-Some.field-0-is at c.in-Ok-Some.ensures.run).1 (omega (arith, c.loop-done-test.true)) in
+    let some : 0 < c.in-Some.count = (rw c.in-Some.is at c.in_ok-at.ensures.run).1 (omega (arith, c.loop-done-test.true)) in
     let here : (layer_of st entry).home (c.args.guest + done + 0) ≡ Some (0, at + 0) =
-    subst (λ (l : Layer). l.home (c.args.guest + done + 0) ≡ Some (0, at + 0)) same.0 ((rw c.in-Ok-Some.field-0-is at (c.in-Ok-Some.ensures.home same.1)) 0 some) in
+    subst (λ (l : Layer). l.home (c.args.guest + done + 0) ≡ Some (0, at + 0)) same.0
+    ((rw c.in-Some.is at (c.in_ok-at.ensures.home same.1)) 0 some) in
     let home : (layer_of st entry).home (c.args.guest + done) ≡ Some (0, at) = subst (λ x. (layer_of st entry).home (c.args.guest + done) ≡ Some (0, x)) (omega arith)
     (subst (λ x. (layer_of st entry).home x ≡ Some (0, at + 0)) (omega arith) here) in
     elsewhere-unmapped (layer_of st entry) c.args.guest c.args.place c.args.length done at c.loop-done-test.true home c.if-at-place.true
 
-pub returns-in-Err : goal.returns-in-Err
-returns-in-Err g c =
+pub returns-in_err-at : goal.returns-in_err-at
+returns-in_err-at g c = rw (handed-on _ _ c.from_residual.ensures.1) (
     let st = g.S.Storage in
     let inv = c.loop-done.invariant in
     let entry = c.args.self.now in
@@ -61,12 +66,15 @@ returns-in-Err g c =
       yes = λ seen. tt;
       no = λ seen. tt;
       near = tt;
-      keeps = keeps-both {T = Bool} st entry now new (Err c.in-Err.fault) inv.2
-          (keeps-as {T = Option (ℕ × ℕ)} {U = Bool} st now new (Err c.in-Err.fault) (Err c.in-Err.fault) (λ w. w) (λ f. refl) c.in-Err.ensures.keeps);
-      failed = failed_behind (st.state entry.tables.file.image ∷ []) (st.state now.tables.file.image ∷ []) (st.state new.tables.file.image ∷ []) c.in-Err.fault
-          ((inv.2.tables.kept.shape, inv.2.tables.later), tt) c.in-Err.ensures.failed;
+      keeps = keeps-both {T = Bool} st entry now new (Err c.in_err-at.field-0.0) inv.2
+          (keeps-as {T = Option (ℕ × ℕ)} {U = Bool} st now new (Err c.in_err-at.field-0.0) (Err c.in_err-at.field-0.0) (λ w. w) (λ f. refl)
+          c.in_err-at.ensures.keeps);
+      failed = failed_behind (st.state entry.tables.file.image ∷ []) (st.state now.tables.file.image ∷ [])
+          (st.state new.tables.file.image ∷ []) c.in_err-at.field-0.0
+          ((inv.2.tables.kept.shape, inv.2.tables.later), tt) c.in_err-at.ensures.failed;
       cause = λ seen.
           let same = kept-seen st entry now inv.2 seen in
-          why-told st entry now new (c.args.guest + c.loop-done.done) (c.args.length - c.loop-done.done) c.in-Err.fault same.0 (inv.2.failed ∙ c.requires.runs)
-          (inv.2.tables.faults tt).0 (c.in-Err.ensures.cause same.1);
-    }
+          why-told st entry now new (c.args.guest + c.loop-done.done) (c.args.length - c.loop-done.done) c.in_err-at.field-0.0 same.0
+          (inv.2.failed ∙ c.requires.runs)
+          (inv.2.tables.faults tt).0 (c.in_err-at.ensures.cause same.1);
+    })
