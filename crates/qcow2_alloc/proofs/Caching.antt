@@ -10,6 +10,7 @@ pub mod Sides
 pub mod Readying
 pub mod Searching
 pub mod LettingIn
+pub mod Lengths
 pub mod Staying
 pub mod Inserting
 pub mod PuttingEntries

@@ -14,7 +14,7 @@ use Rattle.qcow2_alloc.specs.Allocators.{named_block}
 use Rattle.qcow2_alloc.specs.Caches.{cached_in, KeepsTables}
 use Rattle.qcow2_alloc.specs.Finding.{pinned_among, pinned_in, PinsNothing}
 use Rattle.qcow2_alloc.specs.FreeList.{entry_at, listed, shortened}
-use Rattle.qcow2_alloc.specs.Going.{WasNotCutOff}
+use Rattle.qcow2_alloc.specs.Going.{IsNoShorter, WasNotCutOff}
 use Rattle.qcow2_alloc.specs.Quiet.{Metadata, Quietly, counted, metadata_in}
 use Rattle.qcow2_alloc.specs.Safety.{IsCalm}
 use Rattle.qcow2_alloc.specs.State.{ImageState, metadata, IsKept, WhereKept}
@@ -81,6 +81,8 @@ pub record Frees {S : Type 0} (state : S → StorageState) (mark : ℕ) (s : Ima
   pub lower : mark' ≤ mark
   pub fallen : (mark' ≡ mark) ⊎ (listed s'.pending mark' < listed s.pending mark')
   pub header : s'.file.header ≡ s.file.header
+  -- Whatever it answers, the file gets no shorter.
+  pub no_shorter : IsNoShorter (state s.file.image) (state s'.file.image)
   pub pins : PinsNothing (cached_in s.caches).blocks (cached_in s'.caches).blocks
   pub room : KeepsTables s.caches s'.caches
   pub less : (c : ℕ) → listed s'.pending c ≤ listed s.pending c

@@ -1,5 +1,5 @@
 -- What writes of cached tables and blocks do to the image file and to what is cached.
-use Rattle.std.specs.Prelude.{◌≡◌, ◌⊎◌, ℕ, ⊤, IsTrue, true, Result, IsErr, Ok, Err, MatchResult}
+use Rattle.std.specs.Prelude.{◌≡◌, ◌⊎◌, ◌≤◌, ℕ, ⊤, IsTrue, true, length, Result, IsErr, Ok, Err, MatchResult}
 use Rattle.std.specs.List.{AllByRecursion}
 use Rattle.imago_storage.specs.State.{StorageState, Rose}
 use Rattle.imago_storage.specs.Calls.{Later, IsFaultless}
@@ -98,6 +98,10 @@ BehindBlocks order = Behind (order ≡ L2DependsOnRb) WritesBlocks
 -- or tables, where these do.
 abbrev pub BehindTables : CacheDependency → CachedStep → CachedStep
 BehindTables order = Behind (order ≡ RbDependsOnL2) WritesTables
+
+-- The second file is no shorter than the first.
+abbrev pub IsNoShorter : StorageState → StorageState → Type 0
+IsNoShorter old new = length old.bytes ≤ length new.bytes
 
 -- neither want of memory nor a storage that failed
 abbrev pub IsMild : Fault → Type 0

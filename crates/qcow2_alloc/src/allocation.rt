@@ -223,7 +223,7 @@ impl Allocator {
     /// room for; with `Fault::Counter` where a cluster is counted 0 times, and with `Fault::DamagedTable` where no block counts it, which
     /// no sound image has. What wasn't counted down stays on the list, a part of an entry included; the list takes no memory. The file of
     /// a sound image shows the same at each stop; and a sound image stays sound, also where memory or the storage refused, if that tells
-    /// its stops and refused no change.
+    /// its stops and refused no change. Whatever it answers, the file gets no shorter.
     pub fn process_clusters_to_free<S: Storage>(
         &mut self,
         file: &mut ImageFile<S>,

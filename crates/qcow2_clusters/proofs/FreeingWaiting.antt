@@ -1,5 +1,5 @@
 -- What waits is freed, and that is settled.
-use Rattle.std.proofs.Common.{◌≡◌, ℕ, ◌≤◌, [], refl, subst, ◌∙◌, inl, inr, Result, Ok, Err}
+use Rattle.std.proofs.Common.{◌≡◌, ℕ, ◌≤◌, [], refl, arith, subst, ◌∙◌, inl, inr, Result, Ok, Err}
 use Rattle.std.specs.Prelude.{IfErr, OnOk}
 use Rattle.imago_storage.specs.State.{StorageState}
 use Rattle.imago_storage.specs.declared.fault.Fault.{Fault}
@@ -99,6 +99,7 @@ module _ {S : Type 0} (state : S → StorageState) (c : Clusters S) (empty : Are
     l1 = l1-kept state c result c' (λ _. 0) (λ _. 0) all-quietly;
     emptied = settled-ok state freed mid.file mid.caches result after new settles (mid.space.to_free.entries ≡ []) emptied;
     header = settles.header ∙ frees.header;
+    no_shorter = let first = frees.no_shorter in let second = settles.no_shorter in omega (arith, first, second);
     marked = marked-there;
     cause = settled-cause state freed mid.file mid.caches result after new settles (WhyNotFreed (IsReady state c) (storage state c).faults) (first-cause freed frees.cause) flush-cause;
   }

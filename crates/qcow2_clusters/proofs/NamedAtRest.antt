@@ -1,6 +1,6 @@
 -- How guest clusters in a row come to name clusters in a row that were reserved, or kept for them: the search of their table, their words,
 -- and what is written then.
-use Rattle.std.proofs.Common.{◌≡◌, ◌≢◌, ℕ, ◌+◌, ◌-◌, ◌*◌, ◌/◌, ◌%◌, ◌<◌, ◌≤◌, refl, arith, ap, sym, subst, ◌∙◌, true, List, Result, Ok, Err, inl, inr}
+use Rattle.std.proofs.Common.{◌≡◌, ◌≢◌, ℕ, ◌+◌, ◌-◌, ◌*◌, ◌/◌, ◌%◌, ◌<◌, ◌≤◌, refl, arith, ap, sym, subst, ◌∙◌, true, List, length, Result, Ok, Err, inl, inr}
 use Rattle.std.specs.Prelude.{⊤, ◌++◌, IfErr, IsTrue, OnOk}
 use Rattle.imago_storage.specs.State.{StorageState}
 use Rattle.imago_storage.specs.Calls.{IsFaultless, Later}
@@ -109,6 +109,7 @@ module _ {S : Type 0} (state : S → StorageState) (table guest x n : ℕ) (c c'
     pub later : Later s0 s1
     pub faults : WasNotCutOff done → IsFaultless s0 s1
     pub header : between.header ≡ c.file.header
+    pub long : length s1.bytes ≡ length s0.bytes
     pub room : HasRoomOf c.caches mid
     pub held : c'.space.to_free.held ≡ c.space.to_free.held
     pub reach : WasNotCutOff done → Ready → AreTablesInReach (cached_in mid) × AreBlocksInReach (cached_in mid)
@@ -154,6 +155,7 @@ module _ {S : Type 0} (state : S → StorageState) (table guest x n : ℕ) (c c'
         faults = settled-faultless state done between mid result c'.file c'.caches settles s0 begun.faults;
       };
       header = settles.header ∙ begun.header;
+      no_shorter = let first = begun.long in let second = settles.no_shorter in omega (arith, first, second);
       held = begun.held;
       l1 = λ able ready whole. begun.l1 (ready, able) (succeeded begun (ready, able) whole);
       marked = λ able ready whole. begun.marked (ready, able) (succeeded begun (ready, able) whole);
@@ -174,7 +176,12 @@ module _ {S : Type 0} (state : S → StorageState) (table guest x n : ℕ) (c c'
     abbrev found-as : MetadataCaches S → Metadata
     found-as caches = record m0 { file = bytes_of s1.bytes; cached = cached_in caches; order = order_of c.caches }
 
-    -- The search leaves the disk as it is.
+    -- The search only reads.
+    read-long : (answer : Result Unit Fault) (caches : MetadataCaches S) → TableFound state table c.caches c.file answer caches between
+        → length s1.bytes ≡ length s0.bytes
+    read-long answer caches found = ap (λ (l : List ℕ). length l) (only-read state table c.caches c.file rest answer caches between found).bytes
+
+    -- It leaves the disk as it is.
     searched : (answer : Result Unit Fault) (caches : MetadataCaches S) → TableFound state table c.caches c.file answer caches between
         → Quietly (WasNotCutOff answer) (λ _. 0) (λ _. 0) s0 m0 s1 (found-as caches)
     searched answer caches found =
@@ -214,6 +221,7 @@ module _ {S : Type 0} (state : S → StorageState) (table guest x n : ℕ) (c c'
         later = found.going.later;
         faults = λ whole. found.going.faults (subst WasNotCutOff is whole);
         header = found.others.1;
+        long = read-long (Err fault) mid found;
         room = found.room;
         held = held;
         reach = λ whole ready. subst (λ (k : Cached). AreTablesInReach k × AreBlocksInReach k) (sym (refused-empty state table c.caches c.file rest fault mid between found)) (tt, tt);
@@ -277,6 +285,7 @@ module _ {S : Type 0} (state : S → StorageState) (table guest x n : ℕ) (c c'
           later = u.found.going.later;
           faults = λ whole. u.found.going.faults tt;
           header = u.found.others.1;
+          long = read-long (Ok tt) u.mid u.found;
           room = room-same;
           held = held;
           reach = λ whole. absurd (subst WasNotCutOff is whole);
@@ -441,6 +450,7 @@ module _ {S : Type 0} (state : S → StorageState) (table guest x n : ℕ) (c c'
           later = u.found.going.later;
           faults = λ whole. u.found.going.faults tt;
           header = u.found.others.1;
+          long = read-long (Ok tt) u.mid u.found;
           room = room-same;
           held = held;
           reach = λ whole. set-reach;

@@ -1,5 +1,5 @@
 -- What is cached is written, and then dropped.
-use Rattle.std.proofs.Common.{◌≡◌, ℕ, refl, ap, sym, subst, ◌∙◌, List, [], ◌∷◌, Result, Ok, Err, inl, inr}
+use Rattle.std.proofs.Common.{◌≡◌, ℕ, refl, arith, ap, sym, subst, ◌∙◌, List, [], ◌∷◌, Result, Ok, Err, inl, inr}
 use Rattle.std.specs.Prelude.{⊤, IsTrue, OnOk, map}
 use Rattle.std.specs.List.{AllByRecursion}
 use Rattle.imago_storage.specs.Calls.{IsFaultless}
@@ -21,7 +21,7 @@ use Rattle.qcow2_alloc.specs.declared.file.ImageFile.{ImageFile}
 use Rattle.qcow2_alloc.specs.Allocators.{metadata_of}
 use Rattle.qcow2_alloc.specs.Cache.{kept_pinned}
 use Rattle.qcow2_alloc.specs.Caches.{HasRoomOf, cached_in}
-use Rattle.qcow2_alloc.specs.Going.{Always, AreBlocksInReach, AreTablesInReach, CountsWrites, Going, IsMild, WasNotCutOff, WhyNotWritten}
+use Rattle.qcow2_alloc.specs.Going.{Always, AreBlocksInReach, AreTablesInReach, CountsWrites, Going, IsMild, IsNoShorter, WasNotCutOff, WhyNotWritten}
 use Rattle.qcow2_alloc.specs.Memory.{Cached, memory, written_block, written_table}
 use Rattle.qcow2_alloc.specs.Quiet.{IsIn, IsQuiet, IsSound, Metadata, Quietly, counted}
 use Rattle.qcow2_alloc.specs.Safety.{AreBlocksClean, AreTablesClean, IsLeft, IsSettled, Safe}
@@ -150,6 +150,7 @@ module _ {S T : Type 0} (state : S → StorageState) (given : Result T Fault) (b
     empty = empty;
     room = room;
     header = refl;
+    no_shorter = omega arith;
     quiet = λ table pending.
         cut-quietly (WasNotCutOff given) (state before.image) (metadata_of state before old table pending) (at_rest (metadata_of state before old table pending)) cut;
     counts = λ table pending keeps sound whole. absurd (cut whole);
@@ -160,7 +161,8 @@ module _ {S T : Type 0} (state : S → StorageState) (given : Result T Fault) (b
   }
 
   -- and what wasn't once it was flushed:
-  module _ (whole : WasNotCutOff given) (after : ImageFile S) (cached' : Cached) (header : after.header ≡ before.header) where
+  module _ (whole : WasNotCutOff given) (after : ImageFile S) (cached' : Cached) (header : after.header ≡ before.header)
+      (long : IsNoShorter (state before.image) (state after.image)) where
     module _ (flushed : Result Unit Fault)
         (going : Going before.header old.order Always (flushed ≡ Ok tt) (state before.image) (cached_in old) (state after.image) cached')
         (counts : CountsWrites (AreTablesInReach (cached_in old) × AreBlocksInReach (cached_in old)) (state before.image).faults (state after.image).faults flushed)
@@ -188,6 +190,7 @@ module _ {S T : Type 0} (state : S → StorageState) (given : Result T Fault) (b
       empty = empty;
       room = room;
       header = header;
+      no_shorter = long;
       quiet = λ table pending.
           quietly-weaker ⊤ (WasNotCutOff given) (λ _. 0) (λ _. 0) (state before.image) (metadata_of state before old table pending) (state after.image)
           (at_rest (metadata_of state after old table pending)) (λ sound done. tt) (quietly-settled done_so going counts tables blocks table pending);
@@ -206,6 +209,7 @@ module _ {S T : Type 0} (state : S → StorageState) (given : Result T Fault) (b
       empty = empty;
       room = room;
       header = header;
+      no_shorter = long;
       quiet = quietly-settled (refused_so fault) going counts tt tt;
       counts = settled-counts (refused_so fault) going counts tt tt;
       faults = faultless;

@@ -3,7 +3,7 @@ use Rattle.std.specs.Prelude.{◌≡◌, [], ⊤, ℕ, Result, OnOk, IfErr}
 use Rattle.imago_storage.specs.State.{StorageState, Rose}
 use Rattle.imago_storage.specs.declared.fault.Fault.{Fault}
 use Rattle.imago_storage.specs.declared.fault.Fault.TheVariants.{Counter, DamagedTable, Memory, Storage}
-use Rattle.qcow2_alloc.specs.Going.{WasNotCutOff}
+use Rattle.qcow2_alloc.specs.Going.{IsNoShorter, WasNotCutOff}
 use Rattle.qcow2_clusters.specs.Progress.{Progresses, handing}
 use Rattle.qcow2_clusters.specs.Rest.{Clusters, IsReady, KeepsL1, resting, storage}
 use Rattle.qcow2_clusters.specs.Storing.{Rests}
@@ -17,7 +17,7 @@ WhyNotFreed ready before after DamagedTable = ready → ⊥
 WhyNotFreed ready before after Counter = ready → ⊥
 WhyNotFreed ready before after fault = ⊥
 
--- What waits is freed: the disk stays as it was.
+-- What waits is freed: the disk stays as it was. Whatever is answered, the file gets no shorter.
 pub record FreesWaiting {S : Type 0} (state : S → StorageState) (c : Clusters S) (result : Result Unit Fault)
     (c' : Clusters S) : Type 0 where
   pub progress : Progresses (WasNotCutOff result) (handing (λ _. 0) (λ _. 0)) (storage state c) (resting state c)
@@ -27,5 +27,6 @@ pub record FreesWaiting {S : Type 0} (state : S → StorageState) (c : Clusters 
   pub l1 : KeepsL1 state c result c'
   pub emptied : OnOk result (c'.space.to_free.entries ≡ [])
   pub header : c'.file.header ≡ c.file.header
+  pub no_shorter : IsNoShorter (storage state c) (storage state c')
   pub marked : KeepsMarked state c result c'
   pub cause : IfErr result (WhyNotFreed (IsReady state c) (storage state c).faults (storage state c').faults)

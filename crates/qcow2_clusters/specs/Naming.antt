@@ -13,6 +13,7 @@ use Rattle.qcow2_types.specs.Frames.{Same}
 use Rattle.qcow2_metadata.specs.Allocations.{Conserves, allocation_of, freed, holds, newly, replaced}
 use Rattle.qcow2_metadata.specs.Tables.{TableValue, mapping_in, with_word}
 use Rattle.qcow2_alloc.specs.FreeList.{FreeList}
+use Rattle.qcow2_alloc.specs.Going.{IsNoShorter}
 use Rattle.qcow2_alloc.specs.Quiet.{IsUsed, Metadata}
 use Rattle.qcow2_steps.specs.Data.{IsKeptFor}
 use Rattle.qcow2_steps.specs.Words.{GivesWord, IsOfWord, IsReserved}
@@ -120,13 +121,14 @@ WhyNotNamed ready before after DamagedTable = ready → ⊥
 WhyNotNamed ready before after fault = ⊥
 
 -- Each of n guest clusters in a row comes to name its own of n clusters in a row as its data, as copied. Their bytes stay what they were,
--- and so do those of each cluster that was used, what comes to wait too.
+-- and so do those of each cluster that was used, what comes to wait too. Whatever is answered, the file gets no shorter.
 pub record NamesRun {S : Type 0} (state : S → StorageState) (table guest x n : ℕ) (c : Clusters S) (result : Result Unit Fault)
     (c' : Clusters S) : Type 0 where
   pub progress : AreNameable n (resting state c) table guest x → Progresses (result ≡ Ok tt)
       (naming_run (resting state c) guest x n) (storage state c) (resting state c) (storage state c') (resting state c')
   pub rests : Rests state c result c'
   pub header : c'.file.header ≡ c.file.header
+  pub no_shorter : IsNoShorter (storage state c) (storage state c')
   pub held : c'.space.to_free.held ≡ c.space.to_free.held
   pub l1 : AreNameable n (resting state c) table guest x → KeepsL1 state c result c'
   pub marked : AreNameable n (resting state c) table guest x → KeepsMarked state c result c'

@@ -12,7 +12,7 @@ use Rattle.qcow2_alloc.specs.declared.cache.MetadataCaches.{MetadataCaches}
 use Rattle.qcow2_alloc.specs.declared.file.ImageFile.{ImageFile}
 use Rattle.qcow2_alloc.specs.Allocators.{metadata_of}
 use Rattle.qcow2_alloc.specs.Caches.{cached_in, HasRoomOf}
-use Rattle.qcow2_alloc.specs.Going.{AreBlocksInReach, AreTablesInReach, WasNotCutOff}
+use Rattle.qcow2_alloc.specs.Going.{AreBlocksInReach, AreTablesInReach, IsNoShorter, WasNotCutOff}
 use Rattle.qcow2_alloc.specs.Quiet.{IsSound, Metadata, Quietly, counted}
 use Rattle.qcow2_clusters.specs.Rest.{AreEmpty, nothing_cached}
 
@@ -33,12 +33,13 @@ WhyNotSettled reach before after DamagedTable = reach → ⊥
 WhyNotSettled reach before after fault = ⊥
 
 -- A change that was answered so ends: unless it was cut off, what is modified is written, and a fault of that takes the place of the
--- answer; then nothing is cached. The disk stays as it was, and each cluster is counted as often.
+-- answer; then nothing is cached. The disk stays as it was, each cluster is counted as often, and the file gets no shorter.
 pub record Settles {S T : Type 0} (state : S → StorageState) (given : Result T Fault) (before : ImageFile S) (old : MetadataCaches S)
     (result : Result T Fault) (after : ImageFile S) (new : MetadataCaches S) : Type 0 where
   pub empty : AreEmpty new
   pub room : HasRoomOf old new
   pub header : after.header ≡ before.header
+  pub no_shorter : IsNoShorter (state before.image) (state after.image)
   pub quiet : (table : TableValue) (pending : List FreeEntry) → Quietly (WasNotCutOff result) (λ _. 0) (λ _. 0) (state before.image)
       (metadata_of state before old table pending) (state after.image) (at_rest (metadata_of state after old table pending))
   pub counts : (table : TableValue) (pending : List FreeEntry) → IsTrue (state before.image).shape.keeps

@@ -10,7 +10,7 @@ use qcow2_alloc::{ImageFile, MetadataCaches};
 /// Counts down what waits to be freed, and writes what that changed. Nothing may be cached before, and nothing is then.
 ///
 /// It refuses with `Fault::Memory` and `Fault::Storage`, and with `Fault::Counter` and `Fault::DamagedTable`, which no sound image has.
-/// Unless it was cut off, what wasn't counted down stays on the list.
+/// Unless it was cut off, what wasn't counted down stays on the list. Whatever it answers, the file gets no shorter.
 pub fn free_waiting<S: Storage>(
     file: &mut ImageFile<S>,
     caches: &mut MetadataCaches<S>,

@@ -128,7 +128,7 @@ fn name_in_table<S: Storage>(
 /// It refuses with `Fault::Memory` and `Fault::Storage`, and with `Fault::DamagedTable` where the table has a word without meaning, or is
 /// out of reach, which no sound image has. A refusal leaves a file in which each place shows what it did or, in these guest clusters, the
 /// bytes of the host clusters. Room that was held stays held. Which words name them, and what waits to be freed, is open then, so that
-/// nothing may be changed before the image is opened anew.
+/// nothing may be changed before the image is opened anew. Whatever it answers, the file gets no shorter.
 pub fn name_run<S: Storage>(
     file: &mut ImageFile<S>,
     caches: &mut MetadataCaches<S>,

@@ -842,7 +842,7 @@ if-each (Some a) P each = each a
 
 -- Nothing waited to be freed.
 pub none-freed : {S : Type 0} (g : Ghosts S) (d : Qcow2 S g) → waits_in d.tables.space ≡ false → FreesPending g d (Ok tt) d
-none-freed g d none = record { keeps = keeps-disk-same g ⊤ d; leaks = λ safe whole c. refl; marks = refl; idle = λ untouched. (refl, refl); emptied = none; cause = tt }
+none-freed g d none = record { keeps = keeps-disk-same g ⊤ d; leaks = λ safe whole c. refl; marks = refl; no_shorter = omega arith; idle = λ untouched. (refl, refl); emptied = none; cause = tt }
 
 freed-why : {S : Type 0} (g : Ghosts S) (old new : Qcow2 S g) (is-ready : Type 0) (fault : Fault) → (IsSafe g old → is-ready)
     → freeing.WhyNotFreed is-ready (g.state old.tables.file.image).faults (g.state new.tables.file.image).faults fault → WhyNotFreed g old new fault
@@ -885,6 +885,7 @@ module _ {S : Type 0} (g : Ghosts S) (old : Qcow2 S g) (mid : Tables S g) (space
     leaks = λ safe whole. leaks-all g old freed_now (leaks-by g old mid space space' caches result there there' frees.rests
         (handing (λ c. 0) (λ c. 0)) (λ c. 0) (λ c. refl) frees.progress safe whole);
     marks = refl;
+    no_shorter = frees.no_shorter;
     idle = λ untouched. absurd (cc (sym (idle-waits old.tables.space untouched.1) ∙ waits));
     emptied = emptied-waits result mid.space space' there' frees.emptied;
     cause = if-err result _ (WhyNotFreed g old freed_now)

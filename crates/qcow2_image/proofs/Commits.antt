@@ -492,6 +492,7 @@ module _ {S : Type 0} (g : Ghosts S) (r : Reserved) (guest : ℕ) (old new : Tab
     later = names.rests.later;
     faults = names.rests.faults;
     header = names.header;
+    no_shorter = names.no_shorter;
     l1 = l1;
     known = λ known is namable. record {
       caches = caches;

@@ -1,5 +1,5 @@
 -- What a flush leaves, behind what waited to be freed.
-use Rattle.std.proofs.Common.{◌≡◌, ap, sym, subst, ◌∙◌, true, false, Result, Ok, Err, inl, inr}
+use Rattle.std.proofs.Common.{◌≡◌, arith, ap, sym, subst, ◌∙◌, true, false, Result, Ok, Err, inl, inr}
 use Rattle.std.specs.Prelude.{⊤, IfErr, OnOk}
 use Rattle.std.specs.Borrow.{RattleType}
 use Rattle.imago_storage.specs.State.{Rose, StorageState}
@@ -13,6 +13,7 @@ use Rattle.imago_access.specs.Going.{Marks, Went}
 use Rattle.imago_access.specs.Layer.{IsLike}
 use Rattle.imago_access.specs.Stops.{IsWritten}
 use Rattle.imago_access.specs.declared.seen.Seen.{Ghosts as SeenGhosts}
+use Rattle.qcow2_alloc.specs.Going.{IsNoShorter}
 use Rattle.qcow2_image.specs.Allocating.{FlushesFreed, FreesPending, WhyNotFreed, failed_cut, waits_in}
 use Rattle.qcow2_image.specs.Holding.{claim_held}
 use Rattle.qcow2_image.specs.ImageLayer.{qcow2_fixed}
@@ -65,11 +66,13 @@ module _ {S : Type 0} (g : Ghosts S) (old new : Qcow2 S g) (s' : StorageState) (
 -- What waited was freed, and the file was flushed.
 pub flushes-freed : {S : Type 0} (g : Ghosts S) (old mid new : Qcow2 S g) (result : Result Unit Fault) → FreesPending g old (Ok tt) mid
     → KeepsDisk g (WasNotCutOff result) mid new → KeepsLeaks g mid new → CountsFaults (g.state mid.tables.file.image).faults (g.state new.tables.file.image).faults result
-    → new.failed ≡ failed_cut result mid.failed → new.tables.space ≡ mid.tables.space → FlushesFreed g old result new
-flushes-freed g old mid new result freed k leaks counts failed space = record {
+    → new.failed ≡ failed_cut result mid.failed → new.tables.space ≡ mid.tables.space
+    → IsNoShorter (g.state mid.tables.file.image) (g.state new.tables.file.image) → FlushesFreed g old result new
+flushes-freed g old mid new result freed k leaks counts failed space long = record {
   keeps = keeps-disk-both g ⊤ (WasNotCutOff result) old mid new tt freed.keeps k;
   leaks = λ safe whole. leaks-both g old mid new (freed.leaks safe tt) leaks;
   marks = failed ∙ ap (failed_cut result) freed.marks;
+  no_shorter = let first = freed.no_shorter in omega (arith, first, long);
   emptied = on-ok result _ (ap waits_in space ∙ freed.emptied);
   cause = from result counts;
 } where

@@ -21,6 +21,7 @@ pub mod Mapped
 pub mod Written
 pub mod KeepingDisks
 pub mod Leaks
+pub mod Lengths
 pub mod KeptLeaks
 pub mod KeptClusters
 pub mod FreeRuns

@@ -15,6 +15,7 @@ use Rattle.qcow2_types.specs.Words.{Mapping, damaged, data_at, is_copied, packed
 use Rattle.qcow2_types.specs.Words as words
 use Rattle.qcow2_metadata.specs.Places.{IsInReach}
 use Rattle.qcow2_metadata.specs.Tables.{padded}
+use Rattle.qcow2_alloc.specs.Going.{IsNoShorter}
 use Rattle.qcow2_clusters.specs.Storing.{AreReserved, ReachesEnd, run_handed_by}
 use Rattle.qcow2_image.specs.FreeSpace.{HasNoPlace, IsForTable, IsForWord, LacksFreeRun, LeavesFree, enough_for_run, enough_for_word}
 use Rattle.qcow2_image.specs.Holding.{AreOwnAs, place_in}
@@ -271,19 +272,21 @@ abbrev pub waits_in : Option Space → Bool
 waits_in None = false
 waits_in (Some space) = not (length space.to_free.entries == 0)
 
--- What waits to be freed is freed: nothing waits then. Where nothing does, nothing is done.
+-- What waits to be freed is freed: nothing waits then. Where nothing does, nothing is done. Whatever is answered, the file gets no shorter.
 pub record FreesPending {S : Type 0} (g : Ghosts S) (old : Qcow2 S g) (result : Result Unit Fault) (new : Qcow2 S g) : Type 0 where
   pub keeps : KeepsDisk g (WasNotCutOff result) old new
   pub leaks : IsSafe g old → WasNotCutOff result → KeepsLeaks g old new
   pub marks : new.failed ≡ failed_cut result old.failed
+  pub no_shorter : IsNoShorter (g.state old.tables.file.image) (g.state new.tables.file.image)
   pub idle : IsUntouched g old → (result ≡ Ok tt) × (new ≡ old)
   pub emptied : OnOk result (waits_in new.tables.space ≡ false)
   pub cause : IfErr result (WhyNotFreed g old new)
 
--- What waits is freed, and the file is flushed.
+-- What waits is freed, and the file is flushed. So it gets no shorter.
 pub record FlushesFreed {S : Type 0} (g : Ghosts S) (old : Qcow2 S g) (result : Result Unit Fault) (new : Qcow2 S g) : Type 0 where
   pub keeps : KeepsDisk g (WasNotCutOff result) old new
   pub leaks : IsSafe g old → WasNotCutOff result → KeepsLeaks g old new
   pub marks : new.failed ≡ failed_cut result old.failed
+  pub no_shorter : IsNoShorter (g.state old.tables.file.image) (g.state new.tables.file.image)
   pub emptied : OnOk result (waits_in new.tables.space ≡ false)
   pub cause : IfErr result (WhyNotFreed g old new)

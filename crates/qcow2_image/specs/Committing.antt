@@ -7,7 +7,7 @@ use Rattle.imago_access.specs.declared.mapping.PreparedDataMapping.{PreparedData
 use Rattle.qcow2_types.specs.Places.{l2_entries}
 use Rattle.qcow2_metadata.specs.Places.{IsInReach}
 use Rattle.qcow2_alloc.specs.declared.cache.MetadataCaches.{MetadataCaches}
-use Rattle.qcow2_alloc.specs.Going.{WasNotCutOff}
+use Rattle.qcow2_alloc.specs.Going.{IsNoShorter, WasNotCutOff}
 use Rattle.qcow2_clusters.specs.Naming.{NamesRun, WhyNotNamed}
 use Rattle.qcow2_clusters.specs.Rest.{lent}
 use Rattle.qcow2_clusters.specs.declared.space.Space.{Space}
@@ -49,13 +49,15 @@ pub record NamesWith {S : Type 0} (g : Ghosts S) (r : Reserved) (guest : ℕ) (o
   pub entries : after.to_free.entries ≡ between.to_free.entries
   pub let_go : OnOk result (after.to_free.held ≡ held_behind r.is_kept between.to_free.held)
 
--- Guest clusters come to name host clusters, as far as that may be done: where free space is known, and words can name them.
+-- Guest clusters come to name host clusters, as far as that may be done: where free space is known, and words can name them. Whatever is
+-- answered, the file gets no shorter.
 pub record NamesHost {S : Type 0} (g : Ghosts S) (r : Reserved) (guest : ℕ) (old : Tables S g) (result : Result Unit Fault)
     (new : Tables S g) : Type 0 where
   pub shape : (g.state new.file.image).shape ≡ (g.state old.file.image).shape
   pub later : Later (g.state old.file.image) (g.state new.file.image)
   pub faults : WasNotCutOff result → IsFaultless (g.state old.file.image) (g.state new.file.image)
   pub header : new.file.header ≡ old.file.header
+  pub no_shorter : IsNoShorter (g.state old.file.image) (g.state new.file.image)
   pub l1 : new.l1 ≡ old.l1
   pub known : (space : Space) → old.space ≡ Some space → IsNamable old.file.header.fields.cluster_bits guest r.host r.count
       → NamesWith g r guest old space result new

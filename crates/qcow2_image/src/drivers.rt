@@ -17,6 +17,7 @@ ghost use Rattle.imago_access.specs.ResizeCalls.{GrowthRefused, Grows, IsUngrown
 ghost use Rattle.imago_access.specs.Stops.{GivesNone, IsWritten, KeepsStops, MakesNone};
 ghost use Rattle.qcow2_types.specs.Bytes.{bytes_of};
 ghost use Rattle.qcow2_types.specs.Header.{cluster_size};
+ghost use Rattle.qcow2_alloc.specs.Going.{IsNoShorter};
 ghost use Rattle.qcow2_image.specs.Allocating.{waits_in};
 ghost use Rattle.qcow2_image.specs.ImageLayer.{blanks};
 ghost use Rattle.qcow2_image.specs.Leaking.{KeepsLeaks};
@@ -182,6 +183,8 @@ impl<S: Storage> FormatDriverInstance for Qcow2<S> {
         ensures cause { IfErr result (RefusesRead ⟦<Qcow2<S> as Seen>⟧ place (length buf.old) self.old self.new) }
         // It leaks nothing.
         ensures leaks { KeepsLeaks S.Storage self.old self.new }
+        // Its file gets no shorter.
+        ensures no_shorter { IsNoShorter (S.state self.old.tables.file.image) (S.state self.new.tables.file.image) }
         // It is marked as failed behind a storage's fault alone.
         ensures marked { self.new.failed ≡ failed_behind failed_by result self.old.failed }
     {
@@ -280,6 +283,8 @@ impl<S: Storage> FormatDriverInstance for Qcow2<S> {
         ensures refused { CommitRefused ⟦<Qcow2<S> as Seen>⟧ mapping result self.old self.new }
         // It leaks nothing: what it comes to name isn't pending any more, and what was named before is.
         ensures leaks { ⟦<Qcow2<S> as Seen>⟧.safe self.old → IfErr result (λ e. IsMild e.0) → KeepsLeaks S.Storage self.old self.new }
+        // Its file gets no shorter, so that no word comes to name what lies past its end.
+        ensures no_shorter { IsNoShorter (S.state self.old.tables.file.image) (S.state self.new.tables.file.image) }
     {
         let storage = mapping.storage();
         let offset = mapping.offset();
@@ -345,6 +350,8 @@ impl<S: Storage> FormatDriverInstance for Qcow2<S> {
             IsTrue s.shape.keeps → Mixed s.bytes place bytes.now (S.state self.new.tables.file.image).bytes }
         // It leaks nothing: no cluster comes to be counted, named or pending.
         ensures leaks { ⟦<Qcow2<S> as Seen>⟧.safe self.old → WasNotCutOff result → KeepsLeaks S.Storage self.old self.new }
+        // Its file gets no shorter.
+        ensures no_shorter { IsNoShorter (S.state self.old.tables.file.image) (S.state self.new.tables.file.image) }
     {
         if self.failed {
             return Err(Fault::Failed);
@@ -449,6 +456,8 @@ impl<S: Storage> FormatDriverInstance for Qcow2<S> {
         ensures freed { OnOk result (waits_in self.new.tables.space ≡ false) }
         // It leaks nothing: what waited isn't counted any more.
         ensures leaks { ⟦<Qcow2<S> as Seen>⟧.safe self.old → WasNotCutOff result → KeepsLeaks S.Storage self.old self.new }
+        // Its file gets no shorter.
+        ensures no_shorter { IsNoShorter (S.state self.old.tables.file.image) (S.state self.new.tables.file.image) }
     {
         if self.failed {
             return Err(Fault::Failed);

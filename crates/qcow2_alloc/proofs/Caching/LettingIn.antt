@@ -36,7 +36,7 @@ module _ {V : Type 0} (flushes : StorageState → ℕ → V → Result Unit Faul
         left ∙ ap (λ x. with_value e x ∷ rest) one.2 ∙ ap (λ xs. with_value e e.1.value ∷ xs) earlier.2,
       )
 
-is-order : (a b : CacheDependency) → (a ≡ b) ⊎ (a ≡ b → ⊥)
+pub is-order : (a b : CacheDependency) → (a ≡ b) ⊎ (a ≡ b → ⊥)
 is-order Unset Unset = inl refl
 is-order L2DependsOnRb L2DependsOnRb = inl refl
 is-order RbDependsOnL2 RbDependsOnL2 = inl refl

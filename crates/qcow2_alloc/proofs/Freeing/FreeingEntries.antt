@@ -27,6 +27,7 @@ use Rattle.qcow2_alloc.specs.State.{lent}
 use Rattle.qcow2_alloc.proofs.Flushing.Faultless.{faultless-then, named-faultless}
 use Rattle.qcow2_alloc.proofs.Freeing.FreeingClusters.{LosesOne, left, cluster-freed, freeing-caused, counts-stay, freeing-stays}
 use Rattle.qcow2_alloc.proofs.Freeing.FreeingLists.{last, last-off, metadata-less, metadata-last, entry-shortened}
+use Rattle.qcow2_alloc.proofs.Caching.Lengths.{named-long}
 use Rattle.qcow2_alloc.proofs.Caching.Loose.{spare-on}
 use Rattle.qcow2_alloc.proofs.Memory.Patches.{shaped-in}
 use Rattle.qcow2_alloc.proofs.Caching.Pins.{pins-none, pins-then}
@@ -115,6 +116,8 @@ module _ {S : Type 0} (state : S → StorageState) (table : TableValue) (es : Li
         lower = falls mark result;
         fallen = fell mark result;
         header = stays.header;
+        no_shorter = named-long state (Lowers (c % counters_of_block before.header.fields)) old before result new after
+            (named_block table (c / counters_of_block before.header.fields)) (result ≡ Err DamagedTable) lowers;
         pins = stays.pins;
         room = stays.room;
         less = less result;
@@ -141,6 +144,7 @@ module _ {S : Type 0} (state : S → StorageState) (table : TableValue) (es : Li
         lower = omega arith;
         fallen = inl refl;
         header = refl;
+        no_shorter = omega arith;
         pins = pins-none (cached_in old).blocks (cached_in old).blocks refl;
         room = record { tables = refl; blocks = refl; entries = refl };
         less = λ d. omega arith;
@@ -195,6 +199,7 @@ module _ {S : Type 0} (state : S → StorageState) (table : TableValue) where
         lower = omega arith;
         fallen = inl refl;
         header = refl;
+        no_shorter = omega arith;
         pins = pins-none (cached_in old).blocks (cached_in old).blocks refl;
         room = record { tables = refl; blocks = refl; entries = refl };
         less = λ d. omega arith;
@@ -211,6 +216,8 @@ module _ {S : Type 0} (state : S → StorageState) (table : TableValue) where
       let le' = second.lower in
       let few = first.fewer in
       let few' = second.fewer in
+      let long = first.no_shorter in
+      let long' = second.no_shorter in
       record {
         faults = λ whole. faultless-then (first.faults tt) (second.faults whole);
         quiet = calmly-then _ (WasNotCutOff result) (λ _. 0) (λ _. 0) (λ _. 0) (λ _. 0) (state fA.image) (metadata_of state fA A table es) (state fB.image) (metadata_of state fB B table es1) (state fC.image) (metadata_of state fC C table es2) (inl tt) (λ sound d some. refl) first.quiet second.quiet;
@@ -218,6 +225,7 @@ module _ {S : Type 0} (state : S → StorageState) (table : TableValue) where
         lower = omega (arith, le, le');
         fallen = fallen-then mark mark1 mark2 es es1 es2 first.less second.less first.fallen second.fallen;
         header = second.header ∙ first.header;
+        no_shorter = omega (arith, long, long');
         pins = pins-then (cached_in A).blocks (cached_in B).blocks (cached_in C).blocks first.pins second.pins;
         room = record { tables = second.room.tables ∙ first.room.tables; blocks = second.room.blocks ∙ first.room.blocks; entries = second.room.entries ∙ first.room.entries };
         less = λ d. let l = first.less d in let l' = second.less d in omega (arith, l, l');
@@ -245,6 +253,7 @@ module _ {S : Type 0} (state : S → StorageState) (table : TableValue) where
         lower = omega arith;
         fallen = inl refl;
         header = refl;
+        no_shorter = omega arith;
         pins = pins-none (cached_in old).blocks (cached_in old).blocks refl;
         room = record { tables = refl; blocks = refl; entries = refl };
         less = λ d. let same = less d in omega (arith, same);

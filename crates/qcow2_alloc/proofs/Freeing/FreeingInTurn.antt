@@ -21,7 +21,7 @@ use Rattle.qcow2_alloc.specs.Caches.{cached_in, order_of, HasRoomOf}
 use Rattle.qcow2_alloc.specs.Finding.{PinsNothing}
 use Rattle.qcow2_alloc.specs.Freeing.{Frees, HasSpareRoom, IsMarked, IsWholeOrCalm, WhyNotFreed, data_in}
 use Rattle.qcow2_alloc.specs.FreeList.{entry_at}
-use Rattle.qcow2_alloc.specs.Going.{Going, Always, IsMild, AreBlocksInReach, CountsWrites, WhyNotWritten, WasNotCutOff}
+use Rattle.qcow2_alloc.specs.Going.{Going, Always, IsMild, IsNoShorter, AreBlocksInReach, CountsWrites, WhyNotWritten, WasNotCutOff}
 use Rattle.qcow2_alloc.specs.Memory.{Cached, memory, written, written_block}
 use Rattle.qcow2_alloc.specs.Quiet.{Metadata, IsSound, Quietly, metadata_in}
 use Rattle.qcow2_alloc.specs.Safety.{Safe, IsCalm}
@@ -70,8 +70,9 @@ module _ {S : Type 0} (state : S → StorageState) (s : ImageState S) (new : Met
       subst (λ (h : Header). 0 < count (memory (bytes_of (state after.image).bytes) h.fields (cached_in new)) h.fields d) (sym header) (subst (λ (g : Bytes). 0 < count g s.file.header.fields d) (sym settled.memory_same) was)
 
   pub announcing-frees : (result : Result Unit Fault) → Goes result → OnOk result (order_of new ≡ RbDependsOnL2) → OnErr result (order_of new ≡ order_of s.caches) → OnOk result ((f : Bytes) (H : Header) → Safe f H (cached_in new) (order_of s.caches) → Safe f H (cached_in new) RbDependsOnL2)
-      → CountsWrites (AreBlocksInReach (cached_in s.caches)) (state s.file.image).faults (state after.image).faults result → (WasNotCutOff result → IsFaultless (state s.file.image) (state after.image)) → Frees state mark s result (lent s.table new after s.pending) mark
-  announcing-frees (Ok done) going order stays safe counts faultless =
+      → CountsWrites (AreBlocksInReach (cached_in s.caches)) (state s.file.image).faults (state after.image).faults result → (WasNotCutOff result → IsFaultless (state s.file.image) (state after.image))
+      → IsNoShorter (state s.file.image) (state after.image) → Frees state mark s result (lent s.table new after s.pending) mark
+  announcing-frees (Ok done) going order stays safe counts faultless long =
       let announced = announced-quietly Old RbDependsOnL2 (Ok tt) (state s.file.image) (state after.image) (cached_in new) refl going safe in
       let quiet = whole-quietly Old (AreBlocksInReach (cached_in s.caches)) (state s.file.image).faults (state after.image).faults (Ok tt) (λ _. 0) (λ _. 0) (state s.file.image) (state after.image) _ (λ reach. reach.1) counts announced in
       record {
@@ -83,13 +84,14 @@ module _ {S : Type 0} (state : S → StorageState) (s : ImageState S) (new : Met
         lower = omega arith;
         fallen = inl refl;
         header = header;
+        no_shorter = long;
         pins = pins-still;
         room = kept-tables s.caches new kept room;
         less = λ d. omega arith;
         fewer = omega arith;
         cause = counts;
       }
-  announcing-frees (Err fault) going order stays safe why faultless =
+  announcing-frees (Err fault) going order stays safe why faultless long =
       let flushed = flushes-quietly Old (Succeeds (Err fault)) (state s.file.image) (state after.image) (cached_in new) refl going in
       let cut : IsSound Old → IsWholeOrCalm (Err fault) (state s.file.image) (state after.image) → Succeeds (Err fault) ⊎ IsCalm (state s.file.image) (state after.image) =
       λ sound why'. elim why' [ inl mild ↦ absurd (never fault sound mild why) | inr calm ↦ inr calm ] in
@@ -102,6 +104,7 @@ module _ {S : Type 0} (state : S → StorageState) (s : ImageState S) (new : Met
         lower = omega arith;
         fallen = inl refl;
         header = header;
+        no_shorter = long;
         pins = pins-still;
         room = kept-tables s.caches new kept room;
         less = λ d. omega arith;

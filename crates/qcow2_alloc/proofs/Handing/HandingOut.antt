@@ -145,6 +145,7 @@ memory-unfreed state s mark =
       lower = omega arith;
       fallen = inl refl;
       header = refl;
+      no_shorter = omega arith;
       pins = omega arith;
       room = record { tables = refl; blocks = refl; entries = refl };
       less = λ c. omega arith;

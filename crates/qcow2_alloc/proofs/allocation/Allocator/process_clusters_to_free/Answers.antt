@@ -4,10 +4,12 @@ use Rattle.qcow2_types.specs.Header.{Header, has_external_data}
 use Rattle.qcow2_types.specs.Pending.{FreeEntry}
 use Rattle.qcow2_metadata.specs.Tables.{TableValue}
 use Rattle.qcow2_alloc.specs.Allocators.{table_of, mark_of}
-use Rattle.qcow2_alloc.specs.Caches.{order_of}
+use Rattle.qcow2_alloc.specs.declared.file.ImageFile.{ImageFile}
+use Rattle.qcow2_alloc.specs.Caches.{cached_in, order_of}
 use Rattle.qcow2_alloc.specs.FreeList.{FreeList}
 use Rattle.qcow2_alloc.specs.Freeing.{Frees, IsRest, IsRestInTurn, data_in}
 use Rattle.qcow2_alloc.specs.State.{lent}
+use Rattle.qcow2_alloc.proofs.Caching.Lengths.{announced-long}
 use Rattle.qcow2_alloc.proofs.Freeing.FreeingEntries.{frees-then, freed, failed}
 use Rattle.qcow2_alloc.proofs.Freeing.FreeingInTurn.{announcing-frees}
 use Rattle.qcow2_alloc.proofs.Freeing.FreeingRest.{order-announced, rest-none, rest-of-data, rest-without-metadata}
@@ -22,7 +24,9 @@ returns-clause-frees g c =
     let a = c.rb_depends_on_l2.new in
     let n = c.free_all.new in
     let done = c.in_ok-rb_depends_on_l2.ensures in
-    let announced = announcing-frees state (lent t m.caches m.file m.list.entries) a.self a.file (mark_of m.self) done.kept done.header done.room freed done.going done.announced tt done.safe done.cause done.faults in
+    let long = announced-long (order_of m.caches) (state m.file.image) (cached_in m.caches) freed (state a.file.image) (cached_in a.self)
+    (λ no. ap (λ (f : ImageFile g.row.S.Denot). state f.image) (done.idle no).2) done.written in
+    let announced = announcing-frees state (lent t m.caches m.file m.list.entries) a.self a.file (mark_of m.self) done.kept done.header done.room freed done.going done.announced tt done.safe done.cause done.faults long in
     let rest = subst (λ (v : TableValue). Frees state (mark_of m.self) (lent v a.self a.file m.list.entries) c.free_all.result (lent v n.caches n.file n.list.entries) (mark_of n.self)) c.free_metadata.ensures.table (c.free_all.ensures.frees done.announced) in
     frees-then state t c.args.caches.now c.args.file.now (mark_of c.args.self.now) c.args.list.now.entries m.caches m.file (mark_of m.self) m.list.entries c.free_all.result n.caches n.file (mark_of n.self) n.list.entries c.in_ok-free_metadata.ensures.frees
     (frees-then state t m.caches m.file (mark_of m.self) m.list.entries a.self a.file (mark_of m.self) m.list.entries c.free_all.result n.caches n.file (mark_of n.self) n.list.entries announced rest)
@@ -34,7 +38,10 @@ returns-in_err-rb_depends_on_l2-clause-frees g c = rw (handed-on _ _ c.from_resi
     let m = c.free_metadata.new in
     let a = c.rb_depends_on_l2.new in
     let done = c.in_err-rb_depends_on_l2.ensures in
-    let announced = announcing-frees state (lent t m.caches m.file m.list.entries) a.self a.file (mark_of m.self) done.kept done.header done.room (failed c.in_err-rb_depends_on_l2.field-0.0) done.going tt done.stays tt done.cause done.faults in
+    let refused = failed c.in_err-rb_depends_on_l2.field-0.0 in
+    let long = announced-long (order_of m.caches) (state m.file.image) (cached_in m.caches) refused (state a.file.image) (cached_in a.self)
+    (λ no. ap (λ (f : ImageFile g.row.S.Denot). state f.image) (done.idle no).2) done.written in
+    let announced = announcing-frees state (lent t m.caches m.file m.list.entries) a.self a.file (mark_of m.self) done.kept done.header done.room (failed c.in_err-rb_depends_on_l2.field-0.0) done.going tt done.stays tt done.cause done.faults long in
     frees-then state t c.args.caches.now c.args.file.now (mark_of c.args.self.now) c.args.list.now.entries m.caches m.file (mark_of m.self) m.list.entries (failed c.in_err-rb_depends_on_l2.field-0.0) a.self a.file (mark_of m.self) m.list.entries c.in_ok-free_metadata.ensures.frees announced)
 
 pub returns-clause-left : goal.returns-clause-left

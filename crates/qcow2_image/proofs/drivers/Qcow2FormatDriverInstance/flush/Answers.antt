@@ -8,6 +8,7 @@ use Rattle.qcow2_image.proofs.ClusterSteps.{idle-waits}
 use Rattle.qcow2_image.proofs.Flushing.{freed-cause, freed-failed, freed-like, freed-marks, freed-sees, freed-went, freed-written}
 use Rattle.qcow2_image.proofs.Anew.{on-ok}
 use Rattle.qcow2_image.proofs.Leaks.{leaks-asked}
+use Rattle.qcow2_image.proofs.Lengths.{asked-long}
 use Rattle.qcow2_image.proofs.Settling.{asked-keeps, counted-faultless, meant, ok-whole}
 use Rattle.qcow2_image.proofs.Steps.{looked-kept, marks-kept}
 use Rattle.qcow2_image.proofs.drivers.Qcow2FormatDriverInstance.flush.Goals as goal
@@ -133,3 +134,12 @@ returns-clause-leaks g c = λ safe whole.
 
 pub returns-then-has_waiting-clause-leaks : goal.returns-then-has_waiting-clause-leaks
 returns-then-has_waiting-clause-leaks g c = λ safe whole. c.flush_freed.ensures.leaks safe whole
+
+pub returns-clause-no_shorter : goal.returns-clause-no_shorter
+returns-clause-no_shorter g c =
+    let is = c.settle.ensures.marks in
+    asked-long g.S.Storage c.args.self.now c.settle.new.self (g.S.Storage.state c.flush-answer.new.self) c.flush-answer.ensures.kept
+    (ap (λ (x : Qcow2 g.row.S.Denot g.S.Storage). g.S.Storage.state x.tables.file.image) is)
+
+pub returns-then-has_waiting-clause-no_shorter : goal.returns-then-has_waiting-clause-no_shorter
+returns-then-has_waiting-clause-no_shorter g c = c.flush_freed.ensures.no_shorter

@@ -3,6 +3,7 @@ use Rattle.imago_access.specs.Files.{WasNotCutOff}
 use Rattle.qcow2_image.specs.declared.qcow2.Qcow2.{Qcow2}
 use Rattle.qcow2_image.specs.Steps.{KeepsImage, failed_behind, failed_by}
 use Rattle.qcow2_image.proofs.Leaks.{leaks-asked}
+use Rattle.qcow2_image.proofs.Lengths.{asked-long}
 use Rattle.qcow2_image.proofs.Settling.{asked-keeps, read-faultless, ok-whole}
 use Rattle.qcow2_image.proofs.Steps.{began-kept, looked-kept, marks-kept}
 use Rattle.qcow2_image.proofs.drivers.Qcow2FormatDriverInstance.read_mapped.Goals as goal
@@ -67,3 +68,9 @@ returns-clause-leaks g c =
     leaks-asked g.S.Storage c.args.self.now c.settle.new.self (g.S.Storage.state c.read-answer.new.self) c.read-answer.ensures.kept
     (ap (λ (x : Qcow2 g.row.S.Denot g.S.Storage). g.S.Storage.state x.tables.file.image) is) (ap (λ (x : Qcow2 g.row.S.Denot g.S.Storage). x.tables.file.header) is)
     (ap (λ (x : Qcow2 g.row.S.Denot g.S.Storage). x.tables.space) is) (ap (λ (x : Qcow2 g.row.S.Denot g.S.Storage). x.unspent) is)
+
+pub returns-clause-no_shorter : goal.returns-clause-no_shorter
+returns-clause-no_shorter g c =
+    let is = c.settle.ensures.marks in
+    asked-long g.S.Storage c.args.self.now c.settle.new.self (g.S.Storage.state c.read-answer.new.self) c.read-answer.ensures.kept
+    (ap (λ (x : Qcow2 g.row.S.Denot g.S.Storage). g.S.Storage.state x.tables.file.image) is)

@@ -1,7 +1,8 @@
-use Rattle.std.proofs.Common.{refl, Ok, Err}
+use Rattle.std.proofs.Common.{refl, true, Ok, Err}
 use Rattle.std.specs.Prelude.{Bool}
 use Rattle.imago_storage.specs.declared.fault.Fault.TheVariants.{Outdated}
 use Rattle.qcow2_image.proofs.Written.{noted, told-why, unnoted, unwritten, writes-mapped, writing-refused, written-leaks}
+use Rattle.qcow2_image.proofs.Lengths.{looked-long, written-long}
 use Rattle.qcow2_image.proofs.Steps.{keeps-as, marks-kept}
 use Rattle.qcow2_alloc.proofs.Faults.{handed-on}
 use Rattle.qcow2_image.proofs.drivers.Qcow2FormatDriverInstance.write_mapped.Goals as goal
@@ -94,3 +95,25 @@ pub returns-in_err-is_mapped_at-clause-leaks : goal.returns-in_err-is_mapped_at-
 returns-in_err-is_mapped_at-clause-leaks g c = rw (handed-on _ _ c.from_residual-in_err-is_mapped_at.ensures.1) (
     λ safe whole. leaks-kept g.S.Storage {T = Bool} c.args.self.now c.is_mapped_at.new.self (Err c.in_err-is_mapped_at.field-0.0)
     c.in_err-is_mapped_at.ensures.keeps)
+
+pub returns-clause-no_shorter : goal.returns-clause-no_shorter
+returns-clause-no_shorter g c =
+    let st = g.S.Storage in
+    let told = c.if-not-branch.false in
+    let w = noted st c.args.guest c.args.place c.args.bytes.now c.is_mapped_at.new.self c.write_at.new.self c.note.new.self (c.in_ok-write_at.ensures {u = tt}) c.note.ensures.notes c.note.ensures.others in
+    written-long st {T = Bool} c.args.self.now c.is_mapped_at.new.self c.note.new.self (Ok true) c.args.place c.args.bytes.now (Ok tt)
+    (rw told at c.in_ok-is_mapped_at.ensures.keeps) w.put
+
+pub returns-in_err-write_at-clause-no_shorter : goal.returns-in_err-write_at-clause-no_shorter
+returns-in_err-write_at-clause-no_shorter g c =
+    let told = c.if-not-branch.false in
+    written-long g.S.Storage {T = Bool} c.args.self.now c.is_mapped_at.new.self c.write_at.new.self (Ok true) c.args.place c.args.bytes.now
+    (Err c.in_err-write_at.field-0.0) (rw told at c.in_ok-is_mapped_at.ensures.keeps) c.in_err-write_at.ensures.put
+
+pub returns-then-not-branch-clause-no_shorter : goal.returns-then-not-branch-clause-no_shorter
+returns-then-not-branch-clause-no_shorter g c =
+    looked-long g.S.Storage {T = Bool} c.args.self.now c.is_mapped_at.new.self (Ok c.in_ok-is_mapped_at.field-0) c.in_ok-is_mapped_at.ensures.keeps
+
+pub returns-in_err-is_mapped_at-clause-no_shorter : goal.returns-in_err-is_mapped_at-clause-no_shorter
+returns-in_err-is_mapped_at-clause-no_shorter g c =
+    looked-long g.S.Storage {T = Bool} c.args.self.now c.is_mapped_at.new.self (Err c.in_err-is_mapped_at.field-0.0) c.in_err-is_mapped_at.ensures.keeps

@@ -8,6 +8,7 @@ use Rattle.qcow2_image.specs.KeepsDisk.{KeepsDisk}
 use Rattle.qcow2_image.specs.declared.qcow2.Qcow2.{Qcow2}
 use Rattle.qcow2_image.proofs.Flushing.{flushes-freed, requested}
 use Rattle.qcow2_image.proofs.Leaks.{leaks-asked}
+use Rattle.qcow2_image.proofs.Lengths.{asked-long}
 use Rattle.qcow2_image.proofs.qcow2.Qcow2.flush_freed.Goals as goal
 
 pub returns : goal.returns
@@ -33,4 +34,4 @@ returns g c =
     (leaks-asked g.S.Storage m d t c.flush-answer.ensures.kept state (ap (λ (x : Qcow2 g.row.S.Denot g.S.Storage). x.tables.file.header) is)
     (ap (λ (x : Qcow2 g.row.S.Denot g.S.Storage). x.tables.space) is) (ap (λ (x : Qcow2 g.row.S.Denot g.S.Storage). x.unspent) is))
     (subst (λ (u : StorageState). CountsFaults (g.S.Storage.state m.tables.file.image).faults u.faults answer) (sym state) c.flush-answer.ensures.faults) failed
-    (ap (λ (x : Qcow2 g.row.S.Denot g.S.Storage). x.tables.space) is))
+    (ap (λ (x : Qcow2 g.row.S.Denot g.S.Storage). x.tables.space) is) (asked-long g.S.Storage m d t c.flush-answer.ensures.kept state))
