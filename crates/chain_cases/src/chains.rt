@@ -1,11 +1,12 @@
 // The files and the disk of a case, and the calls of its lines.
+use crate::arguments::asked_for;
 use crate::files::{Base, NamedFiles, making_of};
 use crate::images::probe;
 use crate::layers::counts;
 use crate::logs::Logs;
 use crate::opened::Opened;
 use crate::prefixes::{Looked, prefixes};
-use crate::scripts::{Scripted, run_fault_told};
+use crate::scripts::{Scripted, answer_told, run_fault_told};
 use access_calls::done;
 use cases::{Layer, Notes, Trouble, bytes, joined, number, ok, size, told};
 use std::alloc::Global;
@@ -201,6 +202,8 @@ impl<'a> Layer for Chains<'a> {
                 ..
             ] => { self.scripted(alloc, words) }
             ["run_fault", name] => run_fault_told(alloc, name),
+            ["answer_text", rest @ ..] => answer_told(alloc, rest),
+            ["arguments", rest @ ..] => asked_for(alloc, rest),
             _ => self.called(alloc, words),
         }
     }

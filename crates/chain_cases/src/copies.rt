@@ -8,8 +8,8 @@ use qimg_chain::chain::{NamesFiles, snapshot};
 use qimg_core::plain::ChainFile;
 use std::alloc::Global;
 
-// The word of a format.
-fn word_of(format: Format) -> &'static str {
+/// The word of a format.
+pub fn word_of(format: Format) -> &'static str {
     match format {
         Format::Raw => "raw",
         Format::Qcow2 => "qcow2",

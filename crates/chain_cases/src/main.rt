@@ -56,8 +56,12 @@
 //!   words, by a writer that does. The cause is `broken` or `memory`, for good, or `interrupted`, once. Behind the lines stands how it
 //!   ended early.
 //! - `saved`: how many bytes the last script saved, or `none`; `saved OFFSET N`: these of them.
+//! - `answer_text BYTES`: the text of an answer that shows these bytes, with `/` behind it.
+//! - `arguments [WORD] ..`: what these words of the program ask for: `reading /` or `writing /`, and its layers, the top first, each
+//!   with `/` behind it; `none` where there are none. A layer is told as `FORMAT PATH [with NAME at PATH] ..`.
 #![tactic(auto)]
 
+mod arguments;
 mod chains;
 mod copies;
 mod files;

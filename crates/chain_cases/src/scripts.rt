@@ -10,6 +10,7 @@ use imago_access::{FormatAccess, FormatDriverInstance};
 use imago_storage::{Fault, MemStorage};
 use qimg_chain::chain::{ImageDriver, NamesFiles};
 use qimg_chain::run::{RunFault, run};
+use qimg_chain::script::{Answer, Bytes};
 use std::alloc::Global;
 use std::io::{BufRead, Write};
 
@@ -114,6 +115,18 @@ pub fn run_fault_told(alloc: Global, name: &str) -> Result<String, Trouble> {
         _ => return Err(Trouble::NoCall),
     };
     Ok(fault.to_string(alloc)?)
+}
+
+/// The text of an answer that shows bytes, with `/` behind it.
+///
+/// # Errors
+///
+/// `Trouble::NoCall` where the words are no bytes; `Trouble::Refused` for want of memory.
+pub fn answer_told(alloc: Global, words: &[&str]) -> Result<String, Trouble> {
+    let answer = Answer::Bytes(Bytes::from(bytes(alloc, words)?));
+    let mut told = answer.to_text(alloc)?;
+    joined(&mut told, "/")?;
+    Ok(told)
 }
 
 impl Scripted {
