@@ -2,10 +2,9 @@
 use Rattle.std.proofs.Common.{◌≡◌, ℕ, ◌+◌, ◌-◌, ◌%◌, ◌<◌, List, ◌++◌, append_assoc, length, take, drop, arith, sym, ◌∙◌, ap, subst, length-append}
 use Rattle.std.proofs.lemmas.List.{take-append-drop}
 use Rattle.imago_storage.specs.State.{StorageState}
-use Rattle.imago_storage.specs.Through.{round_up, Through, Halted, NotThrough, Parts}
+use Rattle.imago_storage.specs.Through.{round_up, Through, Halted, Parts}
 use Rattle.imago_storage.specs.Edges.{IsEdge, Pads}
 use Rattle.imago_storage.specs.declared.fault.Fault.{Fault}
-use Rattle.imago_storage.proofs.Calls.{halted-not}
 use Rattle.imago_storage.proofs.Pads.{through-narrow, halted-narrow}
 use Rattle.imago_storage.proofs.Edges.{end-is, edges-pad}
 
@@ -33,10 +32,10 @@ module _ (unit : ℕ) (positive : 0 < unit) (s a b : StorageState) (same : a ≡
       subst (λ (f : StorageState). Through unit f b at bytes) same
       (through-narrow unit positive a b at bytes (at - at % unit) (first ++ mid ++ last) pads-all (omega (arith, long, some)) end through)
 
-  pub around-not : (fault : Fault) → Halted unit a b (at - at % unit) (first ++ mid ++ last) fault → NotThrough unit s b at bytes fault
-  around-not fault halted =
-      subst (λ (f : StorageState). NotThrough unit f b at bytes fault) same
-      (halted-not unit a b at bytes fault (halted-narrow unit positive a b at bytes (at - at % unit) (first ++ mid ++ last) pads-all (omega (arith, long, some)) end fault halted))
+  pub around-halted : (fault : Fault) → Halted unit a b (at - at % unit) (first ++ mid ++ last) fault → Halted unit s b at bytes fault
+  around-halted fault halted =
+      subst (λ (f : StorageState). Halted unit f b at bytes fault) same
+      (halted-narrow unit positive a b at bytes (at - at % unit) (first ++ mid ++ last) pads-all (omega (arith, long, some)) end fault halted)
 
 -- bytes that were split twice
 pub split-twice : (bytes rest head mid tail : List ℕ) (i j : ℕ) → head ≡ take i bytes → rest ≡ drop i bytes → mid ≡ take j rest → tail ≡ drop j rest → head ++ mid ++ tail ≡ bytes

@@ -14,6 +14,7 @@ pub mod Fronts
 pub mod Pads
 pub mod Edges
 pub mod Around
+pub mod Trying
 pub mod Laying
 pub mod Untouched
 pub mod GivingUp

@@ -6,9 +6,10 @@ use Rattle.std.proofs.lemmas.Bool.{cases_lt}
 use Rattle.std.specs.Prelude.{List, length, Result, Ok, Err, OnOk, IfErr}
 use Rattle.imago_storage.specs.State.{StorageState, IsAlignment, unit_of}
 use Rattle.imago_storage.specs.Calls.{Mixed, Later, Cause, CountsFaults}
-use Rattle.imago_storage.specs.Through.{round_up, Overflows, IsAtOnce, Stops, UnlessOverflow, WrittenThrough, NotThrough, NotWrittenThrough, RequestsOnce, NotRead, Put, PutAtOnce}
+use Rattle.imago_storage.specs.Through.{round_up, Overflows, IsAtOnce, Stops, UnlessOverflow, WrittenThrough, NotBegun, NotThrough, NotWrittenThrough, WriteRefused, RequestsOnce, NotRead, Put, PutAtOnce}
 use Rattle.imago_storage.specs.declared.fault.Fault.{Fault}
 use Rattle.imago_storage.specs.declared.fault.Fault.TheVariants.{RangeOverflow}
+use Rattle.imago_storage.specs.declared.padding.WriteFault.TheVariants.{Before}
 use Rattle.imago_storage.proofs.Powers.{alignment_power}
 
 -- a multiple of a multiple of a unit
@@ -64,6 +65,12 @@ overflows-not unit at n alignment low passes =
 pub unless-overflow : (P : Type 0) (old new : StorageState) (Q R : Fault → Type 0) → (P → ⊥) → ((fault : Fault) → Q fault → R fault) → (fault : Fault) → UnlessOverflow P old new Q fault → R fault
 unless-overflow P old new Q R never give RangeOverflow h = absurd (never h.0)
 unless-overflow P old new Q R never give fault h = give fault h
+
+-- the same of a write that hadn't begun
+pub not-begun-below : (old new : StorageState) (at : ℕ) (bytes : List ℕ) (fault : Fault) → IsAlignment (unit_of old.shape) → at + length bytes ≤ 2 ^ 63
+    → WriteRefused old new at bytes (Before fault) → NotBegun old new fault
+not-begun-below old new at bytes fault alignment low refused =
+    unless-overflow _ old new (NotBegun old new) (NotBegun old new) (overflows-not (unit_of old.shape) at (length bytes) alignment low) (λ e n. n) fault refused
 
 -- what `write` says of a range well below 2^64
 pub put-below : (result : Result (Unit {0}) Fault) (old new : StorageState) (at : ℕ) (bytes : List ℕ) → IsAlignment (unit_of old.shape) → at + length bytes ≤ 2 ^ 63 → OnOk result (WrittenThrough old new at bytes) → IfErr result (NotWrittenThrough old new at bytes)

@@ -1,6 +1,6 @@
 -- Two parts of a padded call, the second behind the first.
 use Rattle.std.proofs.Common.{◌≡◌, ◌⊎◌, inl, inr, ⊎_elim, ℕ, ◌+◌, ◌<◌, ◌≤◌, max, List, ◌∷◌, ◌++◌, length, arith, sym, ◌∙◌, ap, subst, length-append}
-use Rattle.std.specs.Prelude.{Result, Ok, Err, OnOk, IfErr, IsErrAnd}
+use Rattle.std.specs.Prelude.{Result, Ok, Err, OnOk, IfErr, IsErrAnd, MatchResult}
 use Rattle.std.proofs.lemmas.Result.{on_ok_weaker, IfErr-weaker, err_from_is_err_and}
 use Rattle.std.proofs.lemmas.List.Elements.{All-weaker}
 use Rattle.std.proofs.lemmas.Bool.{cases_eq}
@@ -147,6 +147,13 @@ module _ (unit : ℕ) (positive : 0 < unit) (a b c d : StorageState) (at : ℕ) 
 -- what a `?` passes on
 pub passed : {T : Type 0} (result : Result T Fault) (Q : Fault → Type 0) (fault : Fault) → IsErrAnd result (λ e. e ≡ fault) → Q fault → IfErr result Q
 passed result Q fault is_err holds = let p = err_from_is_err_and result is_err in subst (λ r. IfErr r Q) (sym p.1) (subst Q (sym p.2) holds)
+
+-- what a `map_err` passes on
+pub mapped : {T E F : Type 0} (was : Result T E) (result : Result T F) (f : E → F) (P : T → Type 0) (Q : E → Type 0) (R : F → Type 0)
+    → MatchResult was (λ x. result ≡ Ok x) (λ e. IsErrAnd result (λ y. y ≡ f e)) → ((e : E) → Q e → R (f e)) → MatchResult was P Q → MatchResult result P R
+mapped (Ok x) result f P Q R is give holds = subst (λ r. MatchResult r P R) (sym is) holds
+mapped (Err e) result f P Q R is give holds =
+    let p = err_from_is_err_and result is in subst (λ r. MatchResult r P R) (sym p.1) (subst R (sym p.2) (give e holds))
 
 -- three parts, each over the unit of the storage as the one before left it
 module _ (unit : ℕ) (positive : 0 < unit) (a b c d : StorageState) (same : unit ≡ unit_of a.shape) (at : ℕ) (head mid tail : List ℕ) where

@@ -2,6 +2,8 @@
 use Rattle.std.specs.Prelude.{ℕ}
 use Rattle.imago_storage.specs.declared.fault.Fault.{Fault}
 use Rattle.imago_storage.specs.declared.fault.Fault.TheVariants.{ReadOnly, PastEnd, RangeOverflow, DamagedHeader, DamagedTable, DamagedDescriptor, Unsupported, Barred, Outdated, Foreign, VersionLimit, Limit, MissingBelow, ExtraLayer, MissingData, CacheFull, Counter, BadArgument, Failed, Memory, Storage, BadCommand}
+use Rattle.imago_storage.specs.declared.padding.WriteFault.{WriteFault}
+use Rattle.imago_storage.specs.declared.padding.WriteFault.TheVariants.{Before, Within}
 use Rattle.imago_storage.specs.declared.fault.FaultKind.{FaultKind}
 use Rattle.imago_storage.specs.declared.fault.FaultKind.TheVariants as kind
 
@@ -54,3 +56,8 @@ kind_of Failed = kind.Other
 kind_of Memory = kind.OutOfMemory
 kind_of Storage = kind.Other
 kind_of BadCommand = kind.InvalidInput
+
+-- the fault of a refused write, whether it had begun or not
+abbrev pub cause_of : WriteFault → Fault
+cause_of (Before fault) = fault
+cause_of (Within fault) = fault

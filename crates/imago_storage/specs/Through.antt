@@ -4,6 +4,8 @@ use Rattle.imago_storage.specs.State.{StorageState, Rose, InStep, unit_of}
 use Rattle.imago_storage.specs.Calls.{Spliced, Mixed, Cause, Kept, Later, Discarded, NotDiscarded, SameOutside}
 use Rattle.imago_storage.specs.declared.fault.Fault.{Fault}
 use Rattle.imago_storage.specs.declared.fault.Fault.TheVariants.{RangeOverflow, Unsupported}
+use Rattle.imago_storage.specs.declared.padding.WriteFault.{WriteFault}
+use Rattle.imago_storage.specs.declared.padding.WriteFault.TheVariants.{Before, Within}
 
 -- the least multiple of the unit that is not below n
 unfoldable pub round_up : ℕ → ℕ → ℕ
@@ -66,6 +68,16 @@ pub record Halted (unit : ℕ) (old new : StorageState) (at : ℕ) (bytes : List
   pub stops : Stops (Mixed old.bytes at bytes) old new
   pub as_long : StopsAsLong old new
 
+-- refused before a change was asked for: only the count of faults may have risen
+pub record NotBegun (old new : StorageState) (fault : Fault) : Type 0 where
+  pub cause : Cause old.faults new.faults fault
+  pub kept : Kept old new
+
+-- a refused write of any unit, which tells whether it had begun
+abbrev pub BeforeOrWithin : ℕ → StorageState → StorageState → ℕ → List ℕ → WriteFault → Type 0
+BeforeOrWithin unit old new at bytes (Before fault) = NotBegun old new fault
+BeforeOrWithin unit old new at bytes (Within fault) = Halted unit old new at bytes fault
+
 -- the call was refused, and may have written a part
 pub record NotThrough (unit : ℕ) (old new : StorageState) (at : ℕ) (bytes : List ℕ) (fault : Fault) : Type 0 where
   pub shape : new.shape ≡ old.shape
@@ -99,13 +111,13 @@ UnlessOverflow P old new Q RangeOverflow = P × (new ≡ old)
 UnlessOverflow P old new Q fault = Q fault
 
 -- one request where the call succeeds and has bytes to write, and none where it is refused
-abbrev pub RequestsOnce : {T : Type 0} → StorageState → StorageState → ℕ → Result T Fault → Type 0
+abbrev pub RequestsOnce : {T E : Type 0} → StorageState → StorageState → ℕ → Result T E → Type 0
 RequestsOnce old new n result =
     MatchResult result (λ _. 0 < n → IsTrue old.shape.tells → new.past ≡ old.stop ∷ old.past)
     (λ _. (new.stop ≡ old.stop) × (new.past ≡ old.past))
 
 -- a range of whole units, or one in a single unit, is written by one request
-abbrev pub WritesAtOnce : {T : Type 0} → StorageState → StorageState → (at n : ℕ) → Result T Fault → Type 0
+abbrev pub WritesAtOnce : {T E : Type 0} → StorageState → StorageState → (at n : ℕ) → Result T E → Type 0
 WritesAtOnce old new at n result = IsAtOnce (unit_of old.shape) at n → RequestsOnce old new n result
 
 -- a range of whole units of the alignment of zeroing is zeroed by one request
@@ -135,6 +147,12 @@ WrittenThrough old new at bytes = Through (unit_of old.shape) old new at bytes
 abbrev pub NotWrittenThrough : StorageState → StorageState → ℕ → List ℕ → Fault → Type 0
 NotWrittenThrough old new at bytes =
     UnlessOverflow (Overflows (unit_of old.shape) at (length bytes)) old new (NotThrough (unit_of old.shape) old new at bytes)
+
+-- a refused `try_write`, which tells whether it had begun
+abbrev pub WriteRefused : StorageState → StorageState → ℕ → List ℕ → WriteFault → Type 0
+WriteRefused old new at bytes (Before fault) =
+    UnlessOverflow (Overflows (unit_of old.shape) at (length bytes)) old new (NotBegun old new) fault
+WriteRefused old new at bytes (Within fault) = Halted (unit_of old.shape) old new at bytes fault
 
 -- a range that isn't zeroed; `Unsupported` comes where it has whole units of the alignment of zeroing, and leaves all as it was
 abbrev pub NotZeroed : StorageState → StorageState → ℕ → ℕ → Fault → Type 0

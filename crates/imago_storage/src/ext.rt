@@ -3,11 +3,11 @@ ghost use Rattle.std.specs.Prelude.{◌≡◌, ℕ, ◌+◌, ◌-◌, ◌%◌, �
 ghost use Rattle.std.specs.Option.{SomeIff};
 ghost use Rattle.imago_storage.specs.State.{unit_of, IsAlignment, IsWhole};
 ghost use Rattle.imago_storage.specs.Calls.{Cause, CountsFaults, Kept, Later, Mixed, Reads};
-ghost use Rattle.imago_storage.specs.Through.{round_up, round_down, HasWhole, Overflows, Through, OneRequest, NoRequest, IsOnePart, Parts, WritesAtOnce, ZeroesAtOnce, Stops, StopsAsLong, WrittenThrough, NotWrittenThrough, NotZeroed, GivenUp, NotGivenUp, GivesUpAtStops, NotRead};
+ghost use Rattle.imago_storage.specs.Through.{round_up, round_down, HasWhole, Overflows, Through, OneRequest, NoRequest, IsOnePart, Parts, WritesAtOnce, ZeroesAtOnce, Stops, StopsAsLong, WrittenThrough, NotWrittenThrough, WriteRefused, NotZeroed, GivenUp, NotGivenUp, GivesUpAtStops, NotRead};
 
 use crate::discarding::discard_whole;
 use crate::edits::take_part;
-use crate::padding::{parts_of_range, write_around, write_whole};
+use crate::padding::{WriteFault, parts_of_range, write_around, write_whole};
 use crate::zeroing::{Zeroing, zero_padded};
 use crate::{Fault, Storage};
 use std::alloc::Global;
@@ -59,10 +59,11 @@ fn write_padded<S: Storage>(
     alloc: Global,
     data: &[u8],
     offset: u64,
-) -> Result<(), Fault>
+) -> Result<(), WriteFault>
     ensures ok { OnOk result (Through (unit_of (S.state storage.old).shape) (S.state storage.old) (S.state storage.new) offset «data».now) }
-    ensures err { IfErr result (NotWrittenThrough (S.state storage.old) (S.state storage.new) offset «data».now) }
-    ensures overflow { Overflows (unit_of (S.state storage.old).shape) offset (length «data».now) → IsErrOf result Fault.RangeOverflow }
+    ensures err { IfErr result (WriteRefused (S.state storage.old) (S.state storage.new) offset «data».now) }
+    ensures overflow { Overflows (unit_of (S.state storage.old).shape) offset (length «data».now)
+        → IsErrOf result (WriteFault.Before Fault.RangeOverflow) }
     ensures once { WritesAtOnce (S.state storage.old) (S.state storage.new) offset (length «data».now) result }
     ensures empty { length «data».now ≡ 0 → IsOk result × (S.state storage.new ≡ S.state storage.old) }
     ensures unit { IsAlignment (unit_of (S.state storage.old).shape) }
@@ -72,11 +73,11 @@ fn write_padded<S: Storage>(
         return Ok(());
     }
     if padded_end(offset, data.len() as u64, unit as u64).is_none() {
-        return Err(Fault::RangeOverflow);
+        return Err(WriteFault::Before(Fault::RangeOverflow));
     }
     let (first, second) = parts_of_range(offset, data.len(), unit);
     if first == 0 && second == data.len() {
-        return write_whole(storage, data, offset);
+        return write_whole(storage, data, offset).map_err(WriteFault::Within);
     }
     write_around(storage, alloc, unit, data, offset)
 }
@@ -195,6 +196,22 @@ pub trait StorageExt: Storage {
         // What is known of each storage: so the range of a power of two bytes at a multiple of it is one request.
         ensures unit { IsAlignment (unit_of (Self.state self.old).shape) };
 
+    /// The same as `write`, and where it is refused it tells whether it had begun: `WriteFault::Before` where it had asked for
+    /// no change, as for want of a buffer or of what is read before, and `WriteFault::Within` where the storage refused one.
+    fn try_write(&mut self, alloc: Global, data: &[u8], offset: u64) -> Result<(), WriteFault>
+        ensures ok { OnOk result (WrittenThrough (Self.state self.old) (Self.state self.new) offset «data».now) }
+        // Before it had begun only the count of faults may have risen.
+        ensures err { IfErr result (WriteRefused (Self.state self.old) (Self.state self.new) offset «data».now) }
+        ensures overflow { Overflows (unit_of (Self.state self.old).shape) offset (length «data».now)
+            → IsErrOf result (WriteFault.Before Fault.RangeOverflow) }
+        ensures shape { (Self.state self.new).shape ≡ (Self.state self.old).shape }
+        ensures later { Later (Self.state self.old) (Self.state self.new) }
+        ensures stops { Stops (Mixed (Self.state self.old).bytes offset «data».now) (Self.state self.old) (Self.state self.new) }
+        ensures as_long { StopsAsLong (Self.state self.old) (Self.state self.new) }
+        ensures once { WritesAtOnce (Self.state self.old) (Self.state self.new) offset (length «data».now) result }
+        ensures empty { length «data».now ≡ 0 → IsOk result × (Self.state self.new ≡ Self.state self.old) }
+        ensures unit { IsAlignment (unit_of (Self.state self.old).shape) };
+
     /// Zeroes the range, padded to whole units by what is there, and by zeroes past the old end; the storage may give up what it
     /// has allocated there. The length reaches the range's end, rounded up to the unit; an empty range changes nothing.
     ///
@@ -261,6 +278,11 @@ impl<S: Storage> StorageExt for S {
     }
 
     fn write(&mut self, alloc: Global, data: &[u8], offset: u64) -> Result<(), Fault> {
+        self.try_write(alloc, data, offset)
+            .map_err(WriteFault::fault)
+    }
+
+    fn try_write(&mut self, alloc: Global, data: &[u8], offset: u64) -> Result<(), WriteFault> {
         write_padded(self, alloc, data, offset)
     }
 

@@ -27,6 +27,7 @@ pub use log::{LogStorage, Request, StopStorage};
 pub use memory::MemStorage;
 pub use null::Null;
 pub use options::{StorageCreateOptions, StorageOpenOptions};
+pub use padding::WriteFault;
 pub use storage::{PreallocateMode, Storage};
 pub use view::MemoryView;
 pub use zeroing::write_full_zeroes;

@@ -2,12 +2,44 @@
 ghost use Rattle.std.specs.Prelude.{◌≡◌, ℕ, ◌+◌, ◌-◌, ◌%◌, ◌<◌, ◌≤◌, ◌^◌, ◌++◌, length, OnOk, IfOk, IfErr, IsOkUnless};
 ghost use Rattle.imago_storage.specs.State.{unit_of, IsWhole};
 ghost use Rattle.imago_storage.specs.Calls.{CountsFaults, Kept};
-ghost use Rattle.imago_storage.specs.Through.{round_up, IsAtOnce, IsOnePart, Parts, OneRequest, NoRequest, RequestsOnce, Through, Halted, NotThrough};
+ghost use Rattle.imago_storage.specs.Fault.{cause_of};
+ghost use Rattle.imago_storage.specs.Through.{round_up, IsAtOnce, IsOnePart, Parts, OneRequest, NoRequest, RequestsOnce, Through, Halted, BeforeOrWithin};
 ghost use Rattle.imago_storage.specs.Edges.{IsEdge, Pads};
+ghost use Rattle.imago_storage.specs.declared.padding.WriteFault.TheVariants.{Before};
 
 use crate::edits::copy_in;
 use crate::{Fault, Storage};
 use std::alloc::Global;
+
+/// Why a write was refused, and whether it had begun.
+#[derive(Clone, Copy, Debug, PartialEq, Eq)]
+pub enum WriteFault {
+    /// Before it asked for a change: nothing has changed.
+    Before(Fault),
+    /// The storage refused a change: a part may be written.
+    Within(Fault),
+}
+
+impl WriteFault {
+    /// The fault alone.
+    pub fn fault(self) -> Fault
+        ensures { result ≡ cause_of self }
+    {
+        match self {
+            WriteFault::Before(fault) => fault,
+            WriteFault::Within(fault) => fault,
+        }
+    }
+}
+
+/// So `?` passes on what comes before the first change is asked for.
+impl From<Fault> for WriteFault {
+    ghost from_gives = { λ fault e. e ≡ Before fault };
+
+    fn from(fault: Fault) -> Self {
+        WriteFault::Before(fault)
+    }
+}
 
 // The lengths of the first two of a range's three parts: bytes in one unit, whole units, and bytes in one unit.
 pub fn parts_of_range(offset: u64, n: usize, unit: usize) -> (usize, usize)
@@ -153,7 +185,7 @@ fn write_in_parts<S: Storage>(
     data: &[u8],
     offset: u64,
     parts: (usize, usize),
-) -> Result<(), Fault>
+) -> Result<(), WriteFault>
     requires unit { unit ≡ unit_of (S.state storage.old).shape }
     requires positive { 0 < unit }
     requires some { 0 < length «data».now }
@@ -162,7 +194,7 @@ fn write_in_parts<S: Storage>(
     requires last { IsEdge unit (length «data».now - parts.0 - parts.1) (length last.old) }
     requires fits { round_up unit (offset + length «data».now) < 2 ^ 64 }
     ensures ok { OnOk result (Through unit (S.state storage.old) (S.state storage.new) offset «data».now) }
-    ensures err { IfErr result (NotThrough unit (S.state storage.old) (S.state storage.new) offset «data».now) }
+    ensures err { IfErr result (BeforeOrWithin unit (S.state storage.old) (S.state storage.new) offset «data».now) }
     ensures once { IsAtOnce unit offset (length «data».now)
         → RequestsOnce (S.state storage.old) (S.state storage.new) (length «data».now) result }
 {
@@ -178,6 +210,7 @@ fn write_in_parts<S: Storage>(
         last,
         offset - offset % unit as u64,
     )
+    .map_err(WriteFault::Within)
 }
 
 // Takes the buffers that a range needs, and writes it.
@@ -187,13 +220,13 @@ pub fn write_around<S: Storage>(
     unit: usize,
     data: &[u8],
     offset: u64,
-) -> Result<(), Fault>
+) -> Result<(), WriteFault>
     requires unit { unit ≡ unit_of (S.state storage.old).shape }
     requires positive { 0 < unit }
     requires some { 0 < length «data».now }
     requires fits { round_up unit (offset + length «data».now) < 2 ^ 64 }
     ensures ok { OnOk result (Through unit (S.state storage.old) (S.state storage.new) offset «data».now) }
-    ensures err { IfErr result (NotThrough unit (S.state storage.old) (S.state storage.new) offset «data».now) }
+    ensures err { IfErr result (BeforeOrWithin unit (S.state storage.old) (S.state storage.new) offset «data».now) }
     ensures once { IsAtOnce unit offset (length «data».now)
         → RequestsOnce (S.state storage.old) (S.state storage.new) (length «data».now) result }
 {

@@ -4,7 +4,7 @@ ghost use Rattle.imago_storage.specs.State.{IsWhole, unit_of};
 
 use cases::{Trouble, ok, runs};
 use imago_storage::{
-    Fault, PreallocateMode, Storage, StorageExt, larger_alignment, write_full_zeroes,
+    Fault, PreallocateMode, Storage, StorageExt, WriteFault, larger_alignment, write_full_zeroes,
 };
 use std::alloc::{AllocError, Global};
 
@@ -19,6 +19,7 @@ pub enum Call {
     ReadHere(u64, u64),
     PureRead(u64, u64),
     Write(u64, Vec<u8>),
+    TryWrite(u64, Vec<u8>),
     PureWrite(u64, Vec<u8>),
     Range(Kind, u64, u64),
     Resize(u64, PreallocateMode),
@@ -50,6 +51,8 @@ pub enum Answer {
     Bytes(Vec<u8>),
     Flag(bool),
     Text(String),
+    /// A write was refused, and tells whether it had begun.
+    NotWritten(WriteFault),
     /// It wanted memory where none is to be wanted.
     NoRoom,
 }
@@ -121,6 +124,22 @@ fn pure_read<S: Storage>(
     }
     storage.pure_read(&mut buf, offset)?;
     Ok(Answer::Bytes(buf))
+}
+
+// A write that tells whether it had begun. Want of memory is told as that of any other call, so that it is made once more.
+fn try_write<S: Storage>(
+    alloc: Global,
+    storage: &mut S,
+    offset: u64,
+    bytes: &[u8],
+) -> Result<Answer, Trouble> {
+    let Err(refused) = storage.try_write(alloc, bytes, offset) else {
+        return Ok(Answer::Done);
+    };
+    match refused.fault() {
+        Fault::Memory => Err(Trouble::Refused(Fault::Memory)),
+        _ => Ok(Answer::NotWritten(refused)),
+    }
 }
 
 fn pure_write<S: Storage>(storage: &mut S, offset: u64, bytes: &[u8]) -> Result<(), Trouble> {
@@ -207,6 +226,7 @@ pub fn perform<S: Storage>(alloc: Global, storage: &mut S, call: &Call) -> Resul
         Call::Read(offset, n) => read(alloc, storage, *offset, *n),
         Call::ReadHere(offset, n) => read_here(alloc, storage, *offset, *n),
         Call::PureRead(offset, n) => pure_read(alloc, storage, *offset, *n),
+        Call::TryWrite(offset, bytes) => try_write(alloc, storage, *offset, bytes),
         _ => {
             change(alloc, storage, call)?;
             Ok(Answer::Done)
@@ -225,6 +245,8 @@ pub fn text(alloc: Global, answer: &Answer) -> Result<String, AllocError> {
         Answer::Bytes(bytes) => runs(alloc, bytes),
         Answer::Flag(flag) => flag.to_string(alloc),
         Answer::Text(text) => text.as_str().to_string(alloc),
+        Answer::NotWritten(WriteFault::Before(fault)) => format!(in alloc; "before {fault}"),
+        Answer::NotWritten(WriteFault::Within(fault)) => format!(in alloc; "within {fault}"),
         Answer::NoRoom => "no room".to_string(alloc),
     }
 }

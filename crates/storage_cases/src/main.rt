@@ -14,7 +14,8 @@
 //! # Calls
 //!
 //! - `read OFFSET N`; `read_here OFFSET N`: at most 64 bytes, into a buffer that takes no memory, `no room` where memory was wanting.
-//!   `write OFFSET BYTES`.
+//!   `write OFFSET BYTES`; `try_write OFFSET BYTES`, which tells where it is refused whether it had begun: `before error N` or
+//!   `within error N`.
 //! - `zeroes`, `allocated`, `full`, `discard OFFSET N`: zeroes, zeroes that stay allocated, zeroes that are written, discards.
 //! - `pure_read`, `pure_zeroes`, `pure_allocated`, `pure_discard OFFSET N`, `pure_write OFFSET BYTES`: the storage's own calls, unpadded.
 //! - `resize SIZE none | zero | allocate | data`; `flush`, `sync`, `invalidate`.

@@ -45,6 +45,9 @@ fn short_call(words: &[&str]) -> Result<Call, Trouble> {
 pub fn call(alloc: Global, words: &[&str]) -> Result<Call, Trouble> {
     match words {
         ["write", offset, rest @ ..] => Ok(Call::Write(number(offset)?, bytes(alloc, rest)?)),
+        ["try_write", offset, rest @ ..] => {
+            Ok(Call::TryWrite(number(offset)?, bytes(alloc, rest)?))
+        }
         ["pure_write", offset, rest @ ..] => {
             Ok(Call::PureWrite(number(offset)?, bytes(alloc, rest)?))
         }

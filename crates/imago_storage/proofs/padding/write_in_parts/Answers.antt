@@ -1,10 +1,12 @@
 -- The two ends are read, and then each part is written as whole units.
 use Rattle.std.proofs.Common.{rules, arith, ◌≡◌, ◌+◌, ◌-◌, length, ◌++◌}
-use Rattle.std.proofs.lemmas.Result.{on_ok_weaker, IfErr-weaker}
+use Rattle.std.proofs.lemmas.Result.{on_ok_weaker}
 use Rattle.imago_storage.proofs.Rounding.{le_round_up}
 use Rattle.imago_storage.proofs.Composing.{kept_same}
 use Rattle.imago_storage.proofs.Edges.{some-here, parts-here, first-here, last-here, first-laid, mid-laid, last-laid}
-use Rattle.imago_storage.proofs.Around.{split-twice, around-through, around-not}
+use Rattle.imago_storage.proofs.Around.{split-twice, around-halted, around-through}
+use Rattle.imago_storage.proofs.Parts.{mapped}
+use Rattle.imago_storage.specs.declared.padding.WriteFault.TheVariants.{Within}
 use Rattle.imago_storage.proofs.padding.write_in_parts.Goals as goal
 
 pub overflow_add-behind : goal.overflow_add-behind
@@ -39,11 +41,12 @@ returns-clause-ok g c =
     let whole : c.split_at.result.0.now ++ c.split_at-2.result.0.now ++ c.split_at-2.result.1.now ≡ c.args.data.now =
     split-twice c.args.data.now c.split_at.result.1.now c.split_at.result.0.now c.split_at-2.result.0.now c.split_at-2.result.1.now c.args.parts.0 c.args.parts.1 c.split_at.ensures.front c.split_at.ensures.back c.split_at-2.ensures.front c.split_at-2.ensures.back in
     let same = kept_same (s c.args.storage.now) (s c.pad_edges.new.storage) c.in_ok-pad_edges.ensures.kept c.in_ok-pad_edges.ensures.faults in
-    on_ok_weaker c.write_units.result
+    mapped c.write_units.result c.map_err.result Within _ _ _ c.map_err.ensures.cases (λ e none. none)
+    (on_ok_weaker c.write_units.result
     (around-through c.args.unit c.requires.positive (s c.args.storage.now) (s c.pad_edges.new.storage) (s c.write_units.new.storage) same c.args.offset (c.args.offset + c.args.parts.0 + c.args.parts.1)
     c.split_at.result.0.now c.split_at-2.result.0.now c.split_at-2.result.1.now c.pad_edges.new.first c.pad_edges.new.last c.args.data.now
     (some-here c.args.unit c.args.offset (length c.args.data.now) c.args.parts.0 c.args.parts.1 (length c.split_at.result.0.now) (length c.split_at-2.result.0.now) (length c.split_at-2.result.1.now) (length c.pad_edges.new.first) (length c.args.first.now) (length c.pad_edges.new.last) (length c.args.last.now) c.requires.some c.requires.parts c.requires.first c.requires.last h m t f l) (parts-here c.args.unit c.args.offset (length c.args.data.now) c.args.parts.0 c.args.parts.1 (length c.split_at.result.0.now) (length c.split_at-2.result.0.now) (length c.split_at-2.result.1.now) (length c.pad_edges.new.first) (length c.args.first.now) (length c.pad_edges.new.last) (length c.args.last.now) c.requires.some c.requires.parts c.requires.first c.requires.last h m t f l) (first-here c.args.unit c.args.offset (length c.args.data.now) c.args.parts.0 c.args.parts.1 (length c.split_at.result.0.now) (length c.split_at-2.result.0.now) (length c.split_at-2.result.1.now) (length c.pad_edges.new.first) (length c.args.first.now) (length c.pad_edges.new.last) (length c.args.last.now) c.requires.some c.requires.parts c.requires.first c.requires.last h m t f l) (last-here c.args.unit c.args.offset (length c.args.data.now) c.args.parts.0 c.args.parts.1 (length c.split_at.result.0.now) (length c.split_at-2.result.0.now) (length c.split_at-2.result.1.now) (length c.pad_edges.new.first) (length c.args.first.now) (length c.pad_edges.new.last) (length c.args.last.now) c.requires.some c.requires.parts c.requires.first c.requires.last h m t f l) whole (omega (arith, h, m)) c.in_ok-pad_edges.ensures.first c.in_ok-pad_edges.ensures.last)
-    c.write_units.ensures.ok
+    c.write_units.ensures.ok)
 
 pub returns-clause-err : goal.returns-clause-err
 returns-clause-err g c =
@@ -56,8 +59,8 @@ returns-clause-err g c =
     let whole : c.split_at.result.0.now ++ c.split_at-2.result.0.now ++ c.split_at-2.result.1.now ≡ c.args.data.now =
     split-twice c.args.data.now c.split_at.result.1.now c.split_at.result.0.now c.split_at-2.result.0.now c.split_at-2.result.1.now c.args.parts.0 c.args.parts.1 c.split_at.ensures.front c.split_at.ensures.back c.split_at-2.ensures.front c.split_at-2.ensures.back in
     let same = kept_same (s c.args.storage.now) (s c.pad_edges.new.storage) c.in_ok-pad_edges.ensures.kept c.in_ok-pad_edges.ensures.faults in
-    IfErr-weaker c.write_units.result _ _
-    (around-not c.args.unit c.requires.positive (s c.args.storage.now) (s c.pad_edges.new.storage) (s c.write_units.new.storage) same c.args.offset (c.args.offset + c.args.parts.0 + c.args.parts.1)
+    mapped c.write_units.result c.map_err.result Within _ _ _ c.map_err.ensures.cases
+    (around-halted c.args.unit c.requires.positive (s c.args.storage.now) (s c.pad_edges.new.storage) (s c.write_units.new.storage) same c.args.offset (c.args.offset + c.args.parts.0 + c.args.parts.1)
     c.split_at.result.0.now c.split_at-2.result.0.now c.split_at-2.result.1.now c.pad_edges.new.first c.pad_edges.new.last c.args.data.now
     (some-here c.args.unit c.args.offset (length c.args.data.now) c.args.parts.0 c.args.parts.1 (length c.split_at.result.0.now) (length c.split_at-2.result.0.now) (length c.split_at-2.result.1.now) (length c.pad_edges.new.first) (length c.args.first.now) (length c.pad_edges.new.last) (length c.args.last.now) c.requires.some c.requires.parts c.requires.first c.requires.last h m t f l) (parts-here c.args.unit c.args.offset (length c.args.data.now) c.args.parts.0 c.args.parts.1 (length c.split_at.result.0.now) (length c.split_at-2.result.0.now) (length c.split_at-2.result.1.now) (length c.pad_edges.new.first) (length c.args.first.now) (length c.pad_edges.new.last) (length c.args.last.now) c.requires.some c.requires.parts c.requires.first c.requires.last h m t f l) (first-here c.args.unit c.args.offset (length c.args.data.now) c.args.parts.0 c.args.parts.1 (length c.split_at.result.0.now) (length c.split_at-2.result.0.now) (length c.split_at-2.result.1.now) (length c.pad_edges.new.first) (length c.args.first.now) (length c.pad_edges.new.last) (length c.args.last.now) c.requires.some c.requires.parts c.requires.first c.requires.last h m t f l) (last-here c.args.unit c.args.offset (length c.args.data.now) c.args.parts.0 c.args.parts.1 (length c.split_at.result.0.now) (length c.split_at-2.result.0.now) (length c.split_at-2.result.1.now) (length c.pad_edges.new.first) (length c.args.first.now) (length c.pad_edges.new.last) (length c.args.last.now) c.requires.some c.requires.parts c.requires.first c.requires.last h m t f l) whole (omega (arith, h, m)) c.in_ok-pad_edges.ensures.first c.in_ok-pad_edges.ensures.last)
     c.write_units.ensures.err

@@ -1,14 +1,7 @@
-use Rattle.imago_storage.proofs.Parts.{stops_of, as_long_of, shape_of, later_of}
+use Rattle.imago_storage.specs.Fault.{cause_of}
+use Rattle.imago_storage.proofs.Parts.{mapped}
+use Rattle.imago_storage.proofs.Trying.{untold}
 use Rattle.imago_storage.proofs.ext.AnyStorageExt.write.Goals as goal
 
-pub returns-clause-stops : goal.returns-clause-stops
-returns-clause-stops g c = stops_of _ _ _ _ _ _ c.write_padded.result c.write_padded.ensures.ok c.write_padded.ensures.err
-
-pub returns-clause-shape : goal.returns-clause-shape
-returns-clause-shape g c = shape_of _ _ _ _ _ _ c.write_padded.result c.write_padded.ensures.ok c.write_padded.ensures.err
-
-pub returns-clause-later : goal.returns-clause-later
-returns-clause-later g c = later_of _ _ _ _ _ _ c.write_padded.result c.write_padded.ensures.ok c.write_padded.ensures.err
-
-pub returns-clause-as_long : goal.returns-clause-as_long
-returns-clause-as_long g c = as_long_of _ _ _ _ _ _ c.write_padded.result c.write_padded.ensures.ok c.write_padded.ensures.err
+pub returns-clause-err : goal.returns-clause-err
+returns-clause-err g c = mapped c.try_write.result c.map_err.result cause_of _ _ _ c.map_err.ensures.cases (untold _ _ _ _) c.try_write.ensures.err
