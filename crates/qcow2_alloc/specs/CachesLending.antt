@@ -11,7 +11,9 @@ use Rattle.qcow2_alloc.specs.declared.async_lru_cache.Slot.{Slot}
 use Rattle.qcow2_alloc.specs.declared.cache.MetadataCaches.{MetadataCaches}
 use Rattle.qcow2_alloc.specs.declared.file.ImageFile.{ImageFile}
 use Rattle.qcow2_alloc.specs.contracts.cache.MetadataCaches.{the_row}
-use Rattle.qcow2_metadata.specs.contracts.l2_table.L2Table.{the_row as table_row}
+use Rattle.qcow2_metadata.specs.contracts.entries.L2Entry.{the_row as entry_row}
+use Rattle.qcow2_metadata.specs.contracts.entries.L2EntryTableEntry.TheImpl.{ghosts}
+use Rattle.qcow2_metadata.specs.contracts.word_table.WordTable.{the_row as table_row}
 use Rattle.qcow2_metadata.specs.contracts.refblock.RefBlock.{the_row as block_row}
 use Rattle.qcow2_alloc.specs.Backends.{TableLoaded, TableFlushed, BlockLoaded, BlockFlushed}
 use Rattle.qcow2_alloc.specs.Cache.{CacheKind, cache_kind, hit, with_entries}
@@ -55,7 +57,7 @@ module _ (S : RattleType) (state : S.Denot → StorageState) where
   -- The table is found or loaded with the value that r shows, and goes first, with the last value written through r.
   abbrev pub lends_table : MutBor (MetadataCaches S.Denot) → ImageFile S.Denot → ImageFile S.Denot → ℕ
       → Result (MutBor TableValue) Fault → Fml
-  lends_table c before after cluster r = LendsSoOk (the_row S) table_row c r
+  lends_table c before after cluster r = LendsSoOk (the_row S) (table_row entry_row ghosts) c r
       (λ n w. (mid : MetadataCaches S.Denot) × TableFound state cluster c.now before (Ok tt) mid after
       × IfOk r (λ v. option_map (λ s. s.value) (lookup (nat_eq cluster) (cached_in mid).tables) ≡ Some v.now)
       × (n ≡ with_tables mid (hit (nat_eq cluster) (cached_in mid).tables w)))

@@ -92,9 +92,6 @@ zeroed_fits bits (Some kept) near = fits kept.1
 pub cleared_sound : (layout : Layout) (n : ℕ) → AreSound l2_words layout (replicate n 0)
 cleared_sound layout n = each_zero (λ w. IsTrue (word_sound l2_words layout w)) n (zero_sound l2_words layout)
 
-pub cleared_fit : (n : ℕ) → AreFit (replicate n 0)
-cleared_fit n = each_zero (λ w. w < 2 ^ 64) n (lit< tt)
-
 pick : (c a n s z p q : Bool) (o l o' l' k k' : ℕ) (x x' : Bool) (y y' : Option ℕ)
     → is_damaged (if c then (if a || n then damaged else packed o l) else (if not s then damaged else if z then zeroes y x else if p then data_at k x else unmapped)) ≡ false
     → is_damaged (if c then (if false || n then damaged else packed o' l') else (if not s then damaged else if z then zeroes y' x' else if q then data_at k' x' else unmapped)) ≡ false

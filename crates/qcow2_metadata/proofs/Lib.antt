@@ -27,6 +27,7 @@ pub mod WordFacts
 pub mod TableFacts
 pub mod Untouched
 pub mod TableSteps
+pub mod WordLists
 pub mod GrowthLemmas
 pub mod L2Words
 pub mod Conservation

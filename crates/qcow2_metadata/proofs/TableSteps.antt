@@ -137,8 +137,3 @@ block_word_named bits (Some c) low placed =
     let clear : c * 2 ^ bits / 2 ^ 0 % 2 ^ 9 ≡ 0 = omega arith in
     let same : block_offset (c * 2 ^ bits) ≡ c * 2 ^ bits = omega arith in
     rw (clear, same) (cluster_place bits c low placed)
-
--- where a placed table or block begins, far below 2^63
-pub placed_below : (bits : ℕ) (cluster : Option ℕ) → IsPlaced bits cluster → place_of bits cluster < 2 ^ 62
-placed_below bits None placed = absurd placed
-placed_below bits (Some c) placed = let near : c * 2 ^ bits ≤ 0x00ff_ffff_ffff_fe00 = placed in omega arith

@@ -15,9 +15,7 @@ pub mod Reloading
 pub mod Tables
 pub mod LayoutView
 pub mod MappingView
-pub mod L1View
 pub mod Growth
 pub mod Allocations
-pub mod RefTableView
-pub mod L2View
+pub mod TableView
 pub mod StoredView

@@ -1,10 +1,12 @@
 // The words of tables.
 //
 // From the sections "Host cluster management" and "Cluster mapping" of the format.
-ghost use Rattle.std.specs.Prelude.{◌≡◌, refl, ℕ, ◌+◌, ◌-◌, ◌<◌, List, [], ◌∷◌, ◌++◌, ◌*◌, ◌%◌, ◌^◌, ◌≤◌, ◌↔◌, IsTrue, IsOk, IfOk, IsOkUnless};
+ghost use Rattle.std.specs.Prelude.{◌≡◌, refl, ℕ, ◌+◌, ◌-◌, ◌<◌, List, map, ◌*◌, ◌%◌, ◌^◌, ◌≤◌, ◌↔◌, IsTrue, IsOk, IfOk, IsOkUnless};
 ghost use Rattle.qcow2_types.specs.Header.{layout_of};
 ghost use Rattle.qcow2_types.specs.Words.{bits_at, has_bit as has_bit_of, is_copied as is_copied_of, table_offset, block_offset};
-ghost use Rattle.qcow2_metadata.specs.Tables.{Kind, l1_words, l2_words, block_words, word_sound, l1_reserved, l2_reserved, block_reserved, place_or_none, named_place, packed_range as packed_range_of, zero_word};
+ghost use Rattle.qcow2_metadata.specs.Tables.{Kind, l1_words, l2_words, block_words, max_entries, word_sound, l1_reserved, l2_reserved, block_reserved, place_or_none, named_place, packed_range as packed_range_of, zero_word};
+ghost use Rattle.std.proofs.Common.{sym};
+ghost use Rattle.std.proofs.lemmas.List.{map-id};
 
 use crate::Header;
 use crate::layout::TableLayout;
@@ -26,6 +28,14 @@ pub trait TableEntry: Copy {
     /// The kind of tables that it stands in.
     ghost kind: { Kind };
 
+    ghost MAX_ENTRIES: { ℕ };
+
+    /// What a table of these words is called.
+    const TABLE_NAME: &'static str;
+
+    /// The greatest number of words of such a table.
+    const MAX_ENTRIES: usize;
+
     /// The word of this value, in an image with this header.
     ///
     /// Refused with `Fault::DamagedTable` exactly where the format gives the word no meaning.
@@ -42,9 +52,9 @@ pub trait TableEntry: Copy {
     fn empty() -> Self
         ensures { word result ≡ 0 };
 
-    ghost none: { words [] ≡ [] };
+    ghost each: { (entries : List Self) → words entries ≡ map word entries };
 
-    ghost pushed: { (entries : List Self) (entry : Self) → words (entries ++ entry ∷ []) ≡ words entries ++ word entry ∷ [] };
+    ghost few: { MAX_ENTRIES ≡ max_entries kind };
 }
 
 /// A word of the L1 table: where an L2 table stands.
@@ -90,6 +100,12 @@ impl TableEntry for L1Entry {
 
     ghost kind = { l1_words };
 
+    ghost MAX_ENTRIES = { 4194304 };
+
+    const TABLE_NAME: &'static str = "L1 table";
+
+    const MAX_ENTRIES: usize = 4_194_304;
+
     fn try_from_plain(value: u64, header: &Header) -> Result<L1Entry, Fault> {
         if is_l1_word(value, header.cluster_bits()) {
             Ok(L1Entry(value))
@@ -106,9 +122,9 @@ impl TableEntry for L1Entry {
         L1Entry(0)
     }
 
-    ghost none = { refl };
+    ghost each = { λ es. sym (map-id es) };
 
-    ghost pushed = { λ es e. refl };
+    ghost few = { refl };
 }
 
 impl TableEntry for L2Entry {
@@ -117,6 +133,12 @@ impl TableEntry for L2Entry {
     ghost words = { λ es. es };
 
     ghost kind = { l2_words };
+
+    ghost MAX_ENTRIES = { 262144 };
+
+    const TABLE_NAME: &'static str = "L2 table";
+
+    const MAX_ENTRIES: usize = 262_144;
 
     fn try_from_plain(value: u64, header: &Header) -> Result<L2Entry, Fault> {
         // Most words of most tables name nothing.
@@ -137,9 +159,9 @@ impl TableEntry for L2Entry {
         L2Entry(0)
     }
 
-    ghost none = { refl };
+    ghost each = { λ es. sym (map-id es) };
 
-    ghost pushed = { λ es e. refl };
+    ghost few = { refl };
 }
 
 impl TableEntry for RefTableEntry {
@@ -148,6 +170,12 @@ impl TableEntry for RefTableEntry {
     ghost words = { λ es. es };
 
     ghost kind = { block_words };
+
+    ghost MAX_ENTRIES = { 1048576 };
+
+    const TABLE_NAME: &'static str = "refcount table";
+
+    const MAX_ENTRIES: usize = 1_048_576;
 
     fn try_from_plain(value: u64, header: &Header) -> Result<RefTableEntry, Fault> {
         if is_block_word(value, header.cluster_bits()) {
@@ -165,9 +193,9 @@ impl TableEntry for RefTableEntry {
         RefTableEntry(0)
     }
 
-    ghost none = { refl };
+    ghost each = { λ es. sym (map-id es) };
 
-    ghost pushed = { λ es e. refl };
+    ghost few = { refl };
 }
 
 // A place, where 0 is none.

@@ -1,120 +1,26 @@
 // The L1 table.
 ghost use Rattle.std.specs.Prelude.{◌≡◌, ℕ, ◌+◌, ◌*◌, ◌^◌, ◌<◌, ◌≤◌, ◌-◌, ◌↔◌, IsTrue, IsOk, IfOk, IsErrOf, IsOkUnless, length, min, refl, Some, None, true, false};
 ghost use Rattle.qcow2_types.specs.Header.{layout_of};
-ghost use Rattle.qcow2_metadata.specs.Tables.{IsLength, AreSound, IsNamable, l1_words, grown_l1, with_word, table_place};
-ghost use Rattle.qcow2_types.specs.TableBytes.{AreFit};
+ghost use Rattle.qcow2_metadata.specs.Tables.{IsNamable, grown_l1, with_word, table_place};
 
 use crate::Header;
-use crate::entries::{L1Entry, TableEntry};
+use crate::entries::L1Entry;
 use crate::l2_table::L2Table;
-use crate::layout::TableLayout;
 use crate::table::{Table, first_byte, longer_content, spend};
+use crate::word_table::WordTable;
 use imago_storage::Fault;
-use qcow2_types::{HostCluster, HostOffset, PendingClusters};
+use qcow2_types::{HostOffset, PendingClusters};
 use std::alloc::Global;
-use std::marker::Model;
 
 /// The L1 table: each of its words says where an L2 table stands. It is kept in memory.
-#[derive(Drop)]
-pub struct L1Table {
-    content: Vec<L1Entry>,
-    layout: TableLayout,
-    cluster: Option<HostCluster>,
-    modified: bool,
-}
-
-impl Model for L1Table {
-    ghost use Rattle.qcow2_metadata.specs.Tables.{TableValue};
-
-    ghost Value = { TableValue };
-
-    ghost use Rattle.qcow2_metadata.specs.L1View.{seen_l1, IsL1};
-
-    ghost view = { seen_l1 };
-
-    ghost invariant = { IsL1 };
-}
-
-impl Table for L1Table {
-    type InternalEntry = L1Entry;
-
-    type Entry = L1Entry;
-
-    ghost value = { λ t. t };
-
-    ghost MAX_ENTRIES = { 4194304 };
-
-    const NAME: &'static str = "L1 table";
-
-    const MAX_ENTRIES: usize = 4_194_304;
-
-    fn from_data(content: Vec<L1Entry>, header: &Header) -> L1Table
-        requires long { IsLength l1_words (layout_of header.now.fields) (length content.items) }
-        requires sound { AreSound l1_words (layout_of header.now.fields) content.items }
-        requires fit { AreFit content.items }
-        ensures { result ≡ record { layout = layout_of header.now.fields; words = content.items; cluster = None; modified = true } }
-    {
-        L1Table {
-            content,
-            layout: TableLayout::of_header(header),
-            cluster: None,
-            modified: true,
-        }
-    }
-
-    fn entries(&self) -> usize {
-        self.content.len()
-    }
-
-    fn get_ref(&self, index: usize) -> Option<&L1Entry> {
-        self.content.get(index)
-    }
-
-    fn get(&self, index: usize) -> L1Entry {
-        match self.content.get(index) {
-            Some(entry) => *entry,
-            None => L1Entry::empty(),
-        }
-    }
-
-    fn get_cluster(&self) -> Option<HostCluster> {
-        self.cluster
-    }
-
-    fn set_cluster(&mut self, cluster: HostCluster) {
-        self.cluster = Some(cluster);
-        self.modified = true;
-    }
-
-    fn unset_cluster(&mut self) {
-        self.cluster = None;
-    }
-
-    fn cluster_bits(&self) -> u32 {
-        self.layout.cluster_bits()
-    }
-
-    fn is_modified(&self) -> bool {
-        self.modified
-    }
-
-    fn set_modified(&mut self) {
-        self.modified = true;
-    }
-
-    fn clear_modified(&mut self) {
-        self.modified = false;
-    }
-
-    ghost few = { refl };
-}
+pub type L1Table = WordTable<L1Entry>;
 
 impl L1Table {
     /// Whether there is a word at an index.
     pub fn in_bounds(&self, index: usize) -> bool
         ensures { IsTrue result ↔ (index < length self.now.words) }
     {
-        index < self.content.len()
+        index < self.entries()
     }
 
     /// A copy for the image with this header that has a word at the index `at`: what is added is 0. It has no cluster, and is
@@ -157,8 +63,7 @@ impl L1Table {
         ensures { self.new ≡ with_word self.old index (2 ^ 63 + table_place table.now) }
     {
         let place = first_byte(table);
-        self.content[index] = L1Entry::naming(HostOffset(place));
-        self.modified = true;
+        self.set_entry(index, L1Entry::naming(HostOffset(place)));
         spend(pending);
     }
 }

@@ -6,8 +6,8 @@ ghost use Rattle.qcow2_types.specs.Places.{l2_entries};
 ghost use Rattle.qcow2_types.specs.Words.{mapping_of};
 ghost use Rattle.imago_storage.specs.Through.{PutAtOnce};
 ghost use Rattle.qcow2_metadata.specs.Places.{IsInReach};
-ghost use Rattle.qcow2_metadata.specs.Tables.{IsLength, AreSound, l2_words, mapping_in, with_word, shared_word};
-ghost use Rattle.qcow2_types.specs.TableBytes.{AreFit, table_bytes};
+ghost use Rattle.qcow2_metadata.specs.Tables.{mapping_in, with_word, shared_word};
+ghost use Rattle.qcow2_types.specs.TableBytes.{table_bytes};
 
 use crate::Header;
 use crate::entries::{L2Entry, TableEntry};
@@ -16,6 +16,7 @@ use crate::mapping::{
     L2Mapping, allocation, kept_cluster, to_free, to_free_unless, to_free_unless_kept, zero_entry,
 };
 use crate::table::{Table, spend};
+use crate::word_table::WordTable;
 use crate::words::l2_mapping;
 use imago_storage::{Fault, Storage};
 use qcow2_types::{
@@ -23,102 +24,9 @@ use qcow2_types::{
     PendingClusters,
 };
 use std::alloc::{AllocFailed, Global};
-use std::marker::Model;
 
 /// An L2 table: each of its words says where the bytes of a guest cluster are. It fills one cluster, and is kept in memory.
-#[derive(Drop)]
-pub struct L2Table {
-    content: Vec<L2Entry>,
-    layout: TableLayout,
-    cluster: Option<HostCluster>,
-    modified: bool,
-}
-
-impl Model for L2Table {
-    ghost use Rattle.qcow2_metadata.specs.Tables.{TableValue};
-
-    ghost Value = { TableValue };
-
-    ghost use Rattle.qcow2_metadata.specs.L2View.{seen_l2, IsL2};
-
-    ghost view = { seen_l2 };
-
-    ghost invariant = { IsL2 };
-}
-
-impl Table for L2Table {
-    type InternalEntry = L2Entry;
-
-    type Entry = L2Entry;
-
-    ghost value = { λ t. t };
-
-    ghost MAX_ENTRIES = { 262144 };
-
-    const NAME: &'static str = "L2 table";
-
-    const MAX_ENTRIES: usize = 262_144;
-
-    fn from_data(content: Vec<L2Entry>, header: &Header) -> L2Table
-        requires long { IsLength l2_words (layout_of header.now.fields) (length content.items) }
-        requires sound { AreSound l2_words (layout_of header.now.fields) content.items }
-        requires fit { AreFit content.items }
-        ensures { result ≡ record { layout = layout_of header.now.fields; words = content.items; cluster = None; modified = true } }
-    {
-        L2Table {
-            content,
-            layout: TableLayout::of_header(header),
-            cluster: None,
-            modified: true,
-        }
-    }
-
-    fn entries(&self) -> usize {
-        self.content.len()
-    }
-
-    fn get_ref(&self, index: usize) -> Option<&L2Entry> {
-        self.content.get(index)
-    }
-
-    fn get(&self, index: usize) -> L2Entry {
-        match self.content.get(index) {
-            Some(entry) => *entry,
-            None => L2Entry::empty(),
-        }
-    }
-
-    fn get_cluster(&self) -> Option<HostCluster> {
-        self.cluster
-    }
-
-    fn set_cluster(&mut self, cluster: HostCluster) {
-        self.cluster = Some(cluster);
-        self.modified = true;
-    }
-
-    fn unset_cluster(&mut self) {
-        self.cluster = None;
-    }
-
-    fn cluster_bits(&self) -> u32 {
-        self.layout.cluster_bits()
-    }
-
-    fn is_modified(&self) -> bool {
-        self.modified
-    }
-
-    fn set_modified(&mut self) {
-        self.modified = true;
-    }
-
-    fn clear_modified(&mut self) {
-        self.modified = false;
-    }
-
-    ghost few = { refl };
-}
+pub type L2Table = WordTable<L2Entry>;
 
 impl L2Table {
     ghost use Rattle.qcow2_metadata.specs.MappingView.{mapping_seen, BacksAt, IsNamed};
@@ -141,12 +49,7 @@ impl L2Table {
         for _word in 0..header.l2_entries() {
             content.push(L2Entry::empty())?;
         }
-        Ok(L2Table {
-            content,
-            layout: TableLayout::of_header(header),
-            cluster: None,
-            modified: true,
-        })
+        Ok(L2Table::of_words(content, TableLayout::of_header(header)))
     }
 
     // What the word at an index means. The layer below is read at `backing_offset`.
@@ -156,7 +59,7 @@ impl L2Table {
         ensures named { IsNamed self.now.layout.cluster_bits result }
         ensures backs { BacksAt backing_offset result }
     {
-        match l2_mapping(self.content[index].to_plain(), self.layout, backing_offset) {
+        match l2_mapping(self.get(index).to_plain(), self.layout(), backing_offset) {
             Ok(mapping) => mapping,
             Err(_) => unreachable!(),
         }
@@ -169,7 +72,7 @@ impl L2Table {
         ensures named { IsNamed self.now.layout.cluster_bits result }
         ensures backs { BacksAt (lookup_cluster * 2 ^ self.now.layout.cluster_bits) result }
     {
-        let cluster_bits = self.layout.cluster_bits();
+        let cluster_bits = self.cluster_bits();
         let GuestOffset(place) = lookup_cluster.offset(cluster_bits);
         self.mapping_at(lookup_cluster.l2_index(cluster_bits), place)
     }
@@ -200,7 +103,9 @@ impl L2Table {
         ensures err { OnErr result (self.new ≡ record self.old { modified = true }) }
     {
         let _ = cluster;
-        if self.modified {
+        // It fills its cluster.
+        let _ = self.entries();
+        if self.is_modified() {
             self.write(alloc, image)
         } else {
             Ok(())
@@ -217,20 +122,15 @@ impl L2Table {
             { words = map (shared_word self.now.layout) self.now.words; cluster = None; modified = true }) }
         ensures err { IsOkUnless result Fault.Memory }
     {
-        let mut content = Vec::with_capacity(alloc, self.content.len())?;
-        for entry in &self.content {
-            content.push(if self.layout.external_data() {
+        let mut content = Vec::with_capacity(alloc, self.entries())?;
+        for entry in self.content() {
+            content.push(if self.layout().external_data() {
                 *entry
             } else {
                 entry.without_copied()
             })?;
         }
-        Ok(L2Table {
-            content,
-            layout: self.layout,
-            cluster: None,
-            modified: true,
-        })
+        Ok(L2Table::of_words(content, self.layout()))
     }
 
     /// Where the compressed bytes of a guest cluster are, or none where it isn't compressed. Nothing is decompressed.
@@ -242,7 +142,7 @@ impl L2Table {
             (λ guard. packed_part (mapping_in self.now (cluster % l2_entries self.now.layout.cluster_bits))
             ≡ Some (guard.host_offset, guard.length)) }
     {
-        let index = cluster.l2_index(self.layout.cluster_bits());
+        let index = cluster.l2_index(self.cluster_bits());
         match self.mapping_at(index, 0) {
             L2Mapping::Compressed {
                 host_offset,
@@ -261,7 +161,7 @@ impl L2Table {
         requires { index < length self.now.words }
         ensures { result ≡ allocation_of self.now.layout.cluster_bits (mapping_in self.now index) }
     {
-        allocation(self.mapping_at(index, 0), self.layout.cluster_bits())
+        allocation(self.mapping_at(index, 0), self.cluster_bits())
     }
 
     // The host cluster of the word at an index that is kept when its guest cluster is zeroed, with its copied mark.
@@ -270,7 +170,7 @@ impl L2Table {
         ensures kept { result ≡ kept_where keep (mapping_in self.now index) }
         ensures reach { IsKeptInReach self.now.layout.cluster_bits result }
     {
-        kept_cluster(self.mapping_at(index, 0), keep, self.layout.cluster_bits())
+        kept_cluster(self.mapping_at(index, 0), keep, self.cluster_bits())
     }
 
     // Makes the word at an index name a host cluster, as one whose reference count is 1. It answers the clusters that the word named
@@ -291,9 +191,8 @@ impl L2Table {
             (newly cluster (allocation_of self.old.layout.cluster_bits (mapping_in self.old index))) }
     {
         let old = self.allocation_at(index);
-        let place = cluster.offset(self.layout.cluster_bits());
-        self.content[index] = L2Entry::naming(place);
-        self.modified = true;
+        let place = cluster.offset(self.cluster_bits());
+        self.set_entry(index, L2Entry::naming(place));
         spend(pending);
         to_free_unless(old, cluster)
     }
@@ -307,8 +206,7 @@ impl L2Table {
             (mapping_of self.old.layout 0) result (λ c. 0) }
     {
         let old = self.allocation_at(index);
-        self.content[index] = L2Entry::empty();
-        self.modified = true;
+        self.set_entry(index, L2Entry::empty());
         to_free(old)
     }
 
@@ -333,14 +231,13 @@ impl L2Table {
             (mapping_of self.old.layout (zeroed_word self.old.layout.cluster_bits (kept_where keep_allocation (mapping_in self.old index))))
             entry (λ c. 0)) }
     {
-        if self.layout.version() != 3 {
+        if self.layout().version() != 3 {
             return Err(Fault::VersionLimit);
         }
         let old = self.allocation_at(index);
         let kept = self.kept_at(index, keep_allocation);
         let is_kept = kept.is_some();
-        self.content[index] = zero_entry(kept, self.layout.cluster_bits());
-        self.modified = true;
+        self.set_entry(index, zero_entry(kept, self.cluster_bits()));
         Ok(to_free_unless_kept(old, is_kept))
     }
 }

@@ -21,6 +21,7 @@ mod refblock;
 mod rules;
 mod stored_table;
 mod table;
+mod word_table;
 pub mod words;
 
 pub use entries::{L1Entry, L2Entry, RefTableEntry, TableEntry};
@@ -32,3 +33,4 @@ pub use ref_table::RefTable;
 pub use refblock::{RefBlock, RefBlockWriteGuard};
 pub use stored_table::StoredL2Table;
 pub use table::Table;
+pub use word_table::WordTable;

@@ -4,114 +4,21 @@ ghost use Rattle.qcow2_types.specs.Header.{Shaped, layout_of, words_of_cluster};
 ghost use Rattle.qcow2_types.specs.Counts.{counters_of_block};
 ghost use Rattle.qcow2_metadata.specs.Growth.{IsEnough, IsGrownLength};
 ghost use Rattle.qcow2_metadata.specs.Places.{place_of};
-ghost use Rattle.qcow2_metadata.specs.Tables.{IsLength, AreSound, IsNamable, block_words, padded, with_word};
-ghost use Rattle.qcow2_types.specs.TableBytes.{AreFit};
+ghost use Rattle.qcow2_metadata.specs.Tables.{IsNamable, padded, with_word};
 
 use crate::Header;
 use crate::clusters::first_byte_of;
-use crate::entries::{RefTableEntry, TableEntry};
+use crate::entries::RefTableEntry;
 use crate::layout::TableLayout;
 use crate::refblock::RefBlock;
 use crate::table::{Table, longer_content, spend};
+use crate::word_table::WordTable;
 use imago_storage::Fault;
-use qcow2_types::{HostCluster, HostOffset, PendingClusters};
+use qcow2_types::{HostOffset, PendingClusters};
 use std::alloc::Global;
-use std::marker::Model;
 
 /// The refcount table: each of its words says where a refcount block stands. It is kept in memory.
-#[derive(Drop)]
-pub struct RefTable {
-    content: Vec<RefTableEntry>,
-    layout: TableLayout,
-    cluster: Option<HostCluster>,
-    modified: bool,
-}
-
-impl Model for RefTable {
-    ghost use Rattle.qcow2_metadata.specs.Tables.{TableValue};
-
-    ghost Value = { TableValue };
-
-    ghost use Rattle.qcow2_metadata.specs.RefTableView.{seen_ref_table, IsRefTable};
-
-    ghost view = { seen_ref_table };
-
-    ghost invariant = { IsRefTable };
-}
-
-impl Table for RefTable {
-    type InternalEntry = RefTableEntry;
-
-    type Entry = RefTableEntry;
-
-    ghost value = { λ t. t };
-
-    ghost MAX_ENTRIES = { 1048576 };
-
-    const NAME: &'static str = "refcount table";
-
-    const MAX_ENTRIES: usize = 1_048_576;
-
-    fn from_data(content: Vec<RefTableEntry>, header: &Header) -> RefTable
-        requires long { IsLength block_words (layout_of header.now.fields) (length content.items) }
-        requires sound { AreSound block_words (layout_of header.now.fields) content.items }
-        requires fit { AreFit content.items }
-        ensures { result ≡ record { layout = layout_of header.now.fields; words = content.items; cluster = None; modified = true } }
-    {
-        RefTable {
-            content,
-            layout: TableLayout::of_header(header),
-            cluster: None,
-            modified: true,
-        }
-    }
-
-    fn entries(&self) -> usize {
-        self.content.len()
-    }
-
-    fn get_ref(&self, index: usize) -> Option<&RefTableEntry> {
-        self.content.get(index)
-    }
-
-    fn get(&self, index: usize) -> RefTableEntry {
-        match self.content.get(index) {
-            Some(entry) => *entry,
-            None => RefTableEntry::empty(),
-        }
-    }
-
-    fn get_cluster(&self) -> Option<HostCluster> {
-        self.cluster
-    }
-
-    fn set_cluster(&mut self, cluster: HostCluster) {
-        self.cluster = Some(cluster);
-        self.modified = true;
-    }
-
-    fn unset_cluster(&mut self) {
-        self.cluster = None;
-    }
-
-    fn cluster_bits(&self) -> u32 {
-        self.layout.cluster_bits()
-    }
-
-    fn is_modified(&self) -> bool {
-        self.modified
-    }
-
-    fn set_modified(&mut self) {
-        self.modified = true;
-    }
-
-    fn clear_modified(&mut self) {
-        self.modified = false;
-    }
-
-    ghost few = { refl };
-}
+pub type RefTable = WordTable<RefTableEntry>;
 
 /// The least length of at most `RefTable::MAX_ENTRIES` words that fills its clusters, of `cluster_words` words each, is above
 /// `at`, and whose new blocks, of `counters` counters each, have room to count the table's clusters and the blocks themselves;
@@ -148,7 +55,7 @@ impl RefTable {
     pub fn in_bounds(&self, index: usize) -> bool
         ensures { IsTrue result ↔ (index < length self.now.words) }
     {
-        index < self.content.len()
+        index < self.entries()
     }
 
     /// A copy for the image with this header that has a word at the index `at`, and room for the blocks that count its own
@@ -182,7 +89,7 @@ impl RefTable {
             return Err(Fault::Limit((RefTable::MAX_ENTRIES + cluster_words) as u64));
         };
         // Each of its words is sound.
-        let _ = &self.content;
+        let _ = self.layout();
         match longer_content(alloc, self, count) {
             Ok(content) => Ok(RefTable::from_data(content, header)),
             Err(fault) => Err(fault),
@@ -202,9 +109,8 @@ impl RefTable {
         requires namable { IsNamable self.old.layout.cluster_bits block.now.cluster }
         ensures { self.new ≡ with_word self.old index (place_of block.now.cluster_bits block.now.cluster) }
     {
-        let place = first_byte_of(block.get_cluster(), self.layout.cluster_bits());
-        self.content[index] = RefTableEntry::naming(HostOffset(place));
-        self.modified = true;
+        let place = first_byte_of(block.get_cluster(), self.cluster_bits());
+        self.set_entry(index, RefTableEntry::naming(HostOffset(place)));
         spend(pending);
     }
 }

@@ -17,5 +17,5 @@ loop-clusters-preserved c = record {
 pub returns-then-clusters-length : goal.returns-then-clusters-length
 returns-then-clusters-length c = (
   enough_here c.args.cluster_words (omega arith) c.args.counters c.args.at c.loop-clusters.clusters c.loop-clusters.invariant.first c.if-clusters-length.true c.loop-clusters.invariant.least,
-  clusters_fit c.args.cluster_words (omega arith) c.loop-clusters.clusters (2 ^ 20) c.loop-clusters-test.true,
+  clusters_fit c.args.cluster_words (omega arith) c.loop-clusters.clusters (2 ^ 20) (rw c.MAX_ENTRIES.ensures at c.loop-clusters-test.true),
 )

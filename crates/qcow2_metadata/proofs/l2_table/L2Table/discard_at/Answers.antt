@@ -1,17 +1,14 @@
-use Rattle.std.specs.Prelude.{true}
-use Rattle.qcow2_metadata.specs.Tables.{l2_words}
-use Rattle.qcow2_metadata.proofs.TableSteps.{entered, zero_sound}
-use Rattle.std.proofs.Common.{◌≡◌, ◌∙◌, ap, lit<}
+use Rattle.std.proofs.Common.{◌≡◌, ◌∙◌, ap}
 use Rattle.std.specs.Prelude.{slice_index}
 use Rattle.qcow2_types.specs.Words.{mapping_of}
 use Rattle.qcow2_metadata.specs.Allocations.{freed, allocation_of}
+use Rattle.qcow2_metadata.specs.Tables.{l2_words}
 use Rattle.qcow2_metadata.proofs.Conservation.{discard_conserves}
+use Rattle.qcow2_metadata.proofs.TableSteps.{zero_sound}
 use Rattle.qcow2_metadata.proofs.l2_table.L2Table.discard_at.Goals as goal
 
-pub invariant_of-self : goal.invariant_of-self
-invariant_of-self c =
-    let s = c.self.inside in
-    entered l2_words s.layout s.content.items c.args.index c.empty.result s.cluster s.cluster s.modified true c.self.invariant (rw c.empty.ensures (zero_sound l2_words s.layout)) (rw c.empty.ensures (lit< tt))
+pub set_entry-requires-clause-sound : goal.set_entry-requires-clause-sound
+set_entry-requires-clause-sound c = rw c.empty.ensures (zero_sound l2_words c.args.self.now.layout)
 
 pub returns-clause-conserved : goal.returns-clause-conserved
 returns-clause-conserved c =
