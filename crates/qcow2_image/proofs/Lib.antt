@@ -18,6 +18,7 @@ pub mod Probing
 pub mod Rewriting
 pub mod Noted
 pub mod Mapped
+pub mod Marked
 pub mod Written
 pub mod KeepingDisks
 pub mod Leaks

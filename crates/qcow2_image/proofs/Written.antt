@@ -16,7 +16,7 @@ use Rattle.imago_storage.specs.declared.storage.Storage.{Ghosts}
 use Rattle.imago_storage.proofs.Composing.{later_both, stops_weaker}
 use Rattle.imago_access.specs.Chain.{at}
 use Rattle.imago_access.specs.Changes.{TakesByte, Wrote}
-use Rattle.imago_access.specs.Files.{IsMild, WasNotCutOff}
+use Rattle.imago_access.specs.Files.{ImageCause, IsMild, WasNotCutOff}
 use Rattle.imago_access.specs.Layer.{Cell, Layer, Meaning, IsLike, own, through}
 use Rattle.imago_access.specs.Room.{Takes}
 use Rattle.imago_access.specs.PreparingCalls.{WritesMapped, WritingRefused}
@@ -52,11 +52,12 @@ use Rattle.qcow2_clusters.specs.Naming.{TakesNone}
 use Rattle.qcow2_image.specs.Rooms.{HasCluster, HoldsIn, IsSafe, ReadsNone, is_sound, rest_of, was_safe, searched_from}
 use Rattle.qcow2_image.specs.Seen.{IsOfFile, IsSeen, file_of, homes_of, layer_of, memory_of}
 use Rattle.qcow2_image.specs.Unspent.{holding_in}
-use Rattle.qcow2_image.specs.Writing.{IsHomeAt, WhyNotTold, WritesAt}
+use Rattle.qcow2_image.specs.Writing.{IsHomeAt, MemorySpares, WhyNotTold, WritesAt}
 use Rattle.qcow2_image.proofs.Needing.{since-as, wrote-byte}
 use Rattle.qcow2_image.proofs.Preparations.Preparing.{safe-undamaged, went-kept}
 use Rattle.qcow2_image.proofs.Anew.{on-ok}
-use Rattle.qcow2_image.proofs.Steps.{looked-kept, takes-kept}
+use Rattle.qcow2_image.proofs.Steps.{keeps-as, keeps-both, looked-kept, marks-kept, takes-kept}
+use Rattle.qcow2_image.proofs.Settling.{seen-same}
 use Rattle.qcow2_image.specs.Steps.{KeepsImage}
 use Rattle.qcow2_image.specs.contracts.qcow2.Qcow2Seen.TheImpl.{ghosts}
 use Rattle.imago_access.specs.declared.seen.Seen.{Ghosts as SeenGhosts}
@@ -264,10 +265,10 @@ noted g guest place bytes old wrote new w notes rest =
       notes = was;
     }
 
--- and not where they weren't.
+-- and not where they weren't, and that marked the image.
 pub unnoted : {S : Type 0} (g : Ghosts S) (guest place : ℕ) (bytes : List ℕ) (old new : Qcow2 S g) (e : Fault) → WritesAt g place bytes old (Err e) new
-    → WritesNoting g guest place bytes old (Err e) new
-unnoted g guest place bytes old new e w = record {
+    → new.failed ≡ true → WritesNoting g guest place bytes old (Err e) new
+unnoted g guest place bytes old new e w failed = record {
   put = w.put;
   header = w.header;
   l1 = w.l1;
@@ -275,10 +276,56 @@ unnoted g guest place bytes old new e w = record {
   space = w.space;
   mode = w.mode;
   number = w.number;
-  failed = w.failed;
+  failed = failed;
   claim = ap (λ u. claim_held (holding_in g u)) w.unspent;
   notes = tt;
 }
+
+-- A write that was refused for want of memory, and marked nothing, keeps the image.
+keeps-unbegun : {S : Type 0} (g : Ghosts S) (place : ℕ) (bytes : List ℕ) (old new : Qcow2 S g) → WritesAt g place bytes old (Err Memory) new
+    → old.failed ≡ false → (new.failed ≡ false) × KeptStorage (g.state old.tables.file.image) (g.state new.tables.file.image)
+    → KeepsImage {T = Bool} g old (Err Memory) new
+keeps-unbegun g place bytes old new w runs spared = record {
+  tables = record {
+    kept = spared.1;
+    later = w.put.later;
+    faults = λ whole. absurd whole;
+    header = w.header;
+    space = w.space;
+    seen = seen-same g old.tables new.tables spared.1 w.put.later w.header w.l1 w.caches;
+  };
+  mode = w.mode;
+  number = w.number;
+  unspent = w.unspent;
+  failed = spared.0 ∙ sym runs;
+}
+
+-- A write behind a lookup that was refused: the image is marked, or want of memory has kept it.
+pub marked-or-kept : {S : Type 0} (g : Ghosts S) (place : ℕ) (bytes : List ℕ) (old mid new : Qcow2 S g) (e : Fault) → KeepsImage {T = Bool} g old (Ok true) mid
+    → WritesAt g place bytes mid (Err e) new → old.failed ≡ false → (new.failed ≡ true) ⊎ ((e ≡ Memory) × KeepsImage {T = Bool} g old (Err e) new)
+marked-or-kept g place bytes old mid new Memory looked w runs = elim w.failed [
+  | inl marked ↦ inl marked.0
+  | inr spared ↦ inr (
+    refl,
+    keeps-both {T = Bool} g old mid new (Err Memory) (keeps-as {T = Bool} {U = Unit} g old mid (Ok true) (Ok tt) (λ whole. whole) (λ f. refl) looked)
+        (keeps-unbegun g place bytes mid new w (looked.failed ∙ runs) spared),
+  )
+]
+marked-or-kept g place bytes old mid new e looked w runs = inl w.failed
+
+-- Want of memory in a lookup marks nothing,
+pub spared-looking : {S : Type 0} (g : Ghosts S) (old new : Qcow2 S g) (e : Fault) → KeepsImage {T = Bool} g old (Err e) new → MemorySpares g old new e
+spared-looking g old new Memory looked is = inl looked.failed
+spared-looking g old new e looked is = absurd (cc is)
+
+-- and in a write where the storage refused a change.
+pub spared-unless : {S : Type 0} (g : Ghosts S) (place : ℕ) (bytes : List ℕ) (old mid new : Qcow2 S g) (e : Fault) → KeepsImage {T = Bool} g old (Ok true) mid
+    → WritesAt g place bytes mid (Err e) new → old.failed ≡ false → MemorySpares g old new e
+spared-unless g place bytes old mid new Memory looked w runs is = elim w.failed [
+  | inl marked ↦ inr (subst (λ n. Rose n (g.state new.tables.file.image).refusals) looked.tables.kept.refusals marked.1)
+  | inr spared ↦ inl (spared.0 ∙ sym runs)
+]
+spared-unless g place bytes old mid new e looked w runs is = absurd (cc is)
 
 -- An image that looked where a range is, and then wrote bytes there.
 module _ (R : RattleType) (st : Ghosts R.Denot) (sd : mir.Syntax.Dict) (dd : mir.Syntax.Dict) (old mid new : Qcow2 R.Denot st) (guest place : ℕ)
@@ -668,3 +715,11 @@ module _ (R : RattleType) (st : Ghosts R.Denot) (sd : mir.Syntax.Dict) (dd : mir
     from Memory why = tt
     from Storage why = inl why
     from e why = absurd why
+
+  -- want of memory that kept the image
+  pub spared-writing : e ≡ Memory → WritingRefused (ghosts R st sd dd) guest place (length bytes) (Err e) old new
+  spared-writing is = record {
+    failed = subst (ImageCause (st.state old.tables.file.image ∷ []) (st.state new.tables.file.image ∷ [])) (sym is) tt;
+    marks = marks-kept R st sd dd {T = Bool} old new (Err e) k;
+    cause = told-why (λ safe. subst (WhyNotTold st old new) (sym is) tt);
+  }

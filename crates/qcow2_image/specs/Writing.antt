@@ -1,7 +1,8 @@
 -- What a change of an image that was opened for writing rests on, and why it is refused.
 use Rattle.std.proofs.Common.{inl, refl}
-use Rattle.std.specs.Prelude.{◌≡◌, ◌⊎◌, ⊤, ℕ, ◌+◌, ◌/◌, ◌<◌, ◌∷◌, List, Some, None, Result, is_err, true}
+use Rattle.std.specs.Prelude.{◌≡◌, ◌⊎◌, ⊤, ℕ, ◌+◌, ◌/◌, ◌<◌, ◌∷◌, List, Some, None, Result, MatchResult, false, true}
 use Rattle.imago_storage.specs.State.{Rose}
+use Rattle.imago_storage.specs.Calls.{Kept}
 use Rattle.imago_storage.specs.Causes.{offset_of, length_of}
 use Rattle.imago_storage.specs.Steps.{Call, IsIn}
 use Rattle.imago_storage.specs.Through.{Put}
@@ -92,7 +93,15 @@ WhyNotTold g old new Memory = ⊤
 WhyNotTold g old new Storage = Rose (g.state old.tables.file.image).faults (g.state new.tables.file.image).faults
 WhyNotTold g old new fault = ⊥
 
--- Bytes are written to the image file, from a place on. Whatever keeps them from it marks the image as failed: a part may be written.
+-- A refused write has marked an image as failed, or it was for want of memory, and has left the file as it was. Want of memory marks it
+-- where the storage refused a change.
+abbrev pub MarksWrite : {S : Type 0} (g : Ghosts S) → Qcow2 S g → Qcow2 S g → Fault → Type 0
+MarksWrite g old new Memory =
+    ((new.failed ≡ true) × Rose (g.state old.tables.file.image).refusals (g.state new.tables.file.image).refusals)
+    ⊎ ((new.failed ≡ false) × Kept (g.state old.tables.file.image) (g.state new.tables.file.image))
+MarksWrite g old new fault = new.failed ≡ true
+
+-- Bytes are written to the image file, from a place on.
 pub record WritesAt {S : Type 0} (g : Ghosts S) (place : ℕ) (bytes : List ℕ) (old : Qcow2 S g) (result : Result Unit Fault)
     (new : Qcow2 S g) : Type 0 where
   pub put : Put (g.state old.tables.file.image) (g.state new.tables.file.image) place bytes result
@@ -103,4 +112,9 @@ pub record WritesAt {S : Type 0} (g : Ghosts S) (place : ℕ) (bytes : List ℕ)
   pub mode : new.mode ≡ old.mode
   pub number : new.number ≡ old.number
   pub unspent : new.unspent ≡ old.unspent
-  pub failed : new.failed ≡ is_err result
+  pub failed : MatchResult result (λ _. new.failed ≡ false) (MarksWrite g old new)
+
+-- Want of memory has marked an image as failed only where its storage refused a change.
+abbrev pub MemorySpares : {S : Type 0} (g : Ghosts S) → Qcow2 S g → Qcow2 S g → Fault → Type 0
+MemorySpares g old new fault = fault ≡ Memory
+    → (new.failed ≡ old.failed) ⊎ Rose (g.state old.tables.file.image).refusals (g.state new.tables.file.image).refusals

@@ -24,7 +24,7 @@ ghost use Rattle.qcow2_image.specs.Leaking.{KeepsLeaks};
 ghost use Rattle.qcow2_image.specs.Looking.{IsWholeRunIn, answer_at};
 ghost use Rattle.qcow2_image.specs.HeldHomes.{free_loose, one_home, says_room};
 ghost use Rattle.qcow2_image.specs.Unspent.{holding_in};
-ghost use Rattle.qcow2_image.specs.Writing.{begun_itself};
+ghost use Rattle.qcow2_image.specs.Writing.{MemorySpares, begun_itself};
 ghost use Rattle.qcow2_image.specs.Preparing.{IsPartOfRun, LacksPlace, ReachesHeld};
 ghost use Rattle.qcow2_image.specs.Rooms.{IsUntouched, not_both, covered, of_storages, was_safe};
 ghost use Rattle.qcow2_image.specs.Steps.{Reloads, failed_anew, failed_behind, failed_by};
@@ -345,6 +345,8 @@ impl<S: Storage> FormatDriverInstance for Qcow2<S> {
         ensures writes { WritesMapped ⟦<Qcow2<S> as Seen>⟧ guest place bytes.now result self.old self.new }
         ensures at_once { RangeAtOnce ⟦<Qcow2<S> as Seen>⟧ guest (length bytes.now) result self.old self.new }
         ensures refused { WritingRefused ⟦<Qcow2<S> as Seen>⟧ guest place (length bytes.now) result self.old self.new }
+        // Want of memory leaves it usable where the storage refused no change.
+        ensures spares { IfErr result (MemorySpares S.Storage self.old self.new) }
         // Its file is as it was, but for these bytes at their place: each of them is there, or what was.
         ensures file { let s = S.state self.old.tables.file.image in
             IsTrue s.shape.keeps → Mixed s.bytes place bytes.now (S.state self.new.tables.file.image).bytes }

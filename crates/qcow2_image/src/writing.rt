@@ -13,7 +13,7 @@ ghost use Rattle.qcow2_image.specs.Seen.{IsSeen};
 
 use crate::qcow2::Qcow2;
 use imago_access::{Seen, ShallowMapping};
-use imago_storage::{Fault, Storage, StorageExt};
+use imago_storage::{Fault, Storage, StorageExt, WriteFault};
 use std::alloc::Global;
 
 // The place of the image file where a run can be written, if it can.
@@ -102,15 +102,20 @@ impl<S: Storage> Qcow2<S> {
         Ok(true)
     }
 
-    // Writes bytes to the image file, from a place on. Whatever keeps it from that marks the image as failed: a part may be written.
+    // Writes bytes to the image file, from a place on. Refused before that has begun, only a storage's fault marks the image as failed;
+    // a change that the storage refused always does, as a part may be written.
     pub(crate) fn write_at(&mut self, alloc: Global, place: u64, bytes: &[u8]) -> Result<(), Fault>
         requires near { place + length bytes.now ≤ 2 ^ 60 }
         requires runs { self.old.failed ≡ false }
         ensures { WritesAt S.Storage place bytes.now self.old result self.new }
     {
-        match self.tables.file.image.write(alloc, bytes, place) {
+        match self.tables.file.image.try_write(alloc, bytes, place) {
             Ok(()) => Ok(()),
-            Err(fault) => {
+            Err(WriteFault::Before(fault)) => {
+                self.mark(fault);
+                Err(fault)
+            }
+            Err(WriteFault::Within(fault)) => {
                 self.failed = true;
                 Err(fault)
             }

@@ -1,7 +1,7 @@
-use Rattle.std.proofs.Common.{refl, true, Ok, Err}
+use Rattle.std.proofs.Common.{refl, true, inl, inr, Ok, Err}
 use Rattle.std.specs.Prelude.{Bool}
 use Rattle.imago_storage.specs.declared.fault.Fault.TheVariants.{Outdated}
-use Rattle.qcow2_image.proofs.Written.{noted, told-why, unnoted, unwritten, writes-mapped, writing-refused, written-leaks}
+use Rattle.qcow2_image.proofs.Written.{marked-or-kept, noted, spared-looking, spared-unless, spared-writing, told-why, unnoted, unwritten, writes-mapped, writing-refused, written-leaks}
 use Rattle.qcow2_image.proofs.Lengths.{looked-long, written-long}
 use Rattle.qcow2_image.proofs.Steps.{keeps-as, marks-kept}
 use Rattle.qcow2_alloc.proofs.Faults.{handed-on}
@@ -23,20 +23,28 @@ returns-in_err-write_at-clause-writes g c = rw (handed-on _ _ c.from_residual-in
     let st = g.S.Storage in
     let told = c.if-not-branch.false in
     let e = c.in_err-write_at.field-0.0 in
-    let w = unnoted st c.args.guest c.args.place c.args.bytes.now c.is_mapped_at.new.self c.write_at.new.self e c.in_err-write_at.ensures in
-    writes-mapped g.row.S st g.S.Storage-dict g.S.Destruct-dict c.args.self.now c.is_mapped_at.new.self c.write_at.new.self c.args.guest c.args.place c.args.bytes.now (Err e)
-    (rw told at c.in_ok-is_mapped_at.ensures.keeps) w c.in_ok-check_change.ensures.runs c.if-length-eq0.false
-    (λ seen. (rw told at (c.in_ok-is_mapped_at.ensures.yes seen)) refl))
+    elim (marked-or-kept st c.args.place c.args.bytes.now c.args.self.now c.is_mapped_at.new.self c.write_at.new.self e (rw told at c.in_ok-is_mapped_at.ensures.keeps) c.in_err-write_at.ensures c.in_ok-check_change.ensures.runs) [
+      | inl failed ↦
+          let w = unnoted st c.args.guest c.args.place c.args.bytes.now c.is_mapped_at.new.self c.write_at.new.self e c.in_err-write_at.ensures failed in
+          writes-mapped g.row.S st g.S.Storage-dict g.S.Destruct-dict c.args.self.now c.is_mapped_at.new.self c.write_at.new.self c.args.guest c.args.place c.args.bytes.now (Err e)
+          (rw told at c.in_ok-is_mapped_at.ensures.keeps) w c.in_ok-check_change.ensures.runs c.if-length-eq0.false (λ seen. (rw told at (c.in_ok-is_mapped_at.ensures.yes seen)) refl)
+      | inr kept ↦
+          unwritten g.row.S st g.S.Storage-dict g.S.Destruct-dict c.args.self.now c.write_at.new.self c.args.guest c.args.place c.args.bytes.now e kept.1 c.if-length-eq0.false
+    ])
 
 pub returns-in_err-write_at-clause-refused : goal.returns-in_err-write_at-clause-refused
 returns-in_err-write_at-clause-refused g c = rw (handed-on _ _ c.from_residual-in_err-write_at.ensures.1) (
     let st = g.S.Storage in
     let told = c.if-not-branch.false in
     let e = c.in_err-write_at.field-0.0 in
-    let w = unnoted st c.args.guest c.args.place c.args.bytes.now c.is_mapped_at.new.self c.write_at.new.self e c.in_err-write_at.ensures in
-    writing-refused g.row.S st g.S.Storage-dict g.S.Destruct-dict c.args.self.now c.is_mapped_at.new.self c.write_at.new.self c.args.guest c.args.place c.args.bytes.now (Err e)
-    (rw told at c.in_ok-is_mapped_at.ensures.keeps) w c.in_ok-check_change.ensures.runs c.if-length-eq0.false
-    (λ seen. (rw told at (c.in_ok-is_mapped_at.ensures.yes seen)) refl))
+    elim (marked-or-kept st c.args.place c.args.bytes.now c.args.self.now c.is_mapped_at.new.self c.write_at.new.self e (rw told at c.in_ok-is_mapped_at.ensures.keeps) c.in_err-write_at.ensures c.in_ok-check_change.ensures.runs) [
+      | inl failed ↦
+          let w = unnoted st c.args.guest c.args.place c.args.bytes.now c.is_mapped_at.new.self c.write_at.new.self e c.in_err-write_at.ensures failed in
+          writing-refused g.row.S st g.S.Storage-dict g.S.Destruct-dict c.args.self.now c.is_mapped_at.new.self c.write_at.new.self c.args.guest c.args.place c.args.bytes.now (Err e)
+          (rw told at c.in_ok-is_mapped_at.ensures.keeps) w c.in_ok-check_change.ensures.runs c.if-length-eq0.false (λ seen. (rw told at (c.in_ok-is_mapped_at.ensures.yes seen)) refl)
+      | inr kept ↦
+          spared-writing g.row.S st g.S.Storage-dict g.S.Destruct-dict c.args.self.now c.write_at.new.self c.args.guest c.args.place c.args.bytes.now e kept.1 kept.0
+    ])
 
 pub returns-then-not-branch-clause-writes : goal.returns-then-not-branch-clause-writes
 returns-then-not-branch-clause-writes g c =
@@ -81,10 +89,14 @@ returns-in_err-write_at-clause-leaks g c = rw (handed-on _ _ c.from_residual-in_
     let st = g.S.Storage in
     let told = c.if-not-branch.false in
     let e = c.in_err-write_at.field-0.0 in
-    let w = unnoted st c.args.guest c.args.place c.args.bytes.now c.is_mapped_at.new.self c.write_at.new.self e c.in_err-write_at.ensures in
-    written-leaks g.row.S st g.S.Storage-dict g.S.Destruct-dict c.args.self.now c.is_mapped_at.new.self c.write_at.new.self c.args.guest c.args.place c.args.bytes.now (Err e)
-    (rw told at c.in_ok-is_mapped_at.ensures.keeps) w c.in_ok-check_change.ensures.runs c.if-length-eq0.false
-    (λ seen. (rw told at (c.in_ok-is_mapped_at.ensures.yes seen)) refl))
+    elim (marked-or-kept st c.args.place c.args.bytes.now c.args.self.now c.is_mapped_at.new.self c.write_at.new.self e (rw told at c.in_ok-is_mapped_at.ensures.keeps) c.in_err-write_at.ensures c.in_ok-check_change.ensures.runs) [
+      | inl failed ↦
+          let w = unnoted st c.args.guest c.args.place c.args.bytes.now c.is_mapped_at.new.self c.write_at.new.self e c.in_err-write_at.ensures failed in
+          written-leaks g.row.S st g.S.Storage-dict g.S.Destruct-dict c.args.self.now c.is_mapped_at.new.self c.write_at.new.self c.args.guest c.args.place c.args.bytes.now (Err e)
+          (rw told at c.in_ok-is_mapped_at.ensures.keeps) w c.in_ok-check_change.ensures.runs c.if-length-eq0.false (λ seen. (rw told at (c.in_ok-is_mapped_at.ensures.yes seen)) refl)
+      | inr kept ↦
+          λ safe whole. leaks-kept st {T = Bool} c.args.self.now c.write_at.new.self (Err e) kept.1
+    ])
 
 pub returns-then-not-branch-clause-leaks : goal.returns-then-not-branch-clause-leaks
 returns-then-not-branch-clause-leaks g c =
@@ -117,3 +129,13 @@ returns-then-not-branch-clause-no_shorter g c =
 pub returns-in_err-is_mapped_at-clause-no_shorter : goal.returns-in_err-is_mapped_at-clause-no_shorter
 returns-in_err-is_mapped_at-clause-no_shorter g c =
     looked-long g.S.Storage {T = Bool} c.args.self.now c.is_mapped_at.new.self (Err c.in_err-is_mapped_at.field-0.0) c.in_err-is_mapped_at.ensures.keeps
+
+pub returns-in_err-write_at-clause-spares : goal.returns-in_err-write_at-clause-spares
+returns-in_err-write_at-clause-spares g c = rw (handed-on _ _ c.from_residual-in_err-write_at.ensures.1) (
+    let told = c.if-not-branch.false in
+    spared-unless g.S.Storage c.args.place c.args.bytes.now c.args.self.now c.is_mapped_at.new.self c.write_at.new.self c.in_err-write_at.field-0.0
+    (rw told at c.in_ok-is_mapped_at.ensures.keeps) c.in_err-write_at.ensures c.in_ok-check_change.ensures.runs)
+
+pub returns-in_err-is_mapped_at-clause-spares : goal.returns-in_err-is_mapped_at-clause-spares
+returns-in_err-is_mapped_at-clause-spares g c = rw (handed-on _ _ c.from_residual-in_err-is_mapped_at.ensures.1) (
+    spared-looking g.S.Storage c.args.self.now c.is_mapped_at.new.self c.in_err-is_mapped_at.field-0.0 c.in_err-is_mapped_at.ensures.keeps)
