@@ -1,12 +1,14 @@
 -- How a run of free clusters is found and made ready to be counted, and handed out.
-use Rattle.std.specs.Prelude.{◌≡◌, ◌≢◌, ◌⊎◌, ◌==◌, ℕ, ◌+◌, ◌-◌, ◌/◌, ◌<◌, ◌≤◌, if◌then◌else◌, Bool, Result, OnErr, IfOk, Ok, Err, MatchResult, length, slice_index}
+use Rattle.std.specs.Prelude.{◌≡◌, ◌≢◌, ◌⊎◌, ◌==◌, ℕ, ◌+◌, ◌-◌, ◌/◌, ◌<◌, ◌≤◌, if◌then◌else◌, Bool, false, Result, OnErr, IfOk, Ok, Err, MatchResult, length, slice_index}
 use Rattle.imago_storage.specs.State.{StorageState}
 use Rattle.imago_storage.specs.declared.fault.Fault.{Fault}
 use Rattle.qcow2_types.specs.Words.{block_offset}
 use Rattle.qcow2_types.specs.Counts.{counters_of_block}
 use Rattle.qcow2_types.specs.Pending.{FreeEntry}
 use Rattle.qcow2_metadata.specs.Places.{IsInReach}
+use Rattle.qcow2_alloc.specs.declared.allocation.Allocator.{Allocator}
 use Rattle.qcow2_alloc.specs.Allocating.{Allocating, WhyNotAllocated}
+use Rattle.qcow2_alloc.specs.Caches.{cached_file}
 use Rattle.qcow2_alloc.specs.Crowding.{IsCrowded, IsRoomy, TakesLittle, room_for}
 use Rattle.qcow2_alloc.specs.FreeList.{covers}
 use Rattle.qcow2_alloc.specs.Freeing.{IsLoose, IsMarked}
@@ -14,8 +16,14 @@ use Rattle.qcow2_alloc.specs.Going.{WasNotCutOff}
 use Rattle.qcow2_alloc.specs.GrowingTables.{IsLengthenedByTable, Leaks, NoPlaceToGrow}
 use Rattle.qcow2_alloc.specs.Quiet.{Metadata, counted}
 use Rattle.qcow2_alloc.specs.ReadyingBlocks.{last_number}
-use Rattle.qcow2_alloc.specs.SearchingClusters.{IsFirstRun}
+use Rattle.qcow2_alloc.specs.SearchingClusters.{IsFirstRun, KeepsClean}
 use Rattle.qcow2_alloc.specs.State.{ImageState, metadata, IsGuarded, WhereGuarded}
+
+-- As long as a call hasn't begun to change anything, nor what came before it, as a flag tells: the allocator, the list and the header are
+-- what they were, and where nothing waited in memory to be written nothing does, and no byte of the file was changed.
+abbrev pub Spares : {S : Type 0} → (S → StorageState) → (was now : Bool) → Allocator → ImageState S → Allocator → ImageState S → Type 0
+Spares state was now a s a' s' = now ≡ false → (was ≡ false) × (a' ≡ a) × (s'.pending ≡ s.pending) × (s'.file.header ≡ s.file.header)
+    × KeepsClean state (cached_file s.caches s.file) (cached_file s'.caches s'.file)
 
 -- Why the first run of n clusters from the mark on that aren't counted isn't made ready to be, as a number tells: that of its last cluster,
 -- which words can't name or the refcount table doesn't count; or what tells that there is no place for a table that has grown for it.

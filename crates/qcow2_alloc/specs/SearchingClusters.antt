@@ -1,6 +1,7 @@
 -- How free clusters are searched for: blocks are loaded, and nothing else changes.
 use Rattle.std.specs.Prelude.{max, length, ◌*◌, ◌≡◌, ◌≢◌, ℕ, ◌+◌, ◌/◌, ◌<◌, ◌≤◌, IsTrue, Result, IfOk, MatchResult, Option, MatchOption, Bool, true}
 use Rattle.imago_storage.specs.State.{StorageState}
+use Rattle.imago_storage.specs.Calls.{Kept}
 use Rattle.imago_storage.specs.declared.fault.Fault.{Fault}
 use Rattle.qcow2_types.specs.Bytes.{Bytes, bytes_of}
 use Rattle.qcow2_types.specs.Header.{Fields}
@@ -13,7 +14,7 @@ use Rattle.qcow2_alloc.specs.Freeing.{IsLoose, WhyNotFreed}
 use Rattle.qcow2_alloc.specs.Going.{Going, Always, WasNotCutOff}
 use Rattle.qcow2_alloc.specs.Memory.{memory}
 use Rattle.qcow2_alloc.specs.Quiet.{IsTableOf}
-use Rattle.qcow2_alloc.specs.Safety.{Safe}
+use Rattle.qcow2_alloc.specs.Safety.{Safe, AreTablesClean, AreBlocksClean}
 
 -- The first run of n clusters, from one on, that aren't counted.
 pub record IsFirstRun (counts : ℕ → ℕ) (from n first : ℕ) : Type 0 where
@@ -48,6 +49,16 @@ module _ {S : Type 0} (state : S → StorageState) where
     pub safe : Safe (bytes_of (state file.image).bytes) file.header (cached_in caches) (order_of caches)
     pub table_of_file : IsTableOf (bytes_of (state file.image).bytes) file.header.fields table
 
+  -- Nothing waits in memory to be written, and no byte of the file was changed for that.
+  pub record StaysClean (old new : CachedFile S) : Type 0 where
+    pub kept : Kept (state old.file.image) (state new.file.image)
+    pub tables : AreTablesClean (cached_in new.caches)
+    pub blocks : AreBlocksClean (cached_in new.caches)
+
+  -- It is so where nothing waited before.
+  abbrev pub KeepsClean : CachedFile S → CachedFile S → Type 0
+  KeepsClean old new = AreTablesClean (cached_in old.caches) → AreBlocksClean (cached_in old.caches) → StaysClean old new
+
   -- What a search does: blocks are loaded, in the place of others where the cache is full.
   pub record Looked {T : Type 0} (table : TableValue) (old : CachedFile S) (result : Result T Fault) (new : CachedFile S) : Type 0 where
     pub going : Going old.file.header (order_of old.caches) Always (WasNotCutOff result) (state old.file.image) (cached_in old.caches)
@@ -56,6 +67,7 @@ module _ {S : Type 0} (state : S → StorageState) where
     pub header : new.file.header ≡ old.file.header
     pub loose : (any : Bool) → IsLoose table old.caches any → IsLoose table new.caches any
     pub room : KeepsTables old.caches new.caches
+    pub clean : KeepsClean old new
     pub cause : MatchResult result (λ _. (state new.file.image).faults ≡ (state old.file.image).faults)
         (WhyNotFreed (IsSafeWith table old.caches old.file) (IsLoose table old.caches true) (state old.file.image).faults
         (state new.file.image).faults)

@@ -240,6 +240,8 @@ impl Allocator {
         ensures order { OrdersFreeing (has_external_data file.old.header.fields) list.old.entries list.new.entries
             (order_of caches.old) result (order_of caches.new) }
         ensures held { list.new.held ≡ list.old.held }
+        ensures idle { list.old.entries ≡ [] → (result ≡ Ok tt) × (caches.new ≡ caches.old) × (file.new ≡ file.old)
+            × (self.new ≡ self.old) }
     {
         self.free_metadata(file, caches, list)?;
         if list.is_empty() {

@@ -147,7 +147,7 @@ pub struct MetadataCaches<S: Storage> {
 }
 
 impl<S: Storage> MetadataCaches<S> {
-    ghost use Rattle.imago_storage.specs.Calls.{IsFaultless};
+    ghost use Rattle.imago_storage.specs.Calls.{IsFaultless, Kept};
     ghost use Rattle.qcow2_alloc.specs.Going.{Going, ReadyTables, ReadyBlocks, Always, AreTablesInReach, AreBlocksInReach, CountsWrites, WasNotCutOff, WritesTables, WritesBlocks, InTurn};
     ghost use Rattle.qcow2_alloc.specs.Safety.{Safe, AreTablesClean, AreBlocksClean};
     ghost use Rattle.qcow2_types.specs.Bytes.{Bytes};
@@ -361,6 +361,8 @@ impl<S: Storage> MetadataCaches<S> {
         ensures faults { WasNotCutOff result → IsFaultless (S.state file.old.image) (S.state file.new.image) }
         ensures written { order_of self.old ≡ RbDependsOnL2
             → WritesTables (S.state file.old.image) (cached_in self.old) result (S.state file.new.image) (cached_in self.new) }
+        ensures still { AreTablesClean (cached_in self.old) → AreBlocksClean (cached_in self.old) → Kept (S.state file.old.image)
+            (S.state file.new.image) × AreTablesClean (cached_in self.new) × AreBlocksClean (cached_in self.new) }
     {
         self.before_blocks(file)?;
         self.order = CacheDependency::L2DependsOnRb;

@@ -154,6 +154,10 @@ module _ (order : CacheDependency) (a b : StorageState) (c c' : Cached) (answer 
   pub tables-idle : ((order ≡ RbDependsOnL2 → ⊥) → NothingDone) → (order ≡ RbDependsOnL2 → WritesTables a c answer b c') → AreTablesClean c → NothingDone
   tables-idle idle did clean = elim (is-order order RbDependsOnL2) [ inl is ↦ tables-none a b c c' answer (did is) clean | inr other ↦ idle other ]
 
+  pub tables-still : ((order ≡ RbDependsOnL2 → ⊥) → NothingDone) → (order ≡ RbDependsOnL2 → WritesTables a c answer b c') → AreTablesClean c → AreBlocksClean c → Kept a b × AreTablesClean c' × AreBlocksClean c'
+  tables-still idle did tables blocks = let none = tables-idle idle did tables in
+      (subst (λ (s : StorageState). Kept a s) (sym none.1) (kept-same a), subst AreTablesClean (sym none.2) tables, subst AreBlocksClean (sym none.2) blocks)
+
 -- Something is done behind what comes first, once that is;
 pub behind-done : (comes_first : Type 0) (First Done : CachedStep) (a b d : StorageState) (c e c' : Cached) (result : Result Unit Fault)
     → ((comes_first → ⊥) → (b ≡ a) × (e ≡ c)) → (comes_first → First a c (Ok tt) b e) → Done b e result d c' → Behind comes_first First Done a c result d c'

@@ -1,7 +1,8 @@
 -- A table or block that is cached is used, and stays as it is: its entry goes first.
-use Rattle.std.proofs.Common.{◌≡◌, ℕ, ap, sym, subst, ◌∙◌, List, ◌∷◌, ◌++◌, Some}
+use Rattle.std.proofs.Common.{◌≡◌, ℕ, ap, sym, subst, ◌∙◌, List, [], ◌∷◌, ◌++◌, Some}
 use Rattle.std.specs.Prelude.{nat_eq}
 use Rattle.std.specs.Option.{option_map}
+use Rattle.std.specs.List.{AllByRecursion}
 use Rattle.std.specs.Map.{lookup}
 use Rattle.qcow2_types.specs.Bytes.{Bytes}
 use Rattle.qcow2_types.specs.Header.{Header}
@@ -40,6 +41,19 @@ module _ {V W : Type 0} (kind : EntryKind V W) (laws : EntryLaws kind) (f : Byte
         safe = first-safe kind laws f H order rest p.front key s p.back safe';
         memory_same = entry-first kind laws f H order rest p.front key s p.back safe' ∙ ap (λ (l : List (ℕ × Slot V)). memory f H.fields (kind.put rest l)) (sym p.is);
       })
+
+-- What holds of each value holds of each then.
+all-there : {X : Type 0} (Q : X → Type 0) (front : List X) (e : X) (back : List X) → AllByRecursion Q (front ++ e ∷ back) → Q e × AllByRecursion Q (front ++ back)
+all-there Q [] e back all = all
+all-there Q (x ∷ front) e back all = let rest = all-there Q front e back all.1 in (rest.0, (all.0, rest.1))
+
+pub all-hit : {V : Type 0} (P : V → Type 0) (key : ℕ) (es : List (ℕ × Slot V)) (value : V) → option_map (λ s. s.value) (lookup (nat_eq key) es) ≡ Some value → AllByRecursion (λ (e : ℕ × Slot V). P e.1.value) es
+    → AllByRecursion (λ (e : ℕ × Slot V). P e.1.value) (hit (nat_eq key) es value)
+all-hit {V} P key es value there all =
+    let s = (found key es value there).0 in
+    let p = place-found key es value there in
+    subst (λ (l : List (ℕ × Slot V)). AllByRecursion (λ (e : ℕ × Slot V). P e.1.value) l) (sym (used key es value there))
+    (all-there (λ (e : ℕ × Slot V). P e.1.value) p.front (key, s) p.back (subst (λ (l : List (ℕ × Slot V)). AllByRecursion (λ (e : ℕ × Slot V). P e.1.value) l) p.is all))
 
 module _ (f : Bytes) (H : Header) (cached : Cached) (order : CacheDependency) (key : ℕ) (safe : Safe f H cached order) where
   pub table-used : (table : TableValue) → option_map (λ s. s.value) (lookup (nat_eq key) cached.tables) ≡ Some table → StaysAsItIs f H cached order (record cached { tables = hit (nat_eq key) cached.tables table })

@@ -1,11 +1,12 @@
 -- Searches that load blocks and change nothing else, one behind the other.
-use Rattle.std.proofs.Common.{◌≡◌, ◌≢◌, ℕ, ◌+◌, ◌*◌, ◌/◌, ◌%◌, ◌<◌, ◌≤◌, refl, arith, ap, sym, subst, ◌∙◌, List, length, Some, Result, Ok, Err, inl, inr, Bool, true}
+use Rattle.std.proofs.Common.{◌≡◌, ◌≢◌, ℕ, ◌+◌, ◌*◌, ◌/◌, ◌%◌, ◌<◌, ◌≤◌, refl, arith, ap, sym, subst, ◌∙◌, List, length, Some, Result, Ok, Err, inl, inr, Bool, true, false}
 use Rattle.std.specs.Prelude.{⊤, IfOk, MatchResult, nat_eq, slice_index}
 use Rattle.std.specs.Option.{option_map}
 use Rattle.std.specs.Map.{lookup}
 use Rattle.std.proofs.lemmas.Bool.{cases_eq}
 use Rattle.std.proofs.lemmas.Nat.{div-mul-add, mod-mul-add}
 use Rattle.imago_storage.specs.State.{StorageState}
+use Rattle.imago_storage.specs.Calls.{Kept}
 use Rattle.imago_storage.specs.declared.fault.Fault.{Fault}
 use Rattle.imago_storage.specs.declared.fault.Fault.TheVariants.{Memory, Storage, DamagedTable, CacheFull}
 use Rattle.imago_storage.proofs.Composing.{keeps_on, no_stops, later_same}
@@ -32,19 +33,19 @@ use Rattle.qcow2_alloc.specs.Memory.{Cached, memory}
 use Rattle.qcow2_alloc.specs.Quiet.{IsTableOf}
 use Rattle.qcow2_alloc.specs.Safety.{Safe, IsSettled, IsCachedBlock}
 use Rattle.qcow2_alloc.specs.Scanning.{Reads, AreCounted}
-use Rattle.qcow2_alloc.specs.SearchingClusters.{counts_in, IsSafeWith, Looked}
+use Rattle.qcow2_alloc.specs.SearchingClusters.{counts_in, IsSafeWith, KeepsClean, Looked}
 use Rattle.qcow2_alloc.proofs.Memory.ChangingCounters.{cached-count}
 use Rattle.qcow2_alloc.proofs.Caching.Loose.{loose-on, loose-never}
 use Rattle.qcow2_alloc.proofs.Caching.Pins.{pins-hit}
 use Rattle.qcow2_alloc.proofs.Freeing.FreeingEntries.{why-freed-wider}
-use Rattle.qcow2_alloc.proofs.Flushing.Going.{going-none, going-both, going-weaker, left-same}
+use Rattle.qcow2_alloc.proofs.Flushing.Going.{going-none, going-both, going-weaker, kept-same, left-same}
 use Rattle.qcow2_alloc.proofs.Memory.MemoryWords.{places-in-memory}
 use Rattle.qcow2_alloc.proofs.Blocks.NamedBlocks.{IsNamed, named-block}
 use Rattle.qcow2_alloc.proofs.Caching.Places.{slot-of}
 use Rattle.qcow2_alloc.proofs.Quiet.QuietFlushes.{still-table}
 use Rattle.qcow2_alloc.proofs.Memory.SafeLaws.{safe-reach}
 use Rattle.qcow2_alloc.proofs.Caching.Searching.{all-at}
-use Rattle.qcow2_alloc.proofs.Caching.Using.{block-used}
+use Rattle.qcow2_alloc.proofs.Caching.Using.{all-hit, block-used}
 
 -- What is used of the caches, and stays as it is, asks nothing of the storage.
 going-used : (H : Header) (order : CacheDependency) (s : StorageState) (cached cached' : Cached) → (Safe (bytes_of s.bytes) H cached order → StaysAsItIs (bytes_of s.bytes) H cached order cached') → Going H order Always ⊤ s cached s cached'
@@ -58,6 +59,29 @@ going-used H order s cached cached' stays = record {
       record { safe = stay.safe; memory_same = stay.memory_same; left = left-same (bytes_of s.bytes) (memory (bytes_of s.bytes) H.fields cached) H safe.consistent };
 }
 
+-- Two calls that change nothing change nothing.
+pub kept-then : (a b c : StorageState) → Kept a b → Kept b c → Kept a c
+kept-then a b c first second = record {
+  shape = second.shape ∙ first.shape;
+  bytes = second.bytes ∙ first.bytes;
+  refusals = second.refusals ∙ first.refusals;
+  stop = second.stop ∙ first.stop;
+  past = second.past ∙ first.past;
+}
+
+module _ {S : Type 0} (state : S → StorageState) where
+  -- Nothing waits to be written where nothing was done,
+  pub clean-none : (caches : MetadataCaches S) (file : ImageFile S) → KeepsClean state (cached_file caches file) (cached_file caches file)
+  clean-none caches file tables blocks = record { kept = kept-same (state file.image); tables = tables; blocks = blocks }
+
+  -- nor behind two calls of which each leaves it so.
+  pub clean-then : (old : MetadataCaches S) (before : ImageFile S) (mid : MetadataCaches S) (between : ImageFile S) (new : MetadataCaches S) (after : ImageFile S)
+      → KeepsClean state (cached_file old before) (cached_file mid between) → KeepsClean state (cached_file mid between) (cached_file new after) → KeepsClean state (cached_file old before) (cached_file new after)
+  clean-then old before mid between new after first second tables blocks =
+      let one = first tables blocks in
+      let two = second one.tables one.blocks in
+      record { kept = kept-then (state before.image) (state between.image) (state after.image) one.kept two.kept; tables = two.tables; blocks = two.blocks }
+
 module _ {S : Type 0} (state : S → StorageState) (table : TableValue) where
   -- Nothing was searched yet.
   pub looked-none : {T : Type 0} (v : T) (caches : MetadataCaches S) (file : ImageFile S) → Looked state table (cached_file caches file) (Ok v) (cached_file caches file)
@@ -67,15 +91,16 @@ module _ {S : Type 0} (state : S → StorageState) (table : TableValue) where
     header = refl;
     loose = λ any loose. loose;
     room = record { tables = refl; blocks = refl; entries = refl };
+    clean = clean-none state caches file;
     cause = refl;
   }
 
   -- It does the same whatever it answers.
   pub looked-answer : {T U : Type 0} (old : MetadataCaches S) (before : ImageFile S) (v : T) (w : U) (new : MetadataCaches S) (after : ImageFile S) → Looked state table (cached_file old before) (Ok v) (cached_file new after) → Looked state table (cached_file old before) (Ok w) (cached_file new after)
-  looked-answer old before v w new after looked = record { going = looked.going; order = looked.order; header = looked.header; loose = looked.loose; room = looked.room; cause = looked.cause }
+  looked-answer old before v w new after looked = record { going = looked.going; order = looked.order; header = looked.header; loose = looked.loose; room = looked.room; clean = looked.clean; cause = looked.cause }
 
   pub looked-refused : {T U : Type 0} (old : MetadataCaches S) (before : ImageFile S) (fault : Fault) (new : MetadataCaches S) (after : ImageFile S) → Looked state {T = T} table (cached_file old before) (Err fault) (cached_file new after) → Looked state {T = U} table (cached_file old before) (Err fault) (cached_file new after)
-  looked-refused old before fault new after looked = record { going = looked.going; order = looked.order; header = looked.header; loose = looked.loose; room = looked.room; cause = looked.cause }
+  looked-refused old before fault new after looked = record { going = looked.going; order = looked.order; header = looked.header; loose = looked.loose; room = looked.room; clean = looked.clean; cause = looked.cause }
 
   module _ {T : Type 0} (old : MetadataCaches S) (before : ImageFile S) (v : T) (new : MetadataCaches S) (after : ImageFile S) (looked : Looked state table (cached_file old before) (Ok v) (cached_file new after)) (sound : IsSafeWith state table old before) where
     settled : IsSettled before.header (order_of old) (state before.image).bytes (cached_in old) (state after.image).bytes (cached_in new)
@@ -122,6 +147,7 @@ module _ {S : Type 0} (state : S → StorageState) (table : TableValue) where
           header = second.header ∙ first.header;
           loose = λ any loose. second.loose any (first.loose any loose);
           room = record { tables = second.room.tables ∙ first.room.tables; blocks = second.room.blocks ∙ first.room.blocks; entries = second.room.entries ∙ first.room.entries };
+          clean = clean-then state old before mid between new after first.clean second.clean;
           cause = cause-then result second;
         }
 
@@ -144,6 +170,9 @@ module _ {S : Type 0} (state : S → StorageState) (table : TableValue) where
     why-search CacheFull why = λ loose. loose-never table old true loose why
     why-search other why = absurd why
 
+    clean-found : (answer : Result Unit Fault) → BlockFound state key old before answer new after → KeepsClean state (cached_file old before) (cached_file new after)
+    clean-found answer found tables blocks = let still = found.still tables blocks in record { kept = still.0; tables = still.1; blocks = still.2 }
+
     loose-found : (answer : Result Unit Fault) → BlockFound state key old before answer new after → (any : Bool) → IsLoose table old any → IsLoose table new any
     loose-found answer found = loose-on table old new found.sought.pinned found.room.blocks
 
@@ -154,6 +183,7 @@ module _ {S : Type 0} (state : S → StorageState) (table : TableValue) where
       header = found.others.1;
       loose = loose-found (Err fault) found;
       room = record { tables = found.room.tables; blocks = found.room.blocks; entries = found.tables };
+      clean = clean-found (Err fault) found;
       cause = why-search fault found.cause;
     }
 
@@ -164,12 +194,21 @@ module _ {S : Type 0} (state : S → StorageState) (table : TableValue) where
       header = found.others.1;
       loose = loose-found (Ok tt) found;
       room = record { tables = found.room.tables; blocks = found.room.blocks; entries = found.tables };
+      clean = clean-found (Ok tt) found;
       cause = found.cause;
     }
 
   -- The entry of a block that is read, and stays as it is, goes first.
   abbrev used_caches : (key : ℕ) (mid : MetadataCaches S) (block : Block) → MetadataCaches S
   used_caches key mid block = with_blocks mid (hit (nat_eq key) (cached_in mid).blocks block)
+
+  clean-used : (key : ℕ) (mid : MetadataCaches S) (after : ImageFile S) (block : Block) → option_map (λ (s : Slot Block). s.value) (lookup (nat_eq key) (cached_in mid).blocks) ≡ Some block
+      → KeepsClean state (cached_file mid after) (cached_file (used_caches key mid block) after)
+  clean-used key mid after block there tables blocks = record {
+    kept = kept-same (state after.image);
+    tables = tables;
+    blocks = all-hit (λ (b : Block). b.modified ≡ false) key (cached_in mid).blocks block there blocks;
+  }
 
   used-looked : (key : ℕ) (mid : MetadataCaches S) (after : ImageFile S) (block : Block) → option_map (λ (s : Slot Block). s.value) (lookup (nat_eq key) (cached_in mid).blocks) ≡ Some block
       → Looked state {T = Unit {0}} table (cached_file mid after) (Ok tt) (cached_file (used_caches key mid block) after)
@@ -180,6 +219,7 @@ module _ {S : Type 0} (state : S → StorageState) (table : TableValue) where
     header = refl;
     loose = loose-on table mid (used_caches key mid block) (pins-hit key (cached_in mid).blocks block) refl;
     room = record { tables = refl; blocks = refl; entries = refl };
+    clean = clean-used key mid after block there;
     cause = refl;
   }
 
@@ -234,11 +274,11 @@ module _ {S : Type 0} (state : S → StorageState) (table : TableValue) where
           (block-counts key i named used.mid after used.block used.there (safe-still old before tt used.mid after found-first sound) j lt)
 
       even-looked : (r : Result T Fault) → MatchResult r (P used.block.counters) (λ fault. ⊥) → Looked state table (cached_file old before) r (cached_file new after)
-      even-looked (Ok v) reads = let u = used-there in record { going = u.going; order = u.order; header = u.header; loose = u.loose; room = u.room; cause = u.cause }
+      even-looked (Ok v) reads = let u = used-there in record { going = u.going; order = u.order; header = u.header; loose = u.loose; room = u.room; clean = u.clean; cause = u.cause }
       even-looked (Err fault) never = absurd never
 
       odd-looked : length used.block.counters ≢ k → Looked state {T = T} table (cached_file old before) (Err DamagedTable) (cached_file new after)
-      odd-looked odd = let u = used-there in record { going = u.going; order = u.order; header = u.header; loose = u.loose; room = u.room; cause = λ sound. odd (mid-long sound) }
+      odd-looked odd = let u = used-there in record { going = u.going; order = u.order; header = u.header; loose = u.loose; room = u.room; clean = u.clean; cause = λ sound. odd (mid-long sound) }
 
       used-read : Looked state table (cached_file old before) result (cached_file new after)
       used-read = elim (cases_eq (length used.block.counters) k) [

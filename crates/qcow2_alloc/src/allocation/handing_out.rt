@@ -1,7 +1,7 @@
 //! Clusters are allocated and handed out, and the refcount table grows, for callers above.
-ghost use Rattle.std.specs.Prelude.{◌≡◌, ◌<◌, ◌+◌, ◌^◌, ◌≢◌, ◌==◌, ◌≤◌, ◌/◌, List, IfOk, OnErr, length, slice_index};
+ghost use Rattle.std.specs.Prelude.{◌≡◌, ◌<◌, ◌+◌, ◌^◌, ◌≢◌, ◌==◌, ◌≤◌, ◌/◌, List, IfOk, OnErr, OnOk, length, slice_index, true};
 ghost use Rattle.qcow2_alloc.specs.Allocators.{mark_of, table_of};
-ghost use Rattle.qcow2_alloc.specs.ReadyingRuns.{Allocates, mark_behind};
+ghost use Rattle.qcow2_alloc.specs.ReadyingRuns.{Allocates, Spares, mark_behind};
 ghost use Rattle.qcow2_alloc.specs.State.{seen, lent};
 ghost use Rattle.imago_storage.specs.Fault.{number_of};
 ghost use Rattle.qcow2_types.specs.Counts.{counters_of_block};
@@ -30,7 +30,7 @@ enum Readiness {
 
 impl Allocator {
     // Counts the first run of so many clusters, from the mark on, that aren't counted, and hands it out. One of none begins at the mark.
-    // The list holds room for its entry already.
+    // The list holds room for its entry already. Before it has begun it only searches.
     pub(super) fn allocate<S: Storage>(
         &mut self,
         file: &mut ImageFile<S>,
@@ -38,7 +38,11 @@ impl Allocator {
         list: &mut ClustersToFreeList,
         count: ClusterCount,
         metadata: bool,
+        begun: &mut bool,
     ) -> Result<PendingClusters, Fault>
+        ensures begins { 0 < count → OnOk result (begun.new ≡ true) }
+        ensures spares { Spares S.state begun.old begun.new self.old (seen self.old caches.old file.old list.old) self.new
+            (seen self.new caches.new file.new list.new) }
         ensures allocates { Allocates S.state (mark_of self.old) count metadata (seen self.old caches.old file.old list.old) result
             (seen self.new caches.new file.new list.new) (mark_of self.new) }
         ensures held { list.new.held ≡ list.old.held }
@@ -46,7 +50,7 @@ impl Allocator {
         if count == ClusterCount(0) {
             return Ok(pending_run(self.first_free_cluster, count, metadata));
         }
-        let first = self.ready_run(file, caches, list, count.0)?;
+        let first = self.ready_run(file, caches, list, count.0, begun)?;
         // Where this refuses, what was counted of the run leaks.
         self.count_run(file, caches, first, count.0)?;
         self.first_free_cluster = next_mark(self.first_free_cluster, first, count);
@@ -82,8 +86,30 @@ impl Allocator {
             (seen self.old caches.old file.old list.old) result (seen self.new caches.new file.new list.new) (mark_of self.new) }
         ensures held { list.new.held ≡ held_by result list.old.held }
     {
+        let mut begun = false;
+        self.try_allocate_clusters(file, caches, list, count, metadata, &mut begun)
+    }
+
+    /// The same, and before the first change it sets `begun`. So where it is refused and `begun` isn't set, nothing has changed: of caches
+    /// with nothing to be written no byte of the file, and nothing is to be written; and the refcount table and the list stay.
+    pub fn try_allocate_clusters<S: Storage>(
+        &mut self,
+        file: &mut ImageFile<S>,
+        caches: &mut MetadataCaches<S>,
+        list: &mut ClustersToFreeList,
+        count: ClusterCount,
+        metadata: bool,
+        begun: &mut bool,
+    ) -> Result<PendingClusters, Fault>
+        ensures allocates { AllocatesClusters S.state (mark_of self.old) count metadata
+            (seen self.old caches.old file.old list.old) result (seen self.new caches.new file.new list.new) (mark_of self.new) }
+        ensures begins { 0 < count → OnOk result (begun.new ≡ true) }
+        ensures spares { Spares S.state begun.old begun.new self.old (seen self.old caches.old file.old list.old) self.new
+            (seen self.new caches.new file.new list.new) }
+        ensures held { list.new.held ≡ held_by result list.old.held }
+    {
         list.hold()?;
-        match self.free_and_allocate(file, caches, list, count, metadata) {
+        match self.free_and_allocate(file, caches, list, count, metadata, begun) {
             Ok(pending) => Ok(pending),
             Err(fault) => {
                 list.release();
@@ -175,14 +201,21 @@ impl Allocator {
         list: &mut ClustersToFreeList,
         count: ClusterCount,
         metadata: bool,
+        begun: &mut bool,
     ) -> Result<PendingClusters, Fault>
+        ensures begins { 0 < count → OnOk result (begun.new ≡ true) }
+        ensures spares { Spares S.state begun.old begun.new self.old (seen self.old caches.old file.old list.old) self.new
+            (seen self.new caches.new file.new list.new) }
         ensures allocates { AllocatesClusters S.state (mark_of self.old) count metadata
             (seen self.old caches.old file.old list.old) result (seen self.new caches.new file.new list.new) (mark_of self.new) }
         ensures held { list.new.held ≡ list.old.held }
     {
+        if !list.is_empty() {
+            *begun = true;
+        }
         self.process_clusters_to_free(file, caches, list)?;
         caches.l2_depends_on_rb(file)?;
-        self.allocate(file, caches, list, count, metadata)
+        self.allocate(file, caches, list, count, metadata, begun)
     }
 
     // Announces the order, and hands out a cluster where it is free. The list holds room for its entry already.

@@ -1,5 +1,5 @@
 //! A run of free clusters is made ready to be counted: each of its clusters gets a counter.
-ghost use Rattle.std.specs.Prelude.{◌≡◌, ◌≤◌, IsTrue, List, OnOk, length, ◌≢◌, ◌<◌, ◌+◌, ◌-◌, ◌/◌, ◌^◌, ◌↔◌, IfOk, IfErr};
+ghost use Rattle.std.specs.Prelude.{true, ◌≡◌, ◌≤◌, IsTrue, List, OnOk, length, ◌≢◌, ◌<◌, ◌+◌, ◌-◌, ◌/◌, ◌^◌, ◌↔◌, IfOk, IfErr};
 ghost use Rattle.qcow2_types.specs.Pending.{FreeEntry};
 ghost use Rattle.qcow2_alloc.specs.Allocating.{MakesBlocks};
 ghost use Rattle.qcow2_alloc.specs.declared.cache.CacheDependency.TheVariants.{L2DependsOnRb};
@@ -11,7 +11,7 @@ ghost use Rattle.qcow2_alloc.specs.State.{lent, seen};
 ghost use Rattle.qcow2_types.specs.Counts.{counters_of_block};
 ghost use Rattle.qcow2_metadata.specs.Places.{IsInReach};
 ghost use Rattle.qcow2_alloc.specs.ReadyingBlocks.{ReadiesBlocks, WhyNotFit};
-ghost use Rattle.qcow2_alloc.specs.ReadyingRuns.{ReadiesRun};
+ghost use Rattle.qcow2_alloc.specs.ReadyingRuns.{ReadiesRun, Spares};
 
 use crate::allocation::Allocator;
 use crate::cache::MetadataCaches;
@@ -63,15 +63,19 @@ impl Allocator {
     // Finds the first run of so many clusters, from the mark on, that aren't counted, and sees to it that each has a block. A block or
     // a table that is made for that takes clusters itself, so the run is searched for again then. The table grows once at most: where there
     // is room, one that has grown counts the run that is found then. A refusal for want of room tells the run's last cluster, or what a
-    // growth of the table does.
+    // growth of the table does. Behind the first search it has begun: what comes then may change something.
     pub(super) fn ready_run<S: Storage>(
         &mut self,
         file: &mut ImageFile<S>,
         caches: &mut MetadataCaches<S>,
         list: &mut ClustersToFreeList,
         count: u64,
+        begun: &mut bool,
     ) -> Result<HostCluster, Fault>
         requires some { 1 ≤ count }
+        ensures begins { OnOk result (begun.new ≡ true) }
+        ensures spares { Spares S.state begun.old begun.new self.old (seen self.old caches.old file.old list.old) self.new
+            (seen self.new caches.new file.new list.new) }
         ensures readies { ReadiesRun S.state (mark_of self.old) count (seen self.old caches.old file.old list.old) result
             (seen self.new caches.new file.new list.new) }
         ensures mark { mark_of self.new ≡ mark_of self.old }
@@ -80,6 +84,7 @@ impl Allocator {
         let entries = self.reftable.entries();
         loop {
             let first = self.find_run(file, caches, self.first_free_cluster, count)?;
+            *begun = true;
             let last_index = last_index(first, count, &file.header)?;
             if self.has_grown_short_of(entries, last_index) {
                 return Err(Fault::Limit(first.0.saturating_add(count - 1)));

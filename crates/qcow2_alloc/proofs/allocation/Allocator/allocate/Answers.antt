@@ -1,4 +1,4 @@
-use Rattle.std.proofs.Common.{◌≡◌, ℕ, ap, sym, subst, ◌∙◌, Ok, Err}
+use Rattle.std.proofs.Common.{◌≡◌, ℕ, refl, ap, sym, subst, ◌∙◌, Ok, Err}
 use Rattle.std.proofs.lemmas.Bool.{eqb-true}
 use Rattle.qcow2_types.specs.Pending.{FreeEntry}
 use Rattle.qcow2_alloc.specs.Allocating.{CountsRun}
@@ -6,6 +6,7 @@ use Rattle.qcow2_alloc.specs.Allocators.{mark_of}
 use Rattle.qcow2_alloc.specs.ReadyingRuns.{Allocates, ReadiesRun, mark_behind}
 use Rattle.qcow2_alloc.specs.State.{seen}
 use Rattle.qcow2_alloc.proofs.Handing.AllocatingRuns.{none-allocated, run-refused, count-refused, run-allocated}
+use Rattle.qcow2_alloc.proofs.Searching.Looking.{clean-none}
 use Rattle.qcow2_alloc.proofs.Faults.{handed-on}
 use Rattle.qcow2_alloc.proofs.allocation.Allocator.allocate.Goals as goal
 
@@ -62,3 +63,13 @@ returns-in_err-count_run-clause-allocates g c = rw (handed-on _ _ c.from_residua
     subst (λ (n : ℕ). CountsRun state c.in_ok-first.first n between (Err fault) (seen mid.self new.caches new.file mid.list)) c.count.view_is (c.in_err-count_run.ensures mid.list.entries) in
     subst (λ (m : ℕ). Allocates state (mark_of c.args.self.now) c.args.count c.args.metadata s (Err fault) (seen mid.self new.caches new.file mid.list) m) (sym c.in_ok-first.ensures.mark)
     (count-refused state (mark_of c.args.self.now) c.args.count c.args.metadata s between c.in_ok-first.first ready new.caches new.file fault counts))
+
+pub returns-then-eq-clause-spares : goal.returns-then-eq-clause-spares
+returns-then-eq-clause-spares g c = λ not. (not, refl, refl, refl, clean-none g.S.Storage.state c.args.caches.now c.args.file.now)
+
+-- What is counted is so behind the search.
+pub returns-clause-spares : goal.returns-clause-spares
+returns-clause-spares g c = λ not. let is = sym c.in_ok-first.ensures.begins ∙ not in absurd (cc is)
+
+pub returns-in_err-count_run-clause-spares : goal.returns-in_err-count_run-clause-spares
+returns-in_err-count_run-clause-spares g c = λ not. let is = sym c.in_ok-first.ensures.begins ∙ not in absurd (cc is)

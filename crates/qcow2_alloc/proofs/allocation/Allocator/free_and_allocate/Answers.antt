@@ -1,17 +1,28 @@
-use Rattle.std.proofs.Common.{[], List, sym, subst}
+use Rattle.std.proofs.Common.{◌≡◌, ◌∙◌, [], ◌∷◌, List, true, refl, arith, ap, sym, subst, length}
+use Rattle.std.specs.Prelude.{◌==◌}
+use Rattle.std.proofs.lemmas.Bool.{eqb-true}
+use Rattle.imago_storage.specs.State.{StorageState}
+use Rattle.imago_storage.specs.Calls.{Kept}
 use Rattle.qcow2_types.specs.Pending.{FreeEntry}
 use Rattle.qcow2_metadata.specs.Tables.{TableValue}
+use Rattle.qcow2_alloc.specs.declared.cache.MetadataCaches.{MetadataCaches}
+use Rattle.qcow2_alloc.specs.declared.file.ImageFile.{ImageFile}
 use Rattle.qcow2_alloc.specs.Allocators.{table_of, mark_of}
+use Rattle.qcow2_alloc.specs.Caches.{cached_file, cached_in}
 use Rattle.qcow2_alloc.specs.Freeing.{Frees}
 use Rattle.qcow2_alloc.specs.HandingOut.{AllocatesClusters}
 use Rattle.qcow2_alloc.specs.ReadyingRuns.{Allocates}
+use Rattle.qcow2_alloc.specs.Safety.{AreBlocksClean, AreTablesClean}
+use Rattle.qcow2_alloc.specs.SearchingClusters.{KeepsClean}
 use Rattle.qcow2_alloc.specs.State.{lent, seen}
 use Rattle.qcow2_alloc.proofs.Handing.AnnouncedOrders.{announced}
 use Rattle.qcow2_alloc.proofs.Blocks.CountingClusters.{succeeded}
 use Rattle.qcow2_alloc.proofs.Freeing.FreeingEntries.{failed}
 use Rattle.qcow2_alloc.proofs.Handing.HandingOut.{refused_run, run-not-freed, run-not-announced, run-announced}
+use Rattle.qcow2_alloc.proofs.Searching.Looking.{clean-then}
 use Rattle.qcow2_alloc.proofs.Faults.{handed-on}
 use Rattle.qcow2_alloc.proofs.allocation.Allocator.free_and_allocate.Goals as goal
+use Rattle.qcow2_alloc.proofs.allocation.Allocator.free_and_allocate.Goals.{then-not-is_empty, else-not-is_empty}
 
 pub returns-in_err-process_clusters_to_free-clause-allocates : goal.returns-in_err-process_clusters_to_free-clause-allocates
 returns-in_err-process_clusters_to_free-clause-allocates g c = rw (handed-on _ _ c.from_residual.ensures.1) (
@@ -53,3 +64,64 @@ returns-in_err-l2_depends_on_rb-clause-allocates g c = rw (handed-on _ _ c.from_
     (subst (λ (l : List FreeEntry). AllocatesClusters state (mark_of c.args.self.now) c.args.count c.args.metadata (lent t c.args.caches.now c.args.file.now c.args.list.now.entries) (refused_run c.in_err-l2_depends_on_rb.field-0.0) (lent t a.self a.file l) (mark_of f.self))
     (sym empty)
     (run-not-announced state (mark_of c.args.self.now) c.args.count c.args.metadata (lent t c.args.caches.now c.args.file.now c.args.list.now.entries) (mark_of f.self) f.caches f.file frees a.self a.file c.in_err-l2_depends_on_rb.field-0.0 second)))
+
+none-waits : (l : List FreeEntry) → (length l == 0) ≡ true → l ≡ []
+none-waits [] is = refl
+none-waits (e ∷ l) is = let none : length (e ∷ l) ≡ 0 = eqb-true (length (e ∷ l)) 0 is in absurd (omega (arith, none))
+
+-- Where nothing waited to be freed, what is announced is all that was done.
+still-clean : {S : Type 0} (state : S → StorageState) (old mid new : MetadataCaches S) (before between after : ImageFile S) → mid ≡ old
+    → between ≡ before
+    → (AreTablesClean (cached_in mid) → AreBlocksClean (cached_in mid)
+    → Kept (state between.image) (state after.image) × AreTablesClean (cached_in new) × AreBlocksClean (cached_in new))
+    → KeepsClean state (cached_file old before) (cached_file new after)
+still-clean {S} state old mid new before between after caches file still = λ tables blocks.
+    let s = still (subst (λ (c : MetadataCaches S). AreTablesClean (cached_in c)) (sym caches) tables)
+    (subst (λ (c : MetadataCaches S). AreBlocksClean (cached_in c)) (sym caches) blocks) in
+    record { kept = subst (λ (f : ImageFile S). Kept (state f.image) (state after.image)) file s.0; tables = s.1; blocks = s.2 }
+
+pub returns-in_err-process_clusters_to_free-clause-spares : goal.returns-in_err-process_clusters_to_free-clause-spares
+returns-in_err-process_clusters_to_free-clause-spares g c = λ not. elim c.if-not-is_empty.branch [
+  | then-not-is_empty w ↦ let never = sym w.begun-is ∙ not in absurd (cc never)
+  | else-not-is_empty w ↦
+      let none = none-waits c.args.list.now.entries (sym c.is_empty.ensures ∙ w.if-not-is_empty.false) in
+      let never = (c.in_err-process_clusters_to_free.ensures.idle none).0 in
+      absurd (cc never)
+]
+
+pub returns-in_err-l2_depends_on_rb-clause-spares : goal.returns-in_err-l2_depends_on_rb-clause-spares
+returns-in_err-l2_depends_on_rb-clause-spares g c = λ not. elim c.if-not-is_empty.branch [
+  | then-not-is_empty w ↦ let never = sym w.begun-is ∙ not in absurd (cc never)
+  | else-not-is_empty w ↦
+      let none = none-waits c.args.list.now.entries (sym c.is_empty.ensures ∙ w.if-not-is_empty.false) in
+      let f = c.process_clusters_to_free.new in
+      let a = c.l2_depends_on_rb.new in
+      let idle = c.in_ok-process_clusters_to_free.ensures.idle none in
+      let done = c.in_err-l2_depends_on_rb.ensures in (
+        sym w.begun-is ∙ not,
+        idle.3,
+        c.in_ok-process_clusters_to_free.ensures.ok ∙ sym none,
+        done.header ∙ ap (λ file. file.header) idle.2,
+        still-clean g.S.Storage.state c.args.caches.now f.caches a.self c.args.file.now f.file a.file idle.1 idle.2 done.still,
+      )
+]
+
+pub returns-clause-spares : goal.returns-clause-spares
+returns-clause-spares g c = λ not.
+    let spared = c.allocate.ensures.spares not in elim c.if-not-is_empty.branch [
+      | then-not-is_empty w ↦ let never = sym w.begun-is ∙ spared.0 in absurd (cc never)
+      | else-not-is_empty w ↦
+          let none = none-waits c.args.list.now.entries (sym c.is_empty.ensures ∙ w.if-not-is_empty.false) in
+          let f = c.process_clusters_to_free.new in
+          let a = c.l2_depends_on_rb.new in
+          let new = c.allocate.new in
+          let idle = c.in_ok-process_clusters_to_free.ensures.idle none in
+          let done = c.in_ok-l2_depends_on_rb.ensures in (
+            sym w.begun-is ∙ spared.0,
+            spared.1 ∙ idle.3,
+            spared.2 ∙ c.in_ok-process_clusters_to_free.ensures.ok ∙ sym none,
+            spared.3 ∙ done.header ∙ ap (λ file. file.header) idle.2,
+            clean-then g.S.Storage.state c.args.caches.now c.args.file.now a.self a.file new.caches new.file
+                (still-clean g.S.Storage.state c.args.caches.now f.caches a.self c.args.file.now f.file a.file idle.1 idle.2 done.still) spared.4,
+          )
+    ]

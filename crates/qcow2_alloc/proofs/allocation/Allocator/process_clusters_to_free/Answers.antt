@@ -1,4 +1,4 @@
-use Rattle.std.proofs.Common.{◌≡◌, [], List, length, ap, sym, subst, ◌∙◌}
+use Rattle.std.proofs.Common.{◌≡◌, [], List, length, refl, ap, sym, subst, ◌∙◌}
 use Rattle.std.specs.Prelude.{◌==◌}
 use Rattle.qcow2_types.specs.Header.{Header, has_external_data}
 use Rattle.qcow2_types.specs.Pending.{FreeEntry}
@@ -8,6 +8,7 @@ use Rattle.qcow2_alloc.specs.declared.file.ImageFile.{ImageFile}
 use Rattle.qcow2_alloc.specs.Caches.{cached_in, order_of}
 use Rattle.qcow2_alloc.specs.FreeList.{FreeList}
 use Rattle.qcow2_alloc.specs.Freeing.{Frees, IsRest, IsRestInTurn, data_in}
+use Rattle.qcow2_alloc.specs.Quiet.{metadata_in}
 use Rattle.qcow2_alloc.specs.State.{lent}
 use Rattle.qcow2_alloc.proofs.Caching.Lengths.{announced-long}
 use Rattle.qcow2_alloc.proofs.Freeing.FreeingEntries.{frees-then, freed, failed}
@@ -71,3 +72,19 @@ returns-in_err-rb_depends_on_l2-clause-external g c = rw (handed-on _ _ c.from_r
     let inside = sym (ap (λ (h : Header). has_external_data h.fields) c.in_ok-free_metadata.ensures.frees.header) ∙ sym c.external_data_file.ensures ∙ c.if-external_data_file.false in
     let both = sym external ∙ inside in
     cc both)
+
+pub returns-then-is_empty-clause-idle : goal.returns-then-is_empty-clause-idle
+returns-then-is_empty-clause-idle g c = λ none. let idle = c.in_ok-free_metadata.ensures.idle (ap metadata_in none) in (refl, idle.1, idle.2, idle.3)
+
+pub returns-in_err-free_metadata-clause-idle : goal.returns-in_err-free_metadata-clause-idle
+returns-in_err-free_metadata-clause-idle g c = λ none. let never = (c.in_err-free_metadata.ensures.idle (ap metadata_in none)).0 in absurd (cc never)
+
+-- An empty list is empty still once the metadata on it is freed.
+pub returns-then-external_data_file-clause-idle : goal.returns-then-external_data_file-clause-idle
+returns-then-external_data_file-clause-idle g c = λ none. let yes = c.is_empty.ensures ∙ ap (λ (l : List FreeEntry). length l == 0) (c.in_ok-free_metadata.ensures.ok ∙ ap data_in none) in let no = sym yes ∙ c.if-is_empty.false in absurd (cc no)
+
+pub returns-clause-idle : goal.returns-clause-idle
+returns-clause-idle g c = λ none. let yes = c.is_empty.ensures ∙ ap (λ (l : List FreeEntry). length l == 0) (c.in_ok-free_metadata.ensures.ok ∙ ap data_in none) in let no = sym yes ∙ c.if-is_empty.false in absurd (cc no)
+
+pub returns-in_err-rb_depends_on_l2-clause-idle : goal.returns-in_err-rb_depends_on_l2-clause-idle
+returns-in_err-rb_depends_on_l2-clause-idle g c = λ none. let yes = c.is_empty.ensures ∙ ap (λ (l : List FreeEntry). length l == 0) (c.in_ok-free_metadata.ensures.ok ∙ ap data_in none) in let no = sym yes ∙ c.if-is_empty.false in absurd (cc no)

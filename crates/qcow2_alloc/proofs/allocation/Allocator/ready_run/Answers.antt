@@ -5,15 +5,18 @@ use Rattle.qcow2_types.specs.Counts.{counters_of_block}
 use Rattle.qcow2_alloc.specs.declared.allocation.readying_runs.Provision.{Provision}
 use Rattle.qcow2_alloc.specs.declared.allocation.readying_runs.Provision.TheVariants.{Complete, Extended}
 use Rattle.qcow2_alloc.specs.Allocators.{table_of, mark_of}
+use Rattle.qcow2_alloc.specs.Caches.{cached_file}
+use Rattle.qcow2_alloc.specs.FreeList.{FreeList}
 use Rattle.qcow2_alloc.specs.ReadyingBlocks.{ReadiesBlocks, last_number}
 use Rattle.qcow2_alloc.specs.ReadyingRuns.{ReadiesRun}
+use Rattle.qcow2_alloc.specs.SearchingClusters.{KeepsClean}
 use Rattle.qcow2_alloc.specs.State.{seen}
 use Rattle.qcow2_alloc.proofs.Handing.ReadyingRuns.{Stays, stays-none, stays-found, stays-on, found-run, readying-none, readying-searched, readying-made, search-refused, making-refused, unfit-refused, grown-refused, run-ready, turns-fewer}
 use Rattle.qcow2_alloc.proofs.Faults.{handed-on}
 use Rattle.qcow2_alloc.proofs.allocation.Allocator.ready_run.Goals as goal
 
 pub loop-first-init : goal.loop-first-init
-loop-first-init g c = (readying-none g.S.Storage.state (seen c.args.self.now c.args.caches.now c.args.file.now c.args.list.now), refl, refl, c.entries-entries.ensures.value, stays-none g.S.Storage.state (seen c.args.self.now c.args.caches.now c.args.file.now c.args.list.now) (mark_of c.args.self.now) c.args.count c.requires.some)
+loop-first-init g c = (readying-none g.S.Storage.state (seen c.args.self.now c.args.caches.now c.args.file.now c.args.list.now), refl, refl, c.entries-entries.ensures.value, stays-none g.S.Storage.state (seen c.args.self.now c.args.caches.now c.args.file.now c.args.list.now) (mark_of c.args.self.now) c.args.count c.requires.some, λ not. (not, refl, refl, refl, refl))
 
 pub returns-in_err-first-clause-readies : goal.returns-in_err-first-clause-readies
 returns-in_err-first-clause-readies g c = rw (handed-on _ _ c.from_residual.ensures.1) (
@@ -102,6 +105,7 @@ loop-first-preserved g c =
           (stays-on state s (seen l.self searched.caches searched.file l.list) found (mark_of l.self) c.args.count c.in_ok-first.first c.rt_index-first_index.result c.in_ok-last_index.last_index c.requires.some
           (found-run state s so_far l.invariant.0 (mark_of l.self) c.args.count c.in_ok-first.first c.requires.some searched.caches searched.file c.in_ok-first.ensures)
           index c.in_ok-last_index.ensures.index kept s' readies),
+      λ not. absurd (cc not),
     )
 
 pub returns-in-Complete-clause-readies : goal.returns-in-Complete-clause-readies
@@ -157,3 +161,19 @@ returns-in_err-ready_blocks-clause-readies g c = rw (handed-on _ _ c.from_residu
     (found-run state s so_far l.invariant.0 (mark_of l.self) c.args.count c.in_ok-first.first c.requires.some searched.caches searched.file c.in_ok-first.ensures)
     index c.in_ok-last_index.ensures.index c.in_ok-last_index.ensures.reach kept c.in_err-ready_blocks.field-0.0 s' c.in_err-ready_blocks.ensures.readies
     (covers _ (length (table_of l.self).words) c.in_ok-last_index.last_index (length (table_of c.args.self.now).words) c.has_grown_short_of.result c.if-has_grown_short_of.false (λ a b. c.has_grown_short_of.ensures.1 (a, b)) l.invariant.3)))
+
+-- Before the first search nothing was done.
+pub returns-in_err-first-clause-spares : goal.returns-in_err-first-clause-spares
+returns-in_err-first-clause-spares g c = λ not.
+    let state = g.S.Storage.state in
+    let l = c.loop-first in
+    let new = c.find_run.new in
+    let same = l.invariant.5 not in
+    let looked = c.in_err-first.ensures.looked in (
+      same.0,
+      same.1,
+      ap (λ (list : FreeList). list.entries) same.4,
+      looked.header ∙ ap (λ file. file.header) same.3,
+      subst (λ caches. KeepsClean state (cached_file caches c.args.file.now) (cached_file new.caches new.file)) same.2
+          (subst (λ file. KeepsClean state (cached_file l.caches file) (cached_file new.caches new.file)) same.3 looked.clean),
+    )

@@ -1,13 +1,15 @@
-use Rattle.std.proofs.Common.{List, ap, sym, subst, ◌≡◌}
+use Rattle.std.proofs.Common.{List, refl, ap, sym, subst, ◌≡◌}
 use Rattle.imago_storage.specs.declared.fault.Fault.{Fault}
 use Rattle.qcow2_types.specs.Pending.{FreeEntry}
 use Rattle.qcow2_alloc.specs.Allocators.{table_of, mark_of}
 use Rattle.qcow2_alloc.specs.FreeList.{FreeList}
 use Rattle.qcow2_alloc.specs.HandingOut.{AllocatesClusters}
+use Rattle.qcow2_alloc.specs.ReadyingRuns.{Spares}
 use Rattle.qcow2_alloc.specs.State.{lent, seen}
 use Rattle.qcow2_alloc.proofs.Handing.HandingOut.{refused_run, run_so, run-not-held}
+use Rattle.qcow2_alloc.proofs.Searching.Looking.{clean-none}
 use Rattle.qcow2_alloc.proofs.Faults.{handed-on}
-use Rattle.qcow2_alloc.proofs.allocation.Allocator.allocate_clusters.Goals as goal
+use Rattle.qcow2_alloc.proofs.allocation.Allocator.try_allocate_clusters.Goals as goal
 
 pub returns-in_err-hold-clause-allocates : goal.returns-in_err-hold-clause-allocates
 returns-in_err-hold-clause-allocates g c = rw (handed-on _ _ c.from_residual.ensures.1) (
@@ -36,3 +38,24 @@ returns-in-Err-clause-allocates g c =
     subst (λ (es : List FreeEntry). AllocatesClusters state (mark_of c.args.self.now) c.args.count c.args.metadata (seen c.args.self.now c.args.caches.now c.args.file.now c.args.list.now) (refused_run fault) (lent (table_of new.self) new.caches new.file es) (mark_of new.self)) (sym still)
     (subst (λ (l : FreeList). AllocatesClusters state (mark_of c.args.self.now) c.args.count c.args.metadata (seen c.args.self.now c.args.caches.now c.args.file.now l) (refused_run fault) (seen new.self new.caches new.file new.list) (mark_of new.self))
     c.in_ok-hold.ensures.ok c.in-Err.ensures.allocates)
+
+pub returns-in_err-hold-clause-spares : goal.returns-in_err-hold-clause-spares
+returns-in_err-hold-clause-spares g c = λ not.
+    let still = ap (λ (l : FreeList). l.entries) c.in_err-hold.ensures.err.1 in
+    (not, refl, still, refl, clean-none g.S.Storage.state c.args.caches.now c.args.file.now)
+
+pub returns-in-Ok-clause-spares : goal.returns-in-Ok-clause-spares
+returns-in-Ok-clause-spares g c =
+    let state = g.S.Storage.state in
+    let new = c.free_and_allocate.new in
+    subst (λ (l : FreeList). Spares state c.args.begun.now new.begun c.args.self.now (seen c.args.self.now c.args.caches.now c.args.file.now l) new.self (seen new.self new.caches new.file new.list))
+    c.in_ok-hold.ensures.ok c.in-Ok.ensures.spares
+
+pub returns-in-Err-clause-spares : goal.returns-in-Err-clause-spares
+returns-in-Err-clause-spares g c =
+    let state = g.S.Storage.state in
+    let new = c.free_and_allocate.new in
+    let still : c.release.new.self.entries ≡ new.list.entries = ap (λ (l : FreeList). l.entries) c.release.ensures in
+    subst (λ (es : List FreeEntry). Spares state c.args.begun.now new.begun c.args.self.now (seen c.args.self.now c.args.caches.now c.args.file.now c.args.list.now) new.self (lent (table_of new.self) new.caches new.file es)) (sym still)
+    (subst (λ (l : FreeList). Spares state c.args.begun.now new.begun c.args.self.now (seen c.args.self.now c.args.caches.now c.args.file.now l) new.self (seen new.self new.caches new.file new.list))
+    c.in_ok-hold.ensures.ok c.in-Err.ensures.spares)
