@@ -1,5 +1,6 @@
 pub mod Adding
 pub mod Settled
+pub mod Sparing
 pub mod Resting
 pub mod Ending
 pub mod FreeingWaiting

@@ -2,7 +2,7 @@
 use Rattle.std.proofs.Common.{◌≡◌, ℕ, refl, arith, ap, sym, subst, ◌∙◌, List, [], ◌∷◌, Result, Ok, Err, inl, inr}
 use Rattle.std.specs.Prelude.{⊤, IsTrue, OnOk, map}
 use Rattle.std.specs.List.{AllByRecursion}
-use Rattle.imago_storage.specs.Calls.{IsFaultless}
+use Rattle.imago_storage.specs.Calls.{IsFaultless, Kept}
 use Rattle.imago_storage.specs.State.{StorageState}
 use Rattle.imago_storage.specs.declared.fault.Fault.{Fault}
 use Rattle.imago_storage.specs.declared.fault.Fault.TheVariants.{DamagedTable, Memory, Storage}
@@ -15,17 +15,20 @@ use Rattle.qcow2_types.specs.Pending.{FreeEntry}
 use Rattle.qcow2_metadata.specs.Tables.{TableValue}
 use Rattle.qcow2_metadata.specs.Blocks.{Block}
 use Rattle.qcow2_alloc.specs.declared.async_lru_cache.Slot.{Slot}
-use Rattle.qcow2_alloc.specs.declared.cache.CacheDependency.TheVariants.{Unset}
+use Rattle.qcow2_alloc.specs.declared.cache.CacheDependency.TheVariants.{L2DependsOnRb, Unset}
 use Rattle.qcow2_alloc.specs.declared.cache.MetadataCaches.{MetadataCaches}
 use Rattle.qcow2_alloc.specs.declared.file.ImageFile.{ImageFile}
 use Rattle.qcow2_alloc.specs.Allocators.{metadata_of}
 use Rattle.qcow2_alloc.specs.Cache.{kept_pinned}
 use Rattle.qcow2_alloc.specs.Caches.{HasRoomOf, cached_in}
-use Rattle.qcow2_alloc.specs.Going.{Always, AreBlocksInReach, AreTablesInReach, CountsWrites, Going, IsMild, IsNoShorter, WasNotCutOff, WhyNotWritten}
+use Rattle.qcow2_alloc.specs.declared.cache.CacheDependency.{CacheDependency}
+use Rattle.qcow2_alloc.specs.Going.{Always, AreBlocksInReach, AreTablesInReach, CountsWrites, Going, InTurn, IsMild, IsNoShorter, WasNotCutOff, WhyNotWritten, WritesBlocks, WritesTables}
 use Rattle.qcow2_alloc.specs.Memory.{Cached, memory, written_block, written_table}
 use Rattle.qcow2_alloc.specs.Quiet.{IsIn, IsQuiet, IsSound, Metadata, Quietly, counted}
 use Rattle.qcow2_alloc.specs.Safety.{AreBlocksClean, AreTablesClean, IsLeft, IsSettled, Safe}
 use Rattle.qcow2_alloc.proofs.Caching.Empty.{empty-safe}
+use Rattle.qcow2_alloc.proofs.Caching.LettingIn.{blocks-none, is-order, tables-none}
+use Rattle.qcow2_alloc.proofs.Flushing.Going.{kept-same}
 use Rattle.qcow2_alloc.proofs.Memory.SafeLaws.{clean-memory, safe-reach}
 use Rattle.qcow2_alloc.proofs.Quiet.QuietAnnouncing.{written-whole}
 use Rattle.qcow2_alloc.proofs.Quiet.QuietFlushes.{going-quietly, quietly-weaker, stays-quiet}
@@ -123,6 +126,23 @@ cut-quietly ok s m m' never = record {
   holds = λ keeps sound done. absurd (never done);
 }
 
+-- A flush of what isn't modified changes nothing.
+pub flushed-still : (order : CacheDependency) (a b : StorageState) (c c' : Cached) (flushed : Result Unit Fault)
+    → (order ≡ L2DependsOnRb → InTurn WritesBlocks WritesTables a c flushed b c')
+    → ((order ≡ L2DependsOnRb → ⊥) → InTurn WritesTables WritesBlocks a c flushed b c') → AreTablesClean c → AreBlocksClean c → Kept a b
+flushed-still order a b c c' flushed blocks_first tables_first tables blocks = elim (is-order order L2DependsOnRb) [
+  | inl is ↦
+      let t = blocks_first is in
+      let first = blocks-none a t.mid c t.between t.answer t.first blocks in
+      let second = tables-none t.mid b t.between c' flushed (t.second first.0) (subst AreTablesClean (sym first.2) tables) in
+      subst (λ (s : StorageState). Kept a s) (sym (second.1 ∙ first.1)) (kept-same a)
+  | inr apart ↦
+      let t = tables_first apart in
+      let first = tables-none a t.mid c t.between t.answer t.first tables in
+      let second = blocks-none t.mid b t.between c' flushed (t.second first.0) (subst AreBlocksClean (sym first.2) blocks) in
+      subst (λ (s : StorageState). Kept a s) (sym (second.1 ∙ first.1)) (kept-same a)
+]
+
 -- why a flush was refused
 pub why-settled : (reach : Type 0) (before after : ℕ) (fault : Fault) → WhyNotWritten reach before after fault → WhyNotSettled reach before after fault
 why-settled reach before after Memory why = why
@@ -155,6 +175,7 @@ module _ {S T : Type 0} (state : S → StorageState) (given : Result T Fault) (b
         cut-quietly (WasNotCutOff given) (state before.image) (metadata_of state before old table pending) (at_rest (metadata_of state before old table pending)) cut;
     counts = λ table pending keeps sound whole. absurd (cut whole);
     faults = λ whole. absurd (cut whole);
+    still = λ tables blocks. kept-same (state before.image);
     cut = λ _. (refl, refl);
     ok = ok-same given;
     answer = inl refl;
@@ -162,7 +183,8 @@ module _ {S T : Type 0} (state : S → StorageState) (given : Result T Fault) (b
 
   -- and what wasn't once it was flushed:
   module _ (whole : WasNotCutOff given) (after : ImageFile S) (cached' : Cached) (header : after.header ≡ before.header)
-      (long : IsNoShorter (state before.image) (state after.image)) where
+      (long : IsNoShorter (state before.image) (state after.image))
+      (still : AreTablesClean (cached_in old) → AreBlocksClean (cached_in old) → Kept (state before.image) (state after.image)) where
     module _ (flushed : Result Unit Fault)
         (going : Going before.header old.order Always (flushed ≡ Ok tt) (state before.image) (cached_in old) (state after.image) cached')
         (counts : CountsWrites (AreTablesInReach (cached_in old) × AreBlocksInReach (cached_in old)) (state before.image).faults (state after.image).faults flushed)
@@ -196,6 +218,7 @@ module _ {S T : Type 0} (state : S → StorageState) (given : Result T Fault) (b
           (at_rest (metadata_of state after old table pending)) (λ sound done. tt) (quietly-settled done_so going counts tables blocks table pending);
       counts = λ table pending keeps sound done. settled-counts done_so going counts tables blocks table pending keeps sound tt;
       faults = λ done. faultless;
+      still = still;
       cut = λ cut. absurd (cut whole);
       ok = ok-same given;
       answer = inl refl;
@@ -213,6 +236,7 @@ module _ {S T : Type 0} (state : S → StorageState) (given : Result T Fault) (b
       quiet = quietly-settled (refused_so fault) going counts tt tt;
       counts = settled-counts (refused_so fault) going counts tt tt;
       faults = faultless;
+      still = still;
       cut = λ cut. absurd (cut whole);
       ok = tt;
       answer = inr (fault, refl, why-settled (AreTablesInReach (cached_in old) × AreBlocksInReach (cached_in old)) (state before.image).faults (state after.image).faults fault counts);

@@ -2,6 +2,7 @@ pub mod Rest
 pub mod Room
 pub mod Progress
 pub mod Settling
+pub mod Sparing
 pub mod Storing
 pub mod Filling
 pub mod Naming

@@ -2,7 +2,7 @@
 use Rattle.std.specs.Prelude.{◌≡◌, ◌⊎◌, ⊤, ℕ, List, IsTrue, Result, Err, OnOk}
 use Rattle.std.specs.List.{AllByRecursion}
 use Rattle.imago_storage.specs.State.{StorageState, Rose}
-use Rattle.imago_storage.specs.Calls.{IsFaultless}
+use Rattle.imago_storage.specs.Calls.{IsFaultless, Kept}
 use Rattle.imago_storage.specs.declared.fault.Fault.{Fault}
 use Rattle.imago_storage.specs.declared.fault.Fault.TheVariants.{DamagedTable, Memory, Storage}
 use Rattle.qcow2_types.specs.Pending.{FreeEntry}
@@ -14,6 +14,7 @@ use Rattle.qcow2_alloc.specs.Allocators.{metadata_of}
 use Rattle.qcow2_alloc.specs.Caches.{cached_in, HasRoomOf}
 use Rattle.qcow2_alloc.specs.Going.{AreBlocksInReach, AreTablesInReach, IsNoShorter, WasNotCutOff}
 use Rattle.qcow2_alloc.specs.Quiet.{IsSound, Metadata, Quietly, counted}
+use Rattle.qcow2_alloc.specs.Safety.{AreBlocksClean, AreTablesClean}
 use Rattle.qcow2_clusters.specs.Rest.{AreEmpty, nothing_cached}
 
 -- nothing of the caches is pinned
@@ -33,7 +34,8 @@ WhyNotSettled reach before after DamagedTable = reach → ⊥
 WhyNotSettled reach before after fault = ⊥
 
 -- A change that was answered so ends: unless it was cut off, what is modified is written, and a fault of that takes the place of the
--- answer; then nothing is cached. The disk stays as it was, each cluster is counted as often, and the file gets no shorter.
+-- answer; then nothing is cached. The disk stays as it was, each cluster is counted as often, and the file gets no shorter. Where nothing
+-- is modified no byte changes.
 pub record Settles {S T : Type 0} (state : S → StorageState) (given : Result T Fault) (before : ImageFile S) (old : MetadataCaches S)
     (result : Result T Fault) (after : ImageFile S) (new : MetadataCaches S) : Type 0 where
   pub empty : AreEmpty new
@@ -46,6 +48,7 @@ pub record Settles {S T : Type 0} (state : S → StorageState) (given : Result T
       → IsSound (metadata_of state before old table pending) → WasNotCutOff result → (c : ℕ)
       → counted (at_rest (metadata_of state after old table pending)) c ≡ counted (metadata_of state before old table pending) c
   pub faults : WasNotCutOff result → IsFaultless (state before.image) (state after.image)
+  pub still : AreTablesClean (cached_in old) → AreBlocksClean (cached_in old) → Kept (state before.image) (state after.image)
   pub cut : (WasNotCutOff given → ⊥) → (result ≡ given) × (after ≡ before)
   pub ok : OnOk result (result ≡ given)
   pub answer : (result ≡ given) ⊎ ((fault : Fault) × (result ≡ Err fault)

@@ -4,6 +4,7 @@ ghost use Rattle.qcow2_types.specs.TableBytes.{AreFit, table_bytes};
 ghost use Rattle.qcow2_metadata.specs.Tables.{IsPlacedTable, table_place};
 ghost use Rattle.qcow2_clusters.specs.Lengthening.{LengthensL1, NamesL1, StandsIn, clusters_for, l1_run};
 ghost use Rattle.qcow2_clusters.specs.Rest.{AreEmpty, HasEntries, lent};
+ghost use Rattle.qcow2_clusters.specs.Sparing.{Spares, SparesTop, SparesUnsettled};
 ghost use Rattle.qcow2_clusters.specs.Storing.{StoresRun, StoresRunUnsettled};
 
 use crate::making_tables::place_l1;
@@ -22,6 +23,7 @@ fn allocate_and_write<S: Storage>(
     caches: &mut MetadataCaches<S>,
     space: &mut Space,
     table: &mut L1Table,
+    begun: &mut bool,
 ) -> Result<HostCluster, Fault>
     requires rest { AreEmpty caches.old }
     requires room { HasEntries caches.old }
@@ -31,12 +33,14 @@ fn allocate_and_write<S: Storage>(
         (lent file.old caches.old space.old) result (lent file.new caches.new space.new) }
     ensures stands { StandsIn file.old.header.fields table.old result table.new }
     ensures fit { AreFit table.old.words }
+    ensures spares { SparesUnsettled S.state begun.old (lent file.old caches.old space.old) result begun.new
+        (lent file.new caches.new space.new) }
 {
     let _words = table.entries();
     let count = table.cluster_count();
     let pending = space
         .allocator
-        .allocate_clusters(file, caches, &mut space.to_free, count, false)?;
+        .try_allocate_clusters(file, caches, &mut space.to_free, count, false, begun)?;
     let cluster = pending.cluster();
     let _parts = pending.into_entry().into_parts();
     table.set_cluster(cluster);
@@ -56,6 +60,7 @@ fn store_l1<S: Storage>(
     caches: &mut MetadataCaches<S>,
     space: &mut Space,
     table: &mut L1Table,
+    begun: &mut bool,
 ) -> Result<HostCluster, Fault>
     requires rest { AreEmpty caches.old }
     requires room { HasEntries caches.old }
@@ -65,8 +70,9 @@ fn store_l1<S: Storage>(
         (lent file.old caches.old space.old) result (lent file.new caches.new space.new) }
     ensures stands { StandsIn file.old.header.fields table.old result table.new }
     ensures fit { AreFit table.old.words }
+    ensures spares { Spares S.state begun.old (lent file.old caches.old space.old) result begun.new (lent file.new caches.new space.new) }
 {
-    let stored = allocate_and_write(alloc, file, caches, space, table);
+    let stored = allocate_and_write(alloc, file, caches, space, table, begun);
     settle_stored(file, caches, space, stored)
 }
 
@@ -117,6 +123,7 @@ fn give_up_l1(to_free: &mut ClustersToFreeList, l1: &L1Table)
 
 /// Has the header name a longer L1 table, in clusters that were free: it has a word at this index, the words of the old one, and else words
 /// that name nothing. The clusters of the old one, if it had any, wait to be freed then. Nothing may be cached before, and nothing is then.
+/// Before its first change it sets `begun`: refused without that, it leaves all as it was, but perhaps where the L1 table in memory stands.
 ///
 /// It refuses with `Fault::Limit` where the table would have more than 2^22 words, of which it tells the number, or, as `store_run` does,
 /// only where a sixteenth of the space and three times its clusters weren't free in a row; with `Fault::Memory` and `Fault::Storage`, after
@@ -128,14 +135,18 @@ pub fn lengthen_l1<S: Storage>(
     space: &mut Space,
     l1: &mut L1Table,
     index: usize,
+    begun: &mut bool,
 ) -> Result<(), Fault>
     requires rest { AreEmpty caches.old }
     requires room { HasEntries caches.old }
-    ensures { LengthensL1 S.state l1.old index (lent file.old caches.old space.old) result l1.new (lent file.new caches.new space.new) }
+    ensures lengthens { LengthensL1 S.state l1.old index (lent file.old caches.old space.old) result l1.new
+        (lent file.new caches.new space.new) }
+    ensures spares { SparesTop S.state begun.old l1.old (lent file.old caches.old space.old) result begun.new l1.new
+        (lent file.new caches.new space.new) }
 {
     place_l1(l1, &file.header)?;
     let mut grown = l1.clone_and_grow(alloc, index, &file.header)?;
-    store_l1(alloc, file, caches, space, &mut grown)?;
+    store_l1(alloc, file, caches, space, &mut grown, begun)?;
     match name_l1(alloc, file, &grown, l1) {
         Ok(()) => {
             give_up_l1(&mut space.to_free, l1);

@@ -5,6 +5,7 @@ ghost use Rattle.qcow2_types.specs.Header.{cluster_size};
 ghost use Rattle.qcow2_metadata.specs.Places.{IsInReach};
 ghost use Rattle.qcow2_metadata.specs.Tables.{IsNamable, IsPlacedTable};
 ghost use Rattle.qcow2_clusters.specs.Rest.{AreEmpty, HasEntries, lent};
+ghost use Rattle.qcow2_clusters.specs.Sparing.{SparesTop};
 ghost use Rattle.qcow2_clusters.specs.MakingTables.{CopiesTable, EntersTable, FindsTable, IsClusterOf, MakesTable, PlacesL1, PlacesTable};
 
 use crate::space::Space;
@@ -69,17 +70,20 @@ fn place_table<S: Storage>(
     l1: &mut L1Table,
     index: usize,
     content: &[u8],
+    begun: &mut bool,
 ) -> Result<HostCluster, Fault>
     requires rest { AreEmpty caches.old }
     requires room { HasEntries caches.old }
     requires bounds { index < length l1.old.words }
     requires whole { length content.now ≡ cluster_size file.old.header.fields }
-    ensures { PlacesTable S.state content.now l1.old index (lent file.old caches.old space.old) result l1.new
+    ensures places { PlacesTable S.state content.now l1.old index (lent file.old caches.old space.old) result l1.new
+        (lent file.new caches.new space.new) }
+    ensures spares { SparesTop S.state begun.old l1.old (lent file.old caches.old space.old) result begun.new l1.new
         (lent file.new caches.new space.new) }
 {
     place_l1(l1, &file.header)?;
     let mut table = L2Table::new_cleared(alloc, &file.header)?;
-    let cluster = store(alloc, file, caches, space, content)?;
+    let cluster = store(alloc, file, caches, space, content, begun)?;
     table.set_cluster(cluster);
     match enter_table(alloc, file, l1, index, &table) {
         Ok(()) => Ok(cluster),
@@ -91,7 +95,8 @@ fn place_table<S: Storage>(
 }
 
 /// Makes an L2 table in which nothing is mapped, in a cluster that was free, and has the word at an index of the L1 table name it, which
-/// named none. Nothing may be cached before, and nothing is then.
+/// named none. Nothing may be cached before, and nothing is then. Before its first change it sets `begun`: refused without that, it
+/// leaves all as it was, but perhaps where the L1 table in memory stands.
 ///
 /// It refuses with `Fault::Limit` as `store_run` does; with `Fault::Memory` and `Fault::Storage`, after which the L1 table in memory may
 /// not be the file's; and with `Fault::Counter` and `Fault::DamagedTable`, which no sound image has.
@@ -102,14 +107,18 @@ pub fn make_table<S: Storage>(
     space: &mut Space,
     l1: &mut L1Table,
     index: usize,
+    begun: &mut bool,
 ) -> Result<HostCluster, Fault>
     requires rest { AreEmpty caches.old }
     requires room { HasEntries caches.old }
     requires bounds { index < length l1.old.words }
-    ensures { MakesTable S.state l1.old index (lent file.old caches.old space.old) result l1.new (lent file.new caches.new space.new) }
+    ensures makes { MakesTable S.state l1.old index (lent file.old caches.old space.old) result l1.new
+        (lent file.new caches.new space.new) }
+    ensures spares { SparesTop S.state begun.old l1.old (lent file.old caches.old space.old) result begun.new l1.new
+        (lent file.new caches.new space.new) }
 {
     let content = clear_content(alloc, &file.header)?;
-    let cluster = place_table(alloc, file, caches, space, l1, index, &content)?;
+    let cluster = place_table(alloc, file, caches, space, l1, index, &content, begun)?;
     space.to_free.release();
     Ok(cluster)
 }
@@ -157,17 +166,21 @@ pub fn copy_table<S: Storage>(
     space: &mut Space,
     l1: &mut L1Table,
     index: usize,
+    begun: &mut bool,
 ) -> Result<HostCluster, Fault>
     requires rest { AreEmpty caches.old }
     requires room { HasEntries caches.old }
     requires bounds { index < length l1.old.words }
-    ensures { CopiesTable S.state l1.old index (lent file.old caches.old space.old) result l1.new (lent file.new caches.new space.new) }
+    ensures copies { CopiesTable S.state l1.old index (lent file.old caches.old space.old) result l1.new
+        (lent file.new caches.new space.new) }
+    ensures spares { SparesTop S.state begun.old l1.old (lent file.old caches.old space.old) result begun.new l1.new
+        (lent file.new caches.new space.new) }
 {
     let Some(old) = table_at(l1, index, &file.header) else {
         return Err(Fault::DamagedTable);
     };
     let content = read_cluster(alloc, file, old)?;
-    let cluster = place_table(alloc, file, caches, space, l1, index, &content)?;
+    let cluster = place_table(alloc, file, caches, space, l1, index, &content, begun)?;
     let entry = ClustersToFreeEntry::metadata(old, ClusterCount(1));
     space.to_free.give_back(PendingClusters::new(entry));
     Ok(cluster)

@@ -1,34 +1,49 @@
 // Bytes are stored in clusters that were free.
-ghost use Rattle.std.specs.Prelude.{◌≡◌, ◌≤◌, ◌<◌, ◌+◌, ◌-◌, ◌*◌, ◌^◌, ℕ, List, IfOk, OnOk, length};
+ghost use Rattle.std.specs.Prelude.{◌≡◌, ◌≤◌, ◌<◌, ◌+◌, ◌-◌, ◌*◌, ◌^◌, ℕ, Bool, List, IfOk, OnOk, false, length};
+ghost use Rattle.imago_storage.specs.Calls.{Kept};
 ghost use Rattle.imago_storage.specs.Through.{Put};
 ghost use Rattle.qcow2_types.specs.Header.{cluster_size};
 ghost use Rattle.qcow2_metadata.specs.Places.{IsInReach};
 ghost use Rattle.qcow2_clusters.specs.Rest.{AreEmpty, Clusters, HasEntries, lent};
 ghost use Rattle.qcow2_clusters.specs.Settling.{AreUnpinned};
+ghost use Rattle.qcow2_clusters.specs.Sparing.{Spares, SparesUnsettled};
 ghost use Rattle.qcow2_clusters.specs.Storing.{ReachesEnd, ReachesRun, Stores, StoresRun, StoresRunUnsettled};
 
 use crate::settling::settle;
 use crate::space::Space;
-use imago_storage::{Fault, Storage, StorageExt};
+use imago_storage::{Fault, Storage, StorageExt, WriteFault};
 use qcow2_alloc::{ImageFile, MetadataCaches};
 use qcow2_types::{ClusterCount, HostCluster};
 use std::alloc::Global;
 
-// Writes the content of a cluster that words can name.
+// Writes the content of a cluster that words can name. It sets `begun`, unless it is refused before any change is asked for.
 pub(crate) fn write_cluster<S: Storage>(
     alloc: Global,
     file: &mut ImageFile<S>,
     cluster: HostCluster,
     content: &[u8],
+    begun: &mut bool,
 ) -> Result<(), Fault>
     requires reach { IsInReach file.old.header.fields.cluster_bits cluster }
     requires whole { length content.now ≡ cluster_size file.old.header.fields }
     ensures put { Put (S.state file.old.image) (S.state file.new.image) (cluster * cluster_size file.old.header.fields) content.now result }
     ensures header { file.new.header ≡ file.old.header }
     ensures reaches { OnOk result (ReachesEnd S.state cluster 1 file.old file.new) }
+    ensures spares { begun.new ≡ false
+        → (begun.old ≡ false) × OnOk result ⊥ × Kept (S.state file.old.image) (S.state file.new.image) }
 {
     let place = cluster.offset(file.header.cluster_bits());
-    file.image.write(alloc, content, place.0)
+    match file.image.try_write(alloc, content, place.0) {
+        Ok(()) => {
+            *begun = true;
+            Ok(())
+        }
+        Err(WriteFault::Before(fault)) => Err(fault),
+        Err(WriteFault::Within(fault)) => {
+            *begun = true;
+            Err(fault)
+        }
+    }
 }
 
 // Writes the content of a guest cluster to the first of host clusters in a row that it allocates.
@@ -39,20 +54,23 @@ fn allocate_and_write<S: Storage>(
     space: &mut Space,
     content: &[u8],
     count: ClusterCount,
+    begun: &mut bool,
 ) -> Result<HostCluster, Fault>
     requires rest { AreEmpty caches.old }
     requires room { HasEntries caches.old }
     requires whole { length content.now ≡ cluster_size file.old.header.fields }
     requires any { 0 < count }
-    ensures { StoresRunUnsettled S.state count content.now (lent file.old caches.old space.old)
+    ensures stores { StoresRunUnsettled S.state count content.now (lent file.old caches.old space.old)
         result (lent file.new caches.new space.new) }
+    ensures spares { SparesUnsettled S.state begun.old (lent file.old caches.old space.old) result begun.new
+        (lent file.new caches.new space.new) }
 {
     let pending = space
         .allocator
-        .allocate_clusters(file, caches, &mut space.to_free, count, false)?;
+        .try_allocate_clusters(file, caches, &mut space.to_free, count, false, begun)?;
     let cluster = pending.cluster();
     let _parts = pending.into_entry().into_parts();
-    match write_cluster(alloc, file, cluster, content) {
+    match write_cluster(alloc, file, cluster, content, begun) {
         Ok(()) => Ok(cluster),
         Err(fault) => {
             space.to_free.release();
@@ -74,6 +92,8 @@ pub(crate) fn settle_stored<S: Storage>(
         → StoresRunUnsettled S.state n content c stored (lent file.old caches.old space.old)
         → StoresRun S.state n content c result (lent file.new caches.new space.new) }
     ensures same { OnOk result (result ≡ stored) }
+    ensures spares { (was now : Bool) (c : Clusters S) → SparesUnsettled S.state was c stored now (lent file.old caches.old space.old)
+        → Spares S.state was c result now (lent file.new caches.new space.new) }
 {
     match stored {
         Ok(cluster) => match settle(file, caches, Ok(cluster)) {
@@ -111,7 +131,8 @@ fn reach_end<S: Storage>(
 
 /// Stores the content of a guest cluster in the first of host clusters in a row that were free, which nothing names yet. The file reaches
 /// the end of the last one then, so that words may name each; what stands in those behind the first is left open. Room is held for them
-/// then on the list of clusters to free, as `ClustersToFreeList::hold` does. Nothing may be cached before, and nothing is then.
+/// then on the list of clusters to free, as `ClustersToFreeList::hold` does. Nothing may be cached before, and nothing is then. Before its
+/// first change it sets `begun`: refused without that, it leaves all as it was.
 ///
 /// It refuses with `Fault::Limit` only where a sixteenth of the space and three times as many clusters weren't free in a row as the call
 /// began, and tells why the first such run that is free by then can't be taken, as `Allocator::allocate_clusters` does; with
@@ -124,6 +145,7 @@ pub fn store_run<S: Storage>(
     space: &mut Space,
     content: &[u8],
     count: ClusterCount,
+    begun: &mut bool,
 ) -> Result<HostCluster, Fault>
     requires rest { AreEmpty caches.old }
     requires room { HasEntries caches.old }
@@ -131,8 +153,9 @@ pub fn store_run<S: Storage>(
     requires any { 0 < count }
     ensures stores { StoresRun S.state count content.now (lent file.old caches.old space.old) result (lent file.new caches.new space.new) }
     ensures reaches { IfOk result (λ first. ReachesEnd S.state first count file.old file.new) }
+    ensures spares { Spares S.state begun.old (lent file.old caches.old space.old) result begun.new (lent file.new caches.new space.new) }
 {
-    let stored = allocate_and_write(alloc, file, caches, space, content, count);
+    let stored = allocate_and_write(alloc, file, caches, space, content, count, begun);
     let first = settle_stored(file, caches, space, stored)?;
     match reach_end(alloc, file, first, count) {
         Ok(()) => Ok(first),
@@ -150,11 +173,13 @@ pub(crate) fn store<S: Storage>(
     caches: &mut MetadataCaches<S>,
     space: &mut Space,
     content: &[u8],
+    begun: &mut bool,
 ) -> Result<HostCluster, Fault>
     requires rest { AreEmpty caches.old }
     requires room { HasEntries caches.old }
     requires whole { length content.now ≡ cluster_size file.old.header.fields }
-    ensures { Stores S.state content.now (lent file.old caches.old space.old) result (lent file.new caches.new space.new) }
+    ensures stores { Stores S.state content.now (lent file.old caches.old space.old) result (lent file.new caches.new space.new) }
+    ensures spares { Spares S.state begun.old (lent file.old caches.old space.old) result begun.new (lent file.new caches.new space.new) }
 {
-    store_run(alloc, file, caches, space, content, ClusterCount(1))
+    store_run(alloc, file, caches, space, content, ClusterCount(1), begun)
 }

@@ -3,7 +3,7 @@ use Rattle.std.proofs.Common.{◌≡◌, ◌≢◌, ℕ, ◌+◌, ◌-◌, ◌*�
 use Rattle.std.proofs.Math.Nat.{le-max_left, le-max_right}
 use Rattle.std.proofs.lemmas.Bool.{cases_eq, cases_lt, le-ltb, ne_eqb}
 use Rattle.std.proofs.lemmas.Nat.{pow_pos}
-use Rattle.std.specs.Prelude.{⊤, ◌⊎◌, IsTrue, IsSome, IfSome, is_some, IfOk, IfErr, OnOk, max, min, slice_index, ◌==◌, if◌then◌else◌}
+use Rattle.std.specs.Prelude.{⊤, ◌⊎◌, IsSome, IfSome, is_some, IfOk, IfErr, OnOk, max, min, slice_index, ◌==◌, if◌then◌else◌}
 use Rattle.imago_storage.specs.State.{Rose, StorageState}
 use Rattle.imago_storage.specs.Calls.{Cause}
 use Rattle.imago_storage.specs.Disk.{Value}
@@ -42,6 +42,7 @@ use Rattle.qcow2_clusters.specs.Room as room
 use Rattle.qcow2_clusters.specs.Storing.{AreReserved, ReachesEnd, Rests, StoresRun, handed_by, held_by, run_handed_by}
 use Rattle.qcow2_clusters.specs.Storing as clusters
 use Rattle.qcow2_clusters.specs.declared.space.Space.{Space}
+use Rattle.qcow2_image.proofs.Beginning.{still-cut, whole-cut}
 use Rattle.qcow2_image.specs.Allocating.{EnsuresTable, EnsuresWord, FillsContent, FreesPending, HasKept, KeepsTop, LoadsSpace, PlacesContent, StoresContent, StoresMost, WhyNotAllocated, WhyNotFilled, WhyNotFreed, failed_cut, full_by, placed_by, waits_in}
 use Rattle.qcow2_image.specs.Holding.{AreOwnAs, Holding, IsOwnAs}
 use Rattle.qcow2_image.specs.KeepsDisk.{KeepsDisk, KeepsDiskWhere}
@@ -156,19 +157,6 @@ loaded g old new space none there mode number unspent failed l1 caches header lo
   faults = failed;
 }
 
--- Want of memory and a storage's fault mark an image in a change, and nothing takes a mark away.
-still-cut : {T : Type 0} (r : Result T Fault) (f : Bool) → IsTrue f → IsTrue (failed_cut r f)
-still-cut (Ok v) f was = was
-still-cut (Err Memory) f was = refl
-still-cut (Err Storage) f was = refl
-still-cut (Err fault) f was = was
-
-whole-cut : {T : Type 0} (r : Result T Fault) (f : Bool) → WasNotCutOff r → failed_cut r f ≡ f
-whole-cut (Ok v) f whole = refl
-whole-cut (Err Memory) f whole = absurd whole
-whole-cut (Err Storage) f whole = absurd whole
-whole-cut (Err fault) f whole = refl
-
 progresses-as : (ok ok' : Type 0) (kind : Kind) (s s' : StorageState) (m m' : Metadata) → (ok' → ok) → Progresses ok kind s m s' m' → Progresses ok' kind s m s' m'
 progresses-as ok ok' kind s s' m m' from p = record {
   shape = p.shape;
@@ -217,11 +205,11 @@ table-none f h top of guest none = place-in-file f h top of (guest / words_of_cl
   ]
 
 -- A call of changes has left an image at rest again.
-module _ {S T : Type 0} (g : Ghosts S) (old : Qcow2 S g) (mid : Tables S g) (space space' : Space) (caches : MetadataCaches S)
+module _ {S T : Type 0} (g : Ghosts S) (old : Qcow2 S g) (begun : Bool) (mid : Tables S g) (space space' : Space) (caches : MetadataCaches S)
     (result : Result T Fault) (there : old.tables.space ≡ Some space) (there' : mid.space ≡ Some space')
     (rests : Rests g.state (lent old.tables.file caches space) result (lent mid.file mid.caches space')) where
   abbrev pub now : Qcow2 S g
-  now = record old { tables = mid; failed = failed_cut result old.failed }
+  now = record old { tables = mid; failed = failed_cut result begun old.failed }
 
   pub ready : IsSafe g old → IsReady g.state (lent old.tables.file caches space)
   ready safe = record { keeps = safe.keeps; sound = safe-sound g old space there safe }
@@ -249,8 +237,8 @@ module _ {S T : Type 0} (g : Ghosts S) (old : Qcow2 S g) (mid : Tables S g) (spa
     shape = rests.shape;
     later = rests.later;
     header = header-counts old.tables.file.header mid.file.header rests.header;
-    failed = still-cut result old.failed;
-    whole = whole-cut result old.failed;
+    failed = still-cut result begun old.failed;
+    whole = whole-cut result begun old.failed;
     faults = λ whole. rests.faults (whole-below result whole);
     empty = rests.empty;
     l1 = l1;
@@ -299,16 +287,16 @@ if-err (Ok v) P Q each holds = tt
 if-err (Err e) P Q each holds = each e holds
 
 -- Bytes were stored.
-module _ {S : Type 0} (g : Ghosts S) (old : Qcow2 S g) (mid : Tables S g) (space space' : Space) (caches : MetadataCaches S) (n : ℕ)
+module _ {S : Type 0} (g : Ghosts S) (old : Qcow2 S g) (begun : Bool) (mid : Tables S g) (space space' : Space) (caches : MetadataCaches S) (n : ℕ)
     (bytes : List ℕ) (result : Result ℕ Fault) (there : old.tables.space ≡ Some space) (there' : mid.space ≡ Some space') (l1 : mid.l1 ≡ old.tables.l1)
     (free : old.unspent ≡ None) (some : 0 < n)
     (stores : StoresRun g.state n bytes (lent old.tables.file caches space) result (lent mid.file mid.caches space'))
     (reaches : IfOk result (λ x. ReachesEnd g.state x n old.tables.file mid.file)) where
   abbrev stored_now : Qcow2 S g
-  stored_now = record old { tables = mid; failed = failed_cut result old.failed }
+  stored_now = record old { tables = mid; failed = failed_cut result begun old.failed }
 
   l1-stored : IsSafe g old → WasNotCutOff result → IsL1Of (file_of g mid) mid.file.header.fields old.tables.l1
-  l1-stored safe whole = stores.l1 (ready g old mid space space' caches result there there' stores.rests safe) (whole-below result whole) old.tables.l1 safe.seen.l1
+  l1-stored safe whole = stores.l1 (ready g old begun mid space space' caches result there there' stores.rests safe) (whole-below result whole) old.tables.l1 safe.seen.l1
 
   reserved-now : (r : Result ℕ Fault) → IfOk r (AreReserved n (rest_of g mid space')) → space'.to_free.held ≡ held_by r space.to_free.held
       → IfOk r (λ x. (s : Space) × (mid.space ≡ Some s) × AreReserved n (rest_of g mid s) x × (0 < s.to_free.held))
@@ -317,13 +305,12 @@ module _ {S : Type 0} (g : Ghosts S) (old : Qcow2 S g) (mid : Tables S g) (space
 
   pub stored : StoresContent g n bytes old result stored_now
   stored = record {
-    keeps = advanced g old mid space space' caches result there there' stores.rests (run_handed_by n result) (λ c. 0)
+    keeps = advanced g old begun mid space space' caches result there there' stores.rests (run_handed_by n result) (λ c. 0)
         (none-spared g old (Spares g (WasNotCutOff result) (handing (run_handed_by n result) (λ c. 0)) old stored_now space space') free)
         (λ safe whole. subst (IsL1Of (file_of g mid) mid.file.header.fields) (sym l1) (l1-stored safe whole))
         (λ safe. stores.marked) (λ safe. stores.progress);
-    leaks = leaks-by g old mid space space' caches result there there' stores.rests (handing (run_handed_by n result) (λ c. 0)) (run_handed_by n result)
+    leaks = leaks-by g old begun mid space space' caches result there there' stores.rests (handing (run_handed_by n result) (λ c. 0)) (run_handed_by n result)
         (λ c. omega arith) stores.progress;
-    marks = refl;
     top = record {
       l1 = l1;
       entries = ap (λ (K : Header). K.fields.l1_entries) stores.rests.header.2;
@@ -331,15 +318,15 @@ module _ {S : Type 0} (g : Ghosts S) (old : Qcow2 S g) (mid : Tables S g) (space
           known.0.seen.l1 (l1-stored known.0 known.1);
     };
     named = stores.named;
-    reserved = λ safe. reserved-now result (stores.reserved (ready g old mid space space' caches result there there' stores.rests safe)) stores.held;
+    reserved = λ safe. reserved-now result (stores.reserved (ready g old begun mid space space' caches result there there' stores.rests safe)) stores.held;
     reaches = reaches;
-    content = λ safe. stores.stored (ready g old mid space space' caches result there there' stores.rests safe);
+    content = λ safe. stores.stored (ready g old begun mid space space' caches result there there' stores.rests safe);
     cause = if-err result _ (WhyNotAllocated g (LacksFreeRun g n (enough_for_run old.tables n) old.tables mid) old stored_now) (λ e.
         allocated-why g old stored_now (IsReady g.state (lent old.tables.file caches space))
         (room.IsFull n (rest_of g old.tables space) (mark_of space.allocator) (rest_of g mid space') (mark_of space'.allocator))
         (LacksFreeRun g n (enough_for_run old.tables n) old.tables mid)
         (g.state old.tables.file.image).faults (g.state mid.file.image).faults e
-        (ready g old mid space space' caches result there there' stores.rests) refl refl
+        (ready g old begun mid space space' caches result there there' stores.rests) refl refl
         (λ number safe full. full-in-run g old.tables mid space space' there there' safe.searched n number some full)) stores.cause;
   }
 
@@ -350,7 +337,6 @@ module _ {S : Type 0} (g : Ghosts S) (n : ℕ) (bytes : List ℕ) (old : Qcow2 S
   most-stored new host s = record {
     keeps = s.keeps;
     leaks = s.leaks;
-    marks = s.marks;
     top = s.top;
     unkept = refl;
     many = (some, omega arith);
@@ -378,7 +364,6 @@ module _ {S : Type 0} (g : Ghosts S) (n : ℕ) (bytes : List ℕ) (old : Qcow2 S
   most-unstored new e is s = record {
     keeps = s.keeps;
     leaks = s.leaks;
-    marks = s.marks;
     top = s.top;
     unkept = tt;
     many = tt;
@@ -404,7 +389,6 @@ module _ {S : Type 0} (g : Ghosts S) (n : ℕ) (bytes : List ℕ) (old : Qcow2 S
       keeps = keeps-disk-both g ⊤ ⊤ old mid new tt full.keeps s.keeps;
       leaks = λ safe whole. leaks-then g (run_handed_by 1 (Ok host)) old mid new (leaks-all g old mid (full.leaks safe tt))
           (s.leaks (full.keeps.safely safe tt) whole);
-      marks = s.marks ∙ full.marks;
       top = top-then ⊤ s.top;
       unkept = refl;
       many = (omega arith, omega (arith, some));
@@ -434,7 +418,6 @@ module _ {S : Type 0} (g : Ghosts S) (n : ℕ) (bytes : List ℕ) (old : Qcow2 S
     most-neither e s = record {
       keeps = keeps-disk-both g ⊤ (WasNotCutOff {T = ℕ} (Err e)) old mid new tt full.keeps s.keeps;
       leaks = λ safe whole. leaks-then g (λ c. 0) old mid new (leaks-all g old mid (full.leaks safe tt)) (s.leaks (full.keeps.safely safe tt) whole);
-      marks = s.marks ∙ ap (failed_cut {T = ℕ} (Err e)) full.marks;
       top = top-then (WasNotCutOff {T = ℕ} (Err e)) s.top;
       unkept = tt;
       many = tt;
@@ -462,13 +445,13 @@ module _ {S : Type 0} (g : Ghosts S) (n : ℕ) (bytes : List ℕ) (old : Qcow2 S
   most-done new (Err e) is s = most-unstored new e (inr is) s
 
 -- Bytes were written to the cluster that a guest cluster keeps for its zeroes.
-module _ {S : Type 0} (g : Ghosts S) (old : Qcow2 S g) (mid : Tables S g) (space : Space) (caches : MetadataCaches S) (guest host : ℕ)
+module _ {S : Type 0} (g : Ghosts S) (old : Qcow2 S g) (begun : Bool) (mid : Tables S g) (space : Space) (caches : MetadataCaches S) (guest host : ℕ)
     (bytes : List ℕ) (result : Result Unit Fault) (there : old.tables.space ≡ Some space) (there' : mid.space ≡ Some space)
     (l1 : mid.l1 ≡ old.tables.l1) (free : old.unspent ≡ None)
     (fills : Fills g.state guest host bytes (lent old.tables.file caches space) result (lent mid.file mid.caches space))
     (reaches : OnOk result (ReachesEnd g.state host 1 old.tables.file mid.file)) where
   abbrev filled_now : Qcow2 S g
-  filled_now = record old { tables = mid; failed = failed_cut result old.failed }
+  filled_now = record old { tables = mid; failed = failed_cut result begun old.failed }
 
   abbrev sure-kept : Type 0
   sure-kept = HasKept g guest (Some host) old
@@ -477,7 +460,7 @@ module _ {S : Type 0} (g : Ghosts S) (old : Qcow2 S g) (mid : Tables S g) (space
   kept-then known = kept-in g guest host old space known
 
   fill-ready : sure-kept → IsReady g.state (lent old.tables.file caches space)
-  fill-ready known = ready g old mid space space caches result there there' fills.rests known.safe
+  fill-ready known = ready g old begun mid space space caches result there there' fills.rests known.safe
 
   l1-filled : sure-kept → WasNotCutOff result → IsL1Of (file_of g mid) mid.file.header.fields old.tables.l1
   l1-filled known whole = fills.l1 (kept-then known) (fill-ready known) (whole-below result whole) old.tables.l1 known.safe.seen.l1
@@ -493,14 +476,13 @@ module _ {S : Type 0} (g : Ghosts S) (old : Qcow2 S g) (mid : Tables S g) (space
 
   pub filled : FillsContent g guest host bytes old result filled_now
   filled = record {
-    keeps = advanced-by g old mid space space caches result there there' fills.rests sure-kept (filling old.tables.file.header.fields host)
+    keeps = advanced-by g old begun mid space space caches result there there' fills.rests sure-kept (filling old.tables.file.header.fields host)
         (λ known. known.safe) (λ p v gave. gave) (λ guest is. is)
         (none-spared g old (Spares g (WasNotCutOff result) (filling old.tables.file.header.fields host) old filled_now space space) free)
         (λ known whole. subst (IsL1Of (file_of g mid) mid.file.header.fields) (sym l1) (l1-filled known whole))
         (λ known. fills.marked (kept-then known)) (λ known. fills.progress (kept-then known));
-    leaks = λ known whole. leaks-all g old filled_now (leaks-by g old mid space space caches result there there' fills.rests
+    leaks = λ known whole. leaks-all g old filled_now (leaks-by g old begun mid space space caches result there there' fills.rests
         (filling old.tables.file.header.fields host) (λ c. 0) (λ c. refl) (fills.progress (kept-then known)) known.safe whole);
-    marks = refl;
     top = record {
       l1 = l1;
       entries = ap (λ (K : Header). K.fields.l1_entries) fills.header;
@@ -535,7 +517,6 @@ module _ {S : Type 0} (g : Ghosts S) (guest : ℕ) (bytes : List ℕ) (old new :
   placed-kept host n some near f = record {
     keeps = f.keeps;
     leaks = λ known whole. leaks-but g old new (f.leaks known whole);
-    marks = f.marks;
     top = f.top;
     many = (omega arith, omega (arith, some));
     near = subst (IsInReach old.tables.file.header.fields.cluster_bits) (let same : host ≡ host + (1 - 1) = omega arith in same) near;
@@ -567,7 +548,6 @@ module _ {S : Type 0} (g : Ghosts S) (guest : ℕ) (bytes : List ℕ) (old new :
   unfilled host n e f = record {
     keeps = f.keeps;
     leaks = λ known whole. leaks-but g old new (f.leaks known whole);
-    marks = f.marks;
     top = f.top;
     many = tt;
     near = tt;
@@ -607,7 +587,6 @@ module _ {S : Type 0} (g : Ghosts S) (guest : ℕ) (bytes : List ℕ) (old new :
   placed-free n (Ok r) s = record {
     keeps = keeps-none ⊤ s.keeps;
     leaks = λ known whole. s.leaks known.safe whole;
-    marks = s.marks;
     top = top-none ⊤ s.top;
     many = s.many;
     near = s.named.1;
@@ -623,7 +602,6 @@ module _ {S : Type 0} (g : Ghosts S) (guest : ℕ) (bytes : List ℕ) (old new :
   placed-free n (Err e) s = record {
     keeps = keeps-none (WasNotCutOff {T = Placed} (Err e)) s.keeps;
     leaks = λ known whole. s.leaks known.safe whole;
-    marks = s.marks;
     top = top-none (WasNotCutOff {T = Placed} (Err e)) s.top;
     many = tt;
     near = tt;
@@ -665,7 +643,7 @@ module _ {S : Type 0} (g : Ghosts S) (old : Qcow2 S g) (space : Space) (caches :
   }
 
 -- A new table was named.
-module _ {S : Type 0} (g : Ghosts S) (old : Qcow2 S g) (mid : Tables S g) (space space' : Space) (caches : MetadataCaches S) (guest i : ℕ)
+module _ {S : Type 0} (g : Ghosts S) (old : Qcow2 S g) (begun : Bool) (mid : Tables S g) (space space' : Space) (caches : MetadataCaches S) (guest i : ℕ)
     (result : Result ℕ Fault) (asked : Type 0) (handed taken : ℕ → ℕ) (even : (c : ℕ) → handed c ≡ taken c + 0) (there : old.tables.space ≡ Some space)
     (there' : mid.space ≡ Some space') (free : old.unspent ≡ None)
     (index : i ≡ guest / words_of_cluster old.tables.file.header.fields) (inside : i < length old.tables.l1.words)
@@ -673,7 +651,7 @@ module _ {S : Type 0} (g : Ghosts S) (old : Qcow2 S g) (mid : Tables S g) (space
     (names : NamesNewTable g.state asked (handing handed taken) i (lent old.tables.file caches space) result mid.l1
     (lent mid.file mid.caches space')) where
   abbrev made_now : Qcow2 S g
-  made_now = record old { tables = mid; failed = failed_cut result old.failed }
+  made_now = record old { tables = mid; failed = failed_cut result begun old.failed }
 
   abbrev was : Fields
   was = old.tables.file.header.fields
@@ -682,7 +660,7 @@ module _ {S : Type 0} (g : Ghosts S) (old : Qcow2 S g) (mid : Tables S g) (space
   is = mid.file.header.fields
 
   is-ready : IsSafe g old → IsReady g.state (lent old.tables.file caches space)
-  is-ready = ready g old mid space space' caches result there there' names.rests
+  is-ready = ready g old begun mid space space' caches result there there' names.rests
 
   row-same : i ≡ guest / words_of_cluster is
   row-same = subst (λ (K : Header). i ≡ guest / words_of_cluster K.fields) (sym names.rests.header.2) index
@@ -737,14 +715,13 @@ module _ {S : Type 0} (g : Ghosts S) (old : Qcow2 S g) (mid : Tables S g) (space
 
   pub made : EnsuresTable g (enough_for_one old.tables) guest old result made_now
   made = record {
-    keeps = advanced g old mid space space' caches result there there' names.rests handed taken
+    keeps = advanced g old begun mid space space' caches result there there' names.rests handed taken
         (none-spared g old (Spares g (WasNotCutOff result) (handing handed taken) old made_now space space') free)
         (λ safe whole. l1-moved (file_of g mid) old.tables.file.header mid.file.header mid.l1 names.rests.header
         (names.l1 (is-ready safe) (as-asked safe) (whole-below result whole)))
         (λ safe. names.marked (as-asked safe)) (λ safe. names.progress (as-asked safe));
-    leaks = λ safe whole. leaks-all g old made_now (leaks-by g old mid space space' caches result there there' names.rests (handing handed taken) (λ c. 0)
+    leaks = λ safe whole. leaks-all g old made_now (leaks-by g old begun mid space space' caches result there there' names.rests (handing handed taken) (λ c. 0)
         even (names.progress (as-asked safe)) safe whole);
-    marks = refl;
     known = λ was. subst IsSome (sym there') refl;
     there = λ safe some. there-now safe result (names.there (is-ready safe) (as-asked safe));
     own = λ safe some. copied-now result (names.copied (is-ready safe) (as-asked safe));
@@ -761,7 +738,7 @@ module _ {S : Type 0} (g : Ghosts S) (old : Qcow2 S g) (mid : Tables S g) (space
   }
 
 -- It is a copy where there was a table, and else one in which nothing is mapped.
-module _ {S : Type 0} (g : Ghosts S) (old : Qcow2 S g) (mid : Tables S g) (space space' : Space) (caches : MetadataCaches S) (guest i : ℕ)
+module _ {S : Type 0} (g : Ghosts S) (old : Qcow2 S g) (begun : Bool) (mid : Tables S g) (space space' : Space) (caches : MetadataCaches S) (guest i : ℕ)
     (result : Result ℕ Fault) (there : old.tables.space ≡ Some space) (there' : mid.space ≡ Some space') (free : old.unspent ≡ None)
     (index : i ≡ guest / words_of_cluster old.tables.file.header.fields) (inside : i < length old.tables.l1.words) where
   abbrev before : Clusters S
@@ -783,15 +760,15 @@ module _ {S : Type 0} (g : Ghosts S) (old : Qcow2 S g) (mid : Tables S g) (space
       → is_copied (slice_index old.tables.l1.words (guest / words_of_cluster old.tables.file.header.fields)) ≡ false)
       → (is_some named ≡ true → CopiesTable g.state old.tables.l1 i before result mid.l1 after)
       → (is_some named ≡ false → MakesTable g.state old.tables.l1 i before result mid.l1 after)
-      → EnsuresTable g (enough_for_one old.tables) guest old result (record old { tables = mid; failed = failed_cut result old.failed })
+      → EnsuresTable g (enough_for_one old.tables) guest old result (record old { tables = mid; failed = failed_cut result begun old.failed })
   renewed None is shared copies makes =
-      made g old mid space space' caches guest i result (IsTableless g.state old.tables.l1 i before) (handed_by result) (handed_by result)
+      made g old begun mid space space' caches guest i result (IsTableless g.state old.tables.l1 i before) (handed_by result) (handed_by result)
       (λ c. omega arith)
       there there' free index inside
       (λ safe. inl (table-none (file_of g old.tables) old.tables.file.header.fields old.tables.l1 safe.seen.l1 guest is))
       (tableless g old space caches guest i index inside is) (makes refl).named
   renewed (Some table) is shared copies makes =
-      made g old mid space space' caches guest i result (HasTable g.state old.tables.l1 i before) taken_by taken_by (λ c. omega arith)
+      made g old begun mid space space' caches guest i result (HasTable g.state old.tables.l1 i before) taken_by taken_by (λ c. omega arith)
       there there' free index inside (lacks-shared (shared table refl))
       (has-table g old space caches guest i index inside table is) (copies refl).named
 
@@ -810,7 +787,6 @@ module _ {S : Type 0} (g : Ghosts S) (d : Qcow2 S g) (guest table : ℕ)
   table-there = record {
     keeps = keeps-disk-same g ⊤ d;
     leaks = λ safe whole c. refl;
-    marks = refl;
     known = λ some. some;
     there = λ safe some. over safe;
     own = λ safe some.
@@ -858,10 +834,10 @@ module _ {S : Type 0} (g : Ghosts S) (old : Qcow2 S g) (mid : Tables S g) (space
     (waits : waits_in old.tables.space ≡ true)
     (frees : FreesWaiting g.state (lent old.tables.file caches space) result (lent mid.file mid.caches space')) where
   abbrev freed_now : Qcow2 S g
-  freed_now = record old { tables = mid; failed = failed_cut result old.failed }
+  freed_now = record old { tables = mid; failed = failed_cut result true old.failed }
 
   freed-ready : IsSafe g old → IsReady g.state (lent old.tables.file caches space)
-  freed-ready = ready g old mid space space' caches result there there' frees.rests
+  freed-ready = ready g old true mid space space' caches result there there' frees.rests
 
   l1-freed : IsSafe g old → WasNotCutOff result → IsL1Of (file_of g mid) mid.file.header.fields old.tables.l1
   l1-freed safe whole = frees.l1 (freed-ready safe) (whole-below result whole) old.tables.l1 safe.seen.l1
@@ -878,11 +854,11 @@ module _ {S : Type 0} (g : Ghosts S) (old : Qcow2 S g) (mid : Tables S g) (space
 
   pub freed : FreesPending g old result freed_now
   freed = record {
-    keeps = advanced g old mid space space' caches result there there' frees.rests (λ c. 0) (λ c. 0)
+    keeps = advanced g old true mid space space' caches result there there' frees.rests (λ c. 0) (λ c. 0)
         (if-each (holding_in g old.unspent) (Spares g (WasNotCutOff result) (handing (λ c. 0) (λ c. 0)) old freed_now space space') spares-each)
         (λ safe whole. subst (IsL1Of (file_of g mid) mid.file.header.fields) (sym l1) (l1-freed safe whole))
         (λ safe. frees.marked) (λ safe. frees.progress);
-    leaks = λ safe whole. leaks-all g old freed_now (leaks-by g old mid space space' caches result there there' frees.rests
+    leaks = λ safe whole. leaks-all g old freed_now (leaks-by g old true mid space space' caches result there there' frees.rests
         (handing (λ c. 0) (λ c. 0)) (λ c. 0) (λ c. refl) frees.progress safe whole);
     marks = refl;
     no_shorter = frees.no_shorter;
@@ -893,11 +869,11 @@ module _ {S : Type 0} (g : Ghosts S) (old : Qcow2 S g) (mid : Tables S g) (space
   }
 
 -- The L1 table was lengthened.
-module _ {S : Type 0} (g : Ghosts S) (old : Qcow2 S g) (mid : Tables S g) (space space' : Space) (caches : MetadataCaches S) (i : ℕ)
+module _ {S : Type 0} (g : Ghosts S) (old : Qcow2 S g) (begun : Bool) (mid : Tables S g) (space space' : Space) (caches : MetadataCaches S) (i : ℕ)
     (there : old.tables.space ≡ Some space) (there' : mid.space ≡ Some space') (free : old.unspent ≡ None)
     (behind : length old.tables.l1.words ≤ i) where
   abbrev with_l1 : Result Unit Fault → Qcow2 S g
-  with_l1 result = record old { tables = mid; failed = failed_cut result old.failed }
+  with_l1 result = record old { tables = mid; failed = failed_cut result begun old.failed }
 
   abbrev Longer : Result Unit Fault → Type 0
   Longer result = LengthensL1 g.state old.tables.l1 i (lent old.tables.file caches space) result mid.l1 (lent mid.file mid.caches space')
@@ -924,8 +900,8 @@ module _ {S : Type 0} (g : Ghosts S) (old : Qcow2 S g) (mid : Tables S g) (space
     shape = longer.shape;
     later = longer.later;
     header = longer.header;
-    failed = still-cut result old.failed;
-    whole = whole-cut result old.failed;
+    failed = still-cut result begun old.failed;
+    whole = whole-cut result begun old.failed;
     faults = λ whole. longer.faults (whole-below result whole);
     empty = longer.empty;
     l1 = λ safe whole. longer.l1 (longer-ready safe) safe.seen.l1 (whole-below result whole);
@@ -973,7 +949,6 @@ module _ {S : Type 0} (g : Ghosts S) (old : Qcow2 S g) (mid : Tables S g) (space
   lengthened (Ok done) longer = record {
     keeps = longer-keeps (Ok done) both_tables both_tables longer (λ safe. longer.progress safe.seen.l1);
     leaks = λ safe. longer-leaks (Ok done) both_tables (longer.progress safe.seen.l1) safe;
-    marks = refl;
     known = λ was. subst IsSome (sym there') refl;
     inside = word-there old.tables.l1.words longer.words;
     words = longer.words;
@@ -984,7 +959,6 @@ module _ {S : Type 0} (g : Ghosts S) (old : Qcow2 S g) (mid : Tables S g) (space
   lengthened (Err fault) longer = record {
     keeps = longer-keeps (Err fault) (λ _. 0) (λ _. 0) longer (λ safe. longer.progress safe.seen.l1);
     leaks = λ safe. longer-leaks (Err fault) (λ _. 0) (longer.progress safe.seen.l1) safe;
-    marks = refl;
     known = λ was. subst IsSome (sym there') refl;
     inside = tt;
     words = tt;
@@ -1067,7 +1041,6 @@ module _ {S : Type 0} (g : Ghosts S) (guest i : ℕ) (old mid new : Qcow2 S g) (
   table-behind-word result table = record {
     keeps = keeps-disk-both g ⊤ (WasNotCutOff result) old mid new tt word.keeps table.keeps;
     leaks = λ safe whole. leaks-both g old mid new (word.leaks safe tt) (table.leaks (word.keeps.safely safe tt) whole);
-    marks = table.marks ∙ ap (failed_cut result) word.marks;
     known = λ some. table.known (word.known some);
     there = λ safe some. table.there (word.keeps.safely safe tt) (word.known some);
     own = λ safe some. table.own (word.keeps.safely safe tt) (word.known some);
@@ -1090,11 +1063,6 @@ module _ {S : Type 0} (g : Ghosts S) (guest i : ℕ) (old mid new : Qcow2 S g) (
 -- None is where there is no word for it.
 module _ {S : Type 0} (g : Ghosts S) (guest i : ℕ) (old new : Qcow2 S g) (index : i ≡ guest / words_of_cluster old.tables.file.header.fields)
     (e : Fault) (word : EnsuresWord g i old (Err e) new) where
-  cut-same : (f : Fault) (failed : Bool) → failed_cut {T = Unit} (Err f) failed ≡ failed_cut {T = ℕ} (Err f) failed
-  cut-same Memory failed = refl
-  cut-same Storage failed = refl
-  cut-same f failed = refl
-
   more-needed : (number : ℕ) → HasNoPlace g (IsForWord g i old.tables) i (enough_for_word old.tables i) old.tables new.tables number
       → HasNoPlace g (IsForTable g guest old.tables) (guest / words_of_cluster old.tables.file.header.fields)
       (enough_for_table old.tables guest) old.tables new.tables number
@@ -1119,7 +1087,6 @@ module _ {S : Type 0} (g : Ghosts S) (guest i : ℕ) (old new : Qcow2 S g) (inde
   table-wordless = record {
     keeps = word.keeps;
     leaks = word.leaks;
-    marks = word.marks ∙ cut-same e old.failed;
     known = word.known;
     there = λ safe some. tt;
     own = λ safe some. tt;

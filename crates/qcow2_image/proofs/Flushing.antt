@@ -54,7 +54,7 @@ module _ {S : Type 0} (g : Ghosts S) (old new : Qcow2 S g) (s' : StorageState) (
       kept-disk g ok old new (subst (Kept (g.state old.tables.file.image)) (sym state) kept) (subst (Later (g.state old.tables.file.image)) (sym state) later)
       header mode number unspent (λ was. marked) (λ w. absurd (never w)) (λ w. absurd (never w)) (λ safe w. absurd (never w))
 
-  pub requested : (answer : Result Unit Fault) → CountsFaults (g.state old.tables.file.image).faults s'.faults answer → new.failed ≡ failed_cut answer old.failed
+  pub requested : (answer : Result Unit Fault) → CountsFaults (g.state old.tables.file.image).faults s'.faults answer → new.failed ≡ failed_cut answer true old.failed
       → KeepsDisk g (WasNotCutOff answer) old new
   requested (Ok done) counts failed =
       keeps-image-disk {T = Unit} g old new (Ok tt)
@@ -66,12 +66,12 @@ module _ {S : Type 0} (g : Ghosts S) (old new : Qcow2 S g) (s' : StorageState) (
 -- What waited was freed, and the file was flushed.
 pub flushes-freed : {S : Type 0} (g : Ghosts S) (old mid new : Qcow2 S g) (result : Result Unit Fault) → FreesPending g old (Ok tt) mid
     → KeepsDisk g (WasNotCutOff result) mid new → KeepsLeaks g mid new → CountsFaults (g.state mid.tables.file.image).faults (g.state new.tables.file.image).faults result
-    → new.failed ≡ failed_cut result mid.failed → new.tables.space ≡ mid.tables.space
+    → new.failed ≡ failed_cut result true mid.failed → new.tables.space ≡ mid.tables.space
     → IsNoShorter (g.state mid.tables.file.image) (g.state new.tables.file.image) → FlushesFreed g old result new
 flushes-freed g old mid new result freed k leaks counts failed space long = record {
   keeps = keeps-disk-both g ⊤ (WasNotCutOff result) old mid new tt freed.keeps k;
   leaks = λ safe whole. leaks-both g old mid new (freed.leaks safe tt) leaks;
-  marks = failed ∙ ap (failed_cut result) freed.marks;
+  marks = failed ∙ ap (failed_cut result true) freed.marks;
   no_shorter = let first = freed.no_shorter in omega (arith, first, long);
   emptied = on-ok result _ (ap waits_in space ∙ freed.emptied);
   cause = from result counts;
@@ -141,7 +141,7 @@ module _ (R : RattleType) (st : Ghosts R.Denot) (sd : mir.Syntax.Dict) (dd : mir
 
   pub freed-marks : IfErr result (Marks driver old new)
   freed-marks = from result freed.marks where
-    from : (r : Result Unit Fault) → new.failed ≡ failed_cut r old.failed → IfErr r (Marks driver old new)
+    from : (r : Result Unit Fault) → new.failed ≡ failed_cut r true old.failed → IfErr r (Marks driver old new)
     from (Ok done) marked = tt
     from (Err Memory) marked = λ yes. inl marked
     from (Err Storage) marked = λ yes. marked

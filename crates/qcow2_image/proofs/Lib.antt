@@ -19,6 +19,7 @@ pub mod Rewriting
 pub mod Noted
 pub mod Mapped
 pub mod Marked
+pub mod Beginning
 pub mod Written
 pub mod KeepingDisks
 pub mod Leaks

@@ -32,11 +32,18 @@ use Rattle.qcow2_image.specs.declared.qcow2.Qcow2.{Qcow2}
 use Rattle.qcow2_image.specs.declared.tables.Tables.{Tables}
 use Rattle.qcow2_clusters.specs.declared.space.Space.{Space}
 
--- whether an image has failed behind a change: want of memory marks it too, as it may have left a part
-abbrev pub failed_cut : {T : Type 0} → Result T Fault → Bool → Bool
-failed_cut (Err Memory) failed = true
-failed_cut (Err Storage) failed = true
-failed_cut result failed = failed
+-- Whether an image has failed behind a change: once that has begun, want of memory marks it too, as it may have left a part.
+abbrev pub failed_cut : {T : Type 0} → Result T Fault → (begun : Bool) → Bool → Bool
+failed_cut (Err Memory) true failed = true
+failed_cut (Err Storage) begun failed = true
+failed_cut result begun failed = failed
+
+-- As long as neither a call nor what came before it has begun to change anything, as a flag tells that is set then, the image is kept, and
+-- only a storage's fault marks it. Once one has, want of memory does, too.
+pub record Begins {S T : Type 0} (g : Ghosts S) (was : Bool) (old : Qcow2 S g) (result : Result T Fault) (now : Bool) (new : Qcow2 S g)
+    : Type 0 where
+  pub spared : now ≡ false → (was ≡ false) × KeepsImage g old result new
+  pub marked : now ≡ true → new.failed ≡ failed_cut result true old.failed
 
 -- what shows through a guest cluster that nothing maps, of an image over some layers or none
 abbrev pub shown_blank : Bool → Shown
@@ -142,7 +149,6 @@ HasOwnTable g guest t = let h = t.file.header.fields in
 pub record EnsuresWord {S : Type 0} (g : Ghosts S) (i : ℕ) (old : Qcow2 S g) (result : Result Unit Fault) (new : Qcow2 S g) : Type 0 where
   pub keeps : KeepsDisk g (WasNotCutOff result) old new
   pub leaks : IsSafe g old → WasNotCutOff result → KeepsLeaks g old new
-  pub marks : new.failed ≡ failed_cut result old.failed
   pub known : IsSome old.tables.space → IsSome new.tables.space
   pub inside : OnOk result (i < length new.tables.l1.words)
   pub words : OnOk result (new.tables.l1.words ≡ padded old.tables.l1.words (max (length old.tables.l1.words) (i + 1)))
@@ -156,7 +162,6 @@ pub record EnsuresTable {S : Type 0} (g : Ghosts S) (enough guest : ℕ) (old : 
     : Type 0 where
   pub keeps : KeepsDisk g (WasNotCutOff result) old new
   pub leaks : IsSafe g old → WasNotCutOff result → KeepsLeaks g old new
-  pub marks : new.failed ≡ failed_cut result old.failed
   pub known : IsSome old.tables.space → IsSome new.tables.space
   pub there : IsSafe g old → IsSome old.tables.space → let h = new.tables.file.header.fields in
       IfOk result (λ t. (t ≢ 0) × (guest / words_of_cluster h < h.l1_entries)
@@ -181,7 +186,6 @@ pub record StoresContent {S : Type 0} (g : Ghosts S) (n : ℕ) (bytes : List ℕ
     : Type 0 where
   pub keeps : KeepsDisk g (WasNotCutOff result) old new
   pub leaks : IsSafe g old → WasNotCutOff result → KeepsLeaksBut g (run_handed_by n result) old new
-  pub marks : new.failed ≡ failed_cut result old.failed
   pub top : KeepsTop g (IsSafe g old × WasNotCutOff result) old new
   pub named : IfOk result (λ x. (x ≢ 0) × IsInReach old.tables.file.header.fields.cluster_bits (x + (n - 1)))
   pub reserved : IsSafe g old → IfOk result (λ x. (space : Space) × (new.tables.space ≡ Some space)
@@ -206,7 +210,6 @@ pub record StoresMost {S : Type 0} (g : Ghosts S) (n : ℕ) (bytes : List ℕ) (
     (new : Qcow2 S g) : Type 0 where
   pub keeps : KeepsDisk g (WasNotCutOff result) old new
   pub leaks : IsSafe g old → WasNotCutOff result → KeepsLeaksBut g (reserved_by result) old new
-  pub marks : new.failed ≡ failed_cut result old.failed
   pub top : KeepsTop g (IsSafe g old × WasNotCutOff result) old new
   pub unkept : IfOk result (λ r. r.is_kept ≡ false)
   pub many : IfOk result (λ r. (0 < r.count) × (r.count ≤ n))
@@ -230,7 +233,6 @@ pub record FillsContent {S : Type 0} (g : Ghosts S) (guest host : ℕ) (bytes : 
     (new : Qcow2 S g) : Type 0 where
   pub keeps : KeepsDiskWhere g (HasKept g guest (Some host) old) (WasNotCutOff result) old new
   pub leaks : HasKept g guest (Some host) old → WasNotCutOff result → KeepsLeaks g old new
-  pub marks : new.failed ≡ failed_cut result old.failed
   pub top : KeepsTop g (HasKept g guest (Some host) old × WasNotCutOff result) old new
   pub space : new.tables.space ≡ old.tables.space
   pub known : OnOk result (IsSome new.tables.space)
@@ -245,7 +247,6 @@ pub record PlacesContent {S : Type 0} (g : Ghosts S) (guest : ℕ) (kept : Optio
     (result : Result Placed Fault) (new : Qcow2 S g) : Type 0 where
   pub keeps : KeepsDiskWhere g (HasKept g guest kept old) (WasNotCutOff result) old new
   pub leaks : HasKept g guest kept old → WasNotCutOff result → KeepsLeaksBut g (reserved_by result) old new
-  pub marks : new.failed ≡ failed_cut result old.failed
   pub top : KeepsTop g (HasKept g guest kept old × WasNotCutOff result) old new
   pub many : IfOk result (λ r. (0 < r.count) × (r.count ≤ n))
   pub near : IfOk result (λ r. IsInReach old.tables.file.header.fields.cluster_bits (r.host + (r.count - 1)))
@@ -276,7 +277,7 @@ waits_in (Some space) = not (length space.to_free.entries == 0)
 pub record FreesPending {S : Type 0} (g : Ghosts S) (old : Qcow2 S g) (result : Result Unit Fault) (new : Qcow2 S g) : Type 0 where
   pub keeps : KeepsDisk g (WasNotCutOff result) old new
   pub leaks : IsSafe g old → WasNotCutOff result → KeepsLeaks g old new
-  pub marks : new.failed ≡ failed_cut result old.failed
+  pub marks : new.failed ≡ failed_cut result true old.failed
   pub no_shorter : IsNoShorter (g.state old.tables.file.image) (g.state new.tables.file.image)
   pub idle : IsUntouched g old → (result ≡ Ok tt) × (new ≡ old)
   pub emptied : OnOk result (waits_in new.tables.space ≡ false)
@@ -286,7 +287,7 @@ pub record FreesPending {S : Type 0} (g : Ghosts S) (old : Qcow2 S g) (result : 
 pub record FlushesFreed {S : Type 0} (g : Ghosts S) (old : Qcow2 S g) (result : Result Unit Fault) (new : Qcow2 S g) : Type 0 where
   pub keeps : KeepsDisk g (WasNotCutOff result) old new
   pub leaks : IsSafe g old → WasNotCutOff result → KeepsLeaks g old new
-  pub marks : new.failed ≡ failed_cut result old.failed
+  pub marks : new.failed ≡ failed_cut result true old.failed
   pub no_shorter : IsNoShorter (g.state old.tables.file.image) (g.state new.tables.file.image)
   pub emptied : OnOk result (waits_in new.tables.space ≡ false)
   pub cause : IfErr result (WhyNotFreed g old new)

@@ -1,13 +1,15 @@
 // Clusters are allocated for guest clusters that have none of their own.
 ghost use Rattle.std.specs.Prelude.{◌≡◌, ◌<◌, ◌+◌, ◌*◌, ◌/◌, ◌^◌, ℕ, false, None, Some, length, IfSome, IsTrue};
 ghost use Rattle.qcow2_types.specs.Header.{cluster_size};
-ghost use Rattle.qcow2_image.specs.Allocating.{EnsuresTable, EnsuresWord, FillsContent, FlushesFreed, FreesPending, IsShownInReach, LoadsSpace, PlacesContent, StoresContent, StoresMost, TellsKept, TellsShown, failed_cut, full_by, kept_by, placed_by, shown_of, waits_in};
+ghost use Rattle.qcow2_image.specs.Allocating.{Begins, EnsuresTable, EnsuresWord, FillsContent, FlushesFreed, FreesPending, IsShownInReach, LoadsSpace, PlacesContent, StoresContent, StoresMost, TellsKept, TellsShown, failed_cut, full_by, kept_by, placed_by, shown_of, waits_in};
 ghost use Rattle.qcow2_image.specs.FreeSpace.{enough_for_one, enough_for_table};
 ghost use Rattle.qcow2_metadata.specs.Places.{IsInReach};
 ghost use Rattle.qcow2_types.specs.Places.{l2_entries};
 ghost use Rattle.qcow2_metadata.specs.MappingView.{IsNamed, mapping_seen};
 ghost use Rattle.qcow2_clusters.specs.MakingTables.{CopiesTable, MakesTable};
 ghost use Rattle.qcow2_clusters.specs.Rest.{AreEmpty, HasEntries, lent};
+ghost use Rattle.qcow2_clusters.specs.Sparing.{SparesTop};
+ghost use Rattle.qcow2_clusters.specs.Storing.{Rests};
 
 use crate::lookup::{l2_cluster, look_up};
 use crate::qcow2::Qcow2;
@@ -92,6 +94,7 @@ fn new_table<S: Storage>(
     l1: &mut L1Table,
     index: usize,
     is_copy: bool,
+    begun: &mut bool,
 ) -> Result<HostCluster, Fault>
     requires rest { AreEmpty caches.old }
     requires room { HasEntries caches.old }
@@ -100,22 +103,28 @@ fn new_table<S: Storage>(
         (lent file.new caches.new space.new) }
     ensures makes { is_copy ≡ false → MakesTable S.state l1.old index (lent file.old caches.old space.old) result l1.new
         (lent file.new caches.new space.new) }
+    ensures rests { Rests S.state (lent file.old caches.old space.old) result (lent file.new caches.new space.new) }
+    ensures spares { SparesTop S.state begun.old l1.old (lent file.old caches.old space.old) result begun.new l1.new
+        (lent file.new caches.new space.new) }
 {
     if is_copy {
-        copy_table(alloc, file, caches, space, l1, index)
+        copy_table(alloc, file, caches, space, l1, index, begun)
     } else {
-        make_table(alloc, file, caches, space, l1, index)
+        make_table(alloc, file, caches, space, l1, index, begun)
     }
 }
 
 impl<S: Storage> Qcow2<S> {
-    // Answers what a change did that may have left a part, and marks the image as failed where that was cut off.
-    fn settle_change<T>(&mut self, answer: Result<T, Fault>) -> Result<T, Fault>
+    // Answers what a change did, and marks the image as failed behind a storage's fault, and behind want of memory where the change had
+    // begun: it may have left a part then.
+    fn settle_change<T>(&mut self, answer: Result<T, Fault>, begun: bool) -> Result<T, Fault>
         ensures same { result ≡ answer }
-        ensures marks { self.new ≡ record self.old { failed = failed_cut answer self.old.failed } }
+        ensures marks { self.new ≡ record self.old { failed = failed_cut answer begun self.old.failed } }
     {
-        if matches!(answer, Err(Fault::Memory) | Err(Fault::Storage)) {
-            self.failed = true;
+        match answer {
+            Err(Fault::Storage) => self.failed = true,
+            Err(Fault::Memory) if begun => self.failed = true,
+            _ => {}
         }
         answer
     }
@@ -172,9 +181,10 @@ impl<S: Storage> Qcow2<S> {
     }
 
     // The L1 table has a word at this index then: where it is too short a longer one takes its place.
-    fn ensure_word(&mut self, alloc: Global, index: usize) -> Result<(), Fault>
+    fn ensure_word(&mut self, alloc: Global, index: usize, begun: &mut bool) -> Result<(), Fault>
         requires free { self.old.unspent ≡ None }
-        ensures { EnsuresWord S.Storage index self.old result self.new }
+        ensures word { EnsuresWord S.Storage index self.old result self.new }
+        ensures begins { Begins S.Storage begun.old self.old result begun.new self.new }
     {
         if index < self.tables.l1.entries() {
             return Ok(());
@@ -190,16 +200,23 @@ impl<S: Storage> Qcow2<S> {
             space,
             &mut self.tables.l1,
             index,
+            begun,
         );
-        self.settle_change(longer)
+        self.settle_change(longer, *begun)
     }
 
     // The cluster of the L2 table over a guest cluster for which the L1 table has a word. The table's words may be changed then: one is
     // made where there is none, and one that may be shared, as its L1 word lacks the copied mark, is replaced by a copy.
-    fn own_table(&mut self, alloc: Global, guest: GuestCluster) -> Result<HostCluster, Fault>
+    fn own_table(
+        &mut self,
+        alloc: Global,
+        guest: GuestCluster,
+        begun: &mut bool,
+    ) -> Result<HostCluster, Fault>
         requires free { self.old.unspent ≡ None }
         requires inside { guest / l2_entries self.old.tables.file.header.fields.cluster_bits < length self.old.tables.l1.words }
-        ensures { EnsuresTable S.Storage (enough_for_one self.old.tables) guest self.old result self.new }
+        ensures table { EnsuresTable S.Storage (enough_for_one self.old.tables) guest self.old result self.new }
+        ensures begins { Begins S.Storage begun.old self.old result begun.new self.new }
     {
         let cluster_bits = self.tables.file.header.cluster_bits();
         let index = guest.l1_index(cluster_bits);
@@ -222,8 +239,9 @@ impl<S: Storage> Qcow2<S> {
             &mut self.tables.l1,
             index,
             is_copy,
+            begun,
         );
-        self.settle_change(made)
+        self.settle_change(made, *begun)
     }
 
     // The cluster of the L2 table over a guest cluster, whose words may be changed then. The L1 table is lengthened first where it has no
@@ -232,13 +250,15 @@ impl<S: Storage> Qcow2<S> {
         &mut self,
         alloc: Global,
         guest: GuestCluster,
+        begun: &mut bool,
     ) -> Result<HostCluster, Fault>
         requires free { self.old.unspent ≡ None }
-        ensures { EnsuresTable S.Storage (enough_for_table self.old.tables guest) guest self.old result self.new }
+        ensures table { EnsuresTable S.Storage (enough_for_table self.old.tables guest) guest self.old result self.new }
+        ensures begins { Begins S.Storage begun.old self.old result begun.new self.new }
     {
         let index = guest.l1_index(self.tables.file.header.cluster_bits());
-        self.ensure_word(alloc, index)?;
-        self.own_table(alloc, guest)
+        self.ensure_word(alloc, index, begun)?;
+        self.own_table(alloc, guest, begun)
     }
 
     // Stores the content of a guest cluster in the first of host clusters in a row that were free.
@@ -247,11 +267,13 @@ impl<S: Storage> Qcow2<S> {
         alloc: Global,
         content: &[u8],
         count: ClusterCount,
+        begun: &mut bool,
     ) -> Result<HostCluster, Fault>
         requires whole { length content.now ≡ cluster_size self.old.tables.file.header.fields }
         requires any { 0 < count }
         requires free { self.old.unspent ≡ None }
-        ensures { StoresContent S.Storage count content.now self.old result self.new }
+        ensures stores { StoresContent S.Storage count content.now self.old result self.new }
+        ensures begins { Begins S.Storage begun.old self.old result begun.new self.new }
     {
         let Some(space) = &mut self.tables.space else {
             return Err(Fault::DamagedTable);
@@ -264,8 +286,9 @@ impl<S: Storage> Qcow2<S> {
             space,
             content,
             count,
+            begun,
         );
-        self.settle_change(stored)
+        self.settle_change(stored, *begun)
     }
 
     // Writes the content of a guest cluster to the host cluster that it keeps for its zeroes.
@@ -274,18 +297,20 @@ impl<S: Storage> Qcow2<S> {
         alloc: Global,
         host: HostCluster,
         content: &[u8],
+        begun: &mut bool,
     ) -> Result<(), Fault>
         requires whole { length content.now ≡ cluster_size self.old.tables.file.header.fields }
         requires near { IsInReach self.old.tables.file.header.fields.cluster_bits host }
         requires free { self.old.unspent ≡ None }
-        ensures { (guest : ℕ) → FillsContent S.Storage guest host content.now self.old result self.new }
+        ensures fills { (guest : ℕ) → FillsContent S.Storage guest host content.now self.old result self.new }
+        ensures begins { Begins S.Storage begun.old self.old result begun.new self.new }
     {
         if self.tables.space.is_none() {
             return Err(Fault::DamagedTable);
         }
         let _dropped = drop_cached(&mut self.tables.caches);
-        let filled = fill(alloc, &mut self.tables.file, host, content);
-        self.settle_change(filled)
+        let filled = fill(alloc, &mut self.tables.file, host, content, begun);
+        self.settle_change(filled, *begun)
     }
 
     // Stores it in the first of so many, or in one alone where so many can't be had in a row.
@@ -294,18 +319,20 @@ impl<S: Storage> Qcow2<S> {
         alloc: Global,
         content: &[u8],
         count: ClusterCount,
+        begun: &mut bool,
     ) -> Result<Placed, Fault>
         requires whole { length content.now ≡ cluster_size self.old.tables.file.header.fields }
         requires any { 0 < count }
         requires free { self.old.unspent ≡ None }
-        ensures { StoresMost S.Storage count content.now self.old result self.new }
+        ensures stores { StoresMost S.Storage count content.now self.old result self.new }
+        ensures begins { Begins S.Storage begun.old self.old result begun.new self.new }
     {
-        let stored = self.store_content(alloc, content, count);
+        let stored = self.store_content(alloc, content, count, begun);
         if count.0 == 1 {
             return as_placed(stored, count);
         }
         if is_full(&stored) {
-            let one = self.store_content(alloc, content, ClusterCount(1));
+            let one = self.store_content(alloc, content, ClusterCount(1), begun);
             return as_placed(one, ClusterCount(1));
         }
         as_placed(stored, count)
@@ -319,23 +346,25 @@ impl<S: Storage> Qcow2<S> {
         kept: Option<HostCluster>,
         content: &[u8],
         count: ClusterCount,
+        begun: &mut bool,
     ) -> Result<Placed, Fault>
         requires whole { length content.now ≡ cluster_size self.old.tables.file.header.fields }
         requires near { IfSome kept (λ host. IsInReach self.old.tables.file.header.fields.cluster_bits host) }
         requires any { 0 < count }
         requires free { self.old.unspent ≡ None }
-        ensures { (guest : ℕ) → PlacesContent S.Storage guest kept count content.now self.old result self.new }
+        ensures places { (guest : ℕ) → PlacesContent S.Storage guest kept count content.now self.old result self.new }
+        ensures begins { Begins S.Storage begun.old self.old result begun.new self.new }
     {
         match kept {
             Some(host) => {
-                self.fill_content(alloc, host, content)?;
+                self.fill_content(alloc, host, content, begun)?;
                 Ok(Placed {
                     host,
                     count: ClusterCount(1),
                     is_kept: true,
                 })
             }
-            None => self.store_most(alloc, content, count),
+            None => self.store_most(alloc, content, count, begun),
         }
     }
 
@@ -361,7 +390,7 @@ impl<S: Storage> Qcow2<S> {
         };
         let _dropped = drop_cached(&mut self.tables.caches);
         let freed = free_waiting(&mut self.tables.file, &mut self.tables.caches, space);
-        self.settle_change(freed)
+        self.settle_change(freed, true)
     }
 
     // What waits to be freed is freed, and then the file is flushed. Whatever cuts that off marks the image as failed.
@@ -370,6 +399,6 @@ impl<S: Storage> Qcow2<S> {
     {
         self.free_pending()?;
         let answer = self.tables.file.image.flush();
-        self.settle_change(answer)
+        self.settle_change(answer, true)
     }
 }

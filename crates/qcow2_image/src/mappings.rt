@@ -98,9 +98,11 @@ impl<S: Storage> Qcow2<S> {
         requires free { self.old.unspent ≡ None }
         ensures { Reserves S.Storage guest kept count content.now self.old result self.new }
     {
+        // That the free space is known now is the first change, if it wasn't.
+        let mut begun = self.tables.space.is_none();
         self.load_space(alloc)?;
-        let table = self.ensure_table(alloc, guest)?;
-        let placed = self.place_content(alloc, kept, content, count)?;
+        let table = self.ensure_table(alloc, guest, &mut begun)?;
+        let placed = self.place_content(alloc, kept, content, count, &mut begun)?;
         Ok(Reserved {
             table,
             host: placed.host,

@@ -57,8 +57,8 @@ impl PreparedMappingState {
 /// A qcow2 image: each place of the disk is what the tables of its file say of it.
 ///
 /// Its one storage, the image file, has the number 0. In a call of the disk, a fault of that storage marks it as failed, and so do a
-/// refused commit that has spent its mapping, and a header or tables that can't be read anew, but for want of memory. Want of memory in a
-/// change marks it, or leaves all as it was. A read of its file as it stands marks nothing.
+/// refused commit that has spent its mapping, and a header or tables that can't be read anew, but for want of memory. Want of memory marks
+/// it once a call has begun to change it or its file, and leaves all as it was before. A read of its file as it stands marks nothing.
 ///
 /// One that was opened for writing is written where a place has data in a host cluster of its own, which its L2 entry marks as copied:
 /// bytes go there at once, and no table changes. Where a guest cluster has none of its own, a cluster is allocated: it is reserved, filled
@@ -119,8 +119,8 @@ impl<S: Storage> Seen for Qcow2<S> {
 
 impl<S: Storage> Qcow2<S> {
     /// Whether it has failed: after a fault of a storage in a call of the disk, a refused commit that has spent its mapping, a header or
-    /// tables that couldn't be read anew, but for want of memory, or a change that want of memory cut off, unless that left all as it
-    /// was, it has to be opened again.
+    /// tables that couldn't be read anew, but for want of memory, or a change that want of memory cut off once it had begun, it has to be
+    /// opened again.
     pub fn failed(&self) -> bool
         ensures { result ≡ (⟦<Qcow2<S> as Seen>⟧.layer self.now).failed }
     {

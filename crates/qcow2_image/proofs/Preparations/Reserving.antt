@@ -1,6 +1,6 @@
 -- What reserving a cluster and holding it for a guest cluster leave of an image.
-use Rattle.std.proofs.Common.{◌≡◌, ℕ, ◌+◌, ◌-◌, ◌*◌, ◌/◌, ◌%◌, ◌^◌, ◌<◌, ◌≤◌, refl, ap, sym, subst, ◌∙◌, inl, inr, Bool, List, length, Option, Some, None, Result, Ok, Err, arith}
-use Rattle.std.specs.Prelude.{⊤, ◌⊎◌, IfErr, IfSome, IsSome, Vec, min, slice_index}
+use Rattle.std.proofs.Common.{false, ◌≡◌, ℕ, ◌+◌, ◌-◌, ◌*◌, ◌/◌, ◌%◌, ◌^◌, ◌<◌, ◌≤◌, refl, ap, sym, subst, ◌∙◌, inl, inr, Bool, List, length, Option, Some, None, Result, Ok, Err, arith}
+use Rattle.std.specs.Prelude.{⊤, ◌⊎◌, IfErr, IfSome, IsSome, Vec, is_some, min, not, slice_index}
 use Rattle.std.specs.declared.alloc.Global.{Global}
 use Rattle.std.proofs.lemmas.Nat.{div-add-mod', div-mul-add, mod_below, pow_pos}
 use Rattle.imago_storage.specs.State.{Rose}
@@ -23,7 +23,7 @@ use Rattle.qcow2_types.specs.Words.{damaged, is_copied}
 use Rattle.qcow2_metadata.specs.Places.{IsInReach}
 use Rattle.qcow2_metadata.specs.Tables.{TableValue}
 use Rattle.qcow2_alloc.specs.Crowding.{space}
-use Rattle.qcow2_image.specs.Allocating.{EnsuresTable, HasKept, HasOwnTable, LoadsSpace, PlacesContent, TellsKept, WhyNotAllocated, WhyNotReserved, failed_cut, kept_by, kept_for}
+use Rattle.qcow2_image.specs.Allocating.{Begins, EnsuresTable, HasKept, HasOwnTable, LoadsSpace, PlacesContent, TellsKept, WhyNotAllocated, WhyNotReserved, kept_by, kept_for}
 use Rattle.qcow2_image.specs.Filling.{IsInFirst, IsLeft, IsNeededFor, MakesContent, NeedsShown, RefusesCopy, WhyNotCopied}
 use Rattle.qcow2_alloc.specs.Quiet.{Metadata}
 use Rattle.qcow2_clusters.specs.Naming.{IsUnder}
@@ -41,6 +41,7 @@ use Rattle.qcow2_image.specs.declared.mappings.Reserved.{Reserved}
 use Rattle.qcow2_image.specs.declared.qcow2.PreparedMappingState.{PreparedMappingState}
 use Rattle.qcow2_image.specs.declared.qcow2.Qcow2.{Qcow2}
 use Rattle.qcow2_image.specs.declared.tables.Tables.{Tables}
+use Rattle.qcow2_image.proofs.Beginning.{begins-loaded, begins-marked, begins-then, quiet-marked}
 use Rattle.qcow2_image.proofs.FileWords.{top-word}
 use Rattle.qcow2_image.proofs.FreeRuns.{asked-as, full-behind, full-more, full-since, lacks-as-file, lacks-as-words, quarter-enough, quarter-some, run-enough, run-fewer, run-same, safe-short, words-some}
 use Rattle.qcow2_image.proofs.KeepingDisks.{keeps-disk-both, keeps-disk-same, keeps-disk-then, keeps-image-disk}
@@ -51,19 +52,7 @@ use Rattle.qcow2_image.proofs.Steps.{keeps-as, keeps-both}
 use Rattle.qcow2_image.proofs.KeptLeaks.{leaks-kept}
 
 module _ {S : Type 0} (g : Ghosts S) where
-  -- A refusal of a call that only looks leaves the image marked, or all as it was,
-  pub quiet-marked : {T : Type 0} (old new : Qcow2 S g) (e : Fault) → KeepsImage {T = T} g old (Err e) new → LeavesMarked g old new e
-  quiet-marked {T} old new Storage k = k.failed
-  quiet-marked {T} old new Memory k = inr (keeps-as {T = T} {U = Unit} g old new (Err Memory) (Err Memory) (λ w. w) (λ f. refl) k)
-  quiet-marked {T} old new e k = tt
-
-  -- as does one of a change that was cut off.
-  pub cut-marked : (old new : Qcow2 S g) (e : Fault) (was : Bool) → new.failed ≡ failed_cut {T = ℕ} (Err e) was → LeavesMarked g old new e
-  cut-marked old new Storage was is = is
-  cut-marked old new Memory was is = inl is
-  cut-marked old new e was is = tt
-
-  -- The same behind a call that only looks.
+  -- A refusal leaves the image marked, or all as it was, also behind a call that only looks.
   marked-behind : {T : Type 0} (old mid new : Qcow2 S g) (v : T) (e : Fault) → KeepsImage g old (Ok v) mid → LeavesMarked g mid new e → LeavesMarked g old new e
   marked-behind {T} old mid new v Storage k marked = marked
   marked-behind {T} old mid new v Memory k (inl marked) = inl marked
@@ -209,7 +198,7 @@ module _ {S : Type 0} (g : Ghosts S) where
   reserve-unloaded guest kept n bytes old new e l = record {
     keeps = keeps-known (IsMild e) guest kept old new l.keeps;
     leaks = λ known whole. leaks-but g old new l.leaks;
-    marked = quiet-marked {T = Unit} old new e l.same;
+    marked = quiet-marked g {T = Unit} old new e l.same;
     near = tt;
     many = tt;
     which = tt;
@@ -222,11 +211,13 @@ module _ {S : Type 0} (g : Ghosts S) where
 
   -- where there is no table,
   pub reserve-tableless : (guest : ℕ) (kept : Option ℕ) (n : ℕ) (bytes : List ℕ) (old mid new : Qcow2 S g) (e : Fault) → LoadsSpace g old (Ok tt) mid
-      → EnsuresTable g (enough_for_table mid.tables guest) guest mid (Err e) new → Reserves g guest kept n bytes old (Err e) new
-  reserve-tableless guest kept n bytes old mid new e l t = record {
+      → EnsuresTable g (enough_for_table mid.tables guest) guest mid (Err e) new → (begun now : Bool) → is_some old.tables.space ≡ not begun
+      → Begins {T = ℕ} g begun mid (Err e) now new → Reserves g guest kept n bytes old (Err e) new
+  reserve-tableless guest kept n bytes old mid new e l t begun now is begins = record {
     keeps = keeps-known (IsMild e) guest kept old new (keeps-disk-both g ⊤ (IsMild e) old mid new tt l.keeps t.keeps);
     leaks = λ known whole. leaks-but g old new (leaks-both g old mid new l.leaks (t.leaks (l.keeps.safely known.safe tt) whole));
-    marked = cut-marked old new e mid.failed t.marks;
+    marked = begins-marked g {T = ℕ} now old new e (begins-then g {T = Unit} {U = ℕ} false begun now old mid new (Ok tt) (Err e) tt
+        (begins-loaded g old mid begun is l) begins);
     near = tt;
     many = tt;
     which = tt;
@@ -249,13 +240,17 @@ module _ {S : Type 0} (g : Ghosts S) where
       → n ≤ words_of_cluster old.tables.file.header.fields
       → LoadsSpace g old (Ok tt) first → EnsuresTable g (enough_for_table first.tables guest) guest first (Ok table) mid
       → PlacesContent g guest kept n bytes mid (Err e) new
-      → Reserves g guest kept n bytes old (Err e) new
-  reserve-unplaced guest table kept n bytes old first mid new e few l t s =
+      → (begun between now : Bool) → is_some old.tables.space ≡ not begun → Begins {T = ℕ} g begun first (Ok table) between mid
+      → Begins {T = Placed} g between mid (Err e) now new → Reserves g guest kept n bytes old (Err e) new
+  reserve-unplaced guest table kept n bytes old first mid new e few l t s begun between now is first-begins begins =
       let there = keeps-disk-both g ⊤ ⊤ old first mid tt l.keeps t.keeps in record {
         keeps = keeps-then (IsMild e) guest kept old mid new there s.keeps;
         leaks = λ known whole. leaks-then g (λ c. 0) old mid new (leaks-both g old first mid l.leaks (t.leaks (l.keeps.safely known.safe tt) tt))
             (s.leaks (kept-behind g guest kept old mid there known) whole);
-        marked = cut-marked old new e mid.failed s.marks;
+        marked = begins-marked g {T = Placed} now old new e
+            (begins-then g {T = ℕ} {U = Placed} false between now old mid new (Ok table) (Err e) tt
+            (begins-then g {T = Unit} {U = ℕ} false begun between old first mid (Ok tt) (Ok table) tt (begins-loaded g old first begun is l) first-begins)
+            begins);
         near = tt;
         many = tt;
         which = tt;
@@ -363,7 +358,7 @@ module _ {S : Type 0} (g : Ghosts S) where
     ok = tt;
     err = (
       refl,
-      quiet-marked {T = Vec ℕ Global} old.0 new.0 e m.keeps,
+      quiet-marked g {T = Vec ℕ Global} old.0 new.0 e m.keeps,
       elim m.err [
         | inl own ↦ inl (why-never (LacksPlace g (asked.offset / cluster_size old.0.tables.file.header.fields) old.0.tables new.0.tables) old.0 new.0 e own)
         | inr below ↦ inr below
@@ -395,7 +390,7 @@ module _ {S : Type 0} (g : Ghosts S) where
       ok = tt;
       err = (
         refl,
-        marked-behind {T = Vec ℕ Global} old.0 first new content e m.keeps (quiet-marked {T = Option ℕ} first new e t.keeps),
+        marked-behind {T = Vec ℕ Global} old.0 first new content e m.keeps (quiet-marked g {T = Option ℕ} first new e t.keeps),
         inl (why-behind (λ number. ⊥) (LacksPlace g (asked.offset / cluster_size old.0.tables.file.header.fields) old.0.tables new.tables)
             old.0 first new e made (λ number safe none. absurd none) (why-unkept (λ number. ⊥) first new guest e t.known_cause t.cause)),
       );
@@ -642,7 +637,7 @@ module _ {S : Type 0} (g : Ghosts S) where
       ok = tt;
       err = (
         refl,
-        quiet-marked {T = ℕ} old new e found.keeps,
+        quiet-marked g {T = ℕ} old new e found.keeps,
         inl (why-unkept (LacksPlace g (asked.offset / cluster_size old.tables.file.header.fields) old.tables new.tables) old new
             (asked.offset / cluster_size old.tables.file.header.fields) e found.known_cause found.cause),
       );

@@ -1,13 +1,16 @@
-use Rattle.std.proofs.Common.{◌≡◌, ℕ, ◌+◌, ◌-◌, ◌*◌, ◌/◌, ◌^◌, ◌<◌, ◌≤◌, arith, ap, refl, sym, subst, ◌∙◌, List, length, Ok, Err}
+use Rattle.std.proofs.Common.{◌≡◌, ℕ, ◌+◌, ◌-◌, ◌*◌, ◌/◌, ◌^◌, ◌<◌, ◌≤◌, arith, ap, refl, sym, subst, ◌∙◌, List, length, false, Some, Ok, Err}
+use Rattle.std.proofs.Math.Nat.{mul-le-mul_right}
 use Rattle.imago_storage.specs.Through.{Put}
 use Rattle.qcow2_types.specs.Header.{cluster_size}
 use Rattle.qcow2_types.specs.Pending.{FreeEntry}
 use Rattle.qcow2_types.specs.TableBytes.{table_bytes}
+use Rattle.qcow2_types.specs.Words.{max_offset}
 use Rattle.qcow2_metadata.specs.Tables.{TableValue, table_place}
 use Rattle.qcow2_alloc.specs.FreeList.{FreeList}
-use Rattle.qcow2_clusters.specs.Lengthening.{clusters_for}
+use Rattle.qcow2_clusters.specs.Lengthening.{StandsIn, clusters_for}
 use Rattle.qcow2_clusters.specs.Rest.{lent}
 use Rattle.qcow2_clusters.specs.Storing.{StoresRunUnsettled}
+use Rattle.qcow2_clusters.proofs.Sparing.{run-spared}
 use Rattle.qcow2_clusters.proofs.AllocatingRuns.{run-bits, run-refused}
 use Rattle.qcow2_clusters.proofs.LengtheningL1.{some-taken, words-fit}
 use Rattle.qcow2_clusters.proofs.Settled.{done_so, refused_so}
@@ -24,7 +27,7 @@ returns-in-Ok-clause-stores g c =
     let old = lent c.args.file.now c.args.caches.now c.args.space.now in
     let h = c.args.file.now.header.fields in
     let ws = c.args.table.now.words in
-    let new = c.allocate_clusters.new in
+    let new = c.try_allocate_clusters.new in
     let mid = lent new.file new.caches (record { allocator = new.self; to_free = new.list }) in
     let n = c.cluster_count-count.result in
     let after = record new.file { image = c.write.new.image } in
@@ -45,13 +48,35 @@ returns-in-Ok-clause-stores g c =
     subst (λ k. StoresRunUnsettled state k (table_bytes ws) old (Ok c.cluster-cluster.result) (lent after new.caches (record { allocator = new.self; to_free = new.list }))) taken
     (subst (λ k. StoresRunUnsettled state n (table_bytes ws) old (Ok k) (lent after new.caches (record { allocator = new.self; to_free = new.list }))) (sym c.cluster-cluster.ensures) stores)
 
+pub returns-in-Ok-clause-stands : goal.returns-in-Ok-clause-stands
+returns-in-Ok-clause-stands g c =
+    let state = g.S.Storage.state in
+    let h = c.args.file.now.header.fields in
+    let table = c.args.table.now in
+    let new = c.try_allocate_clusters.new in
+    let after = record new.file { image = c.write.new.image } in
+    let k : ℕ = c.cluster-cluster.result in
+    let n : ℕ = clusters_for h (length table.words) in
+    let stores : StoresRunUnsettled state n (table_bytes table.words) (lent c.args.file.now c.args.caches.now c.args.space.now) (Ok k)
+    (lent after new.caches (record { allocator = new.self; to_free = new.list })) = returns-in-Ok-clause-stores g c in
+    let less : k * 2 ^ h.cluster_bits ≤ (k + (n - 1)) * 2 ^ h.cluster_bits =
+    mul-le-mul_right (2 ^ h.cluster_bits) (let le : k ≤ k + (n - 1) = omega arith in le) in
+    let reach : k * 2 ^ h.cluster_bits ≤ max_offset = omega (arith, less, stores.named.1) in
+    let is : c.write.new.self ≡ record { layout = table.layout; words = table.words; cluster = Some k; modified = false } =
+    c.in-Ok.ensures.ok ∙ ap (λ (t : TableValue). record t { modified = false }) c.set_cluster.ensures in
+    subst (StandsIn h table (Ok k)) (sym is) (record {
+      layout = refl;
+      words = refl;
+      placed = (subst (λ b. k * 2 ^ b ≤ max_offset) (sym c.requires.bits) reach, ap (λ b. k * 2 ^ b) c.requires.bits);
+    })
+
 pub returns-in-Err-clause-stores : goal.returns-in-Err-clause-stores
 returns-in-Err-clause-stores g c =
     let state = g.S.Storage.state in
     let old = lent c.args.file.now c.args.caches.now c.args.space.now in
     let h = c.args.file.now.header.fields in
     let ws = c.args.table.now.words in
-    let new = c.allocate_clusters.new in
+    let new = c.try_allocate_clusters.new in
     let mid = lent new.file new.caches (record { allocator = new.self; to_free = new.list }) in
     let n = c.cluster_count-count.result in
     let after = record new.file { image = c.write.new.image } in
@@ -81,10 +106,37 @@ returns-in_err-pending-clause-stores g c = rw (handed-on _ _ c.from_residual.ens
     let h = c.args.file.now.header.fields in
     let ws = c.args.table.now.words in
     let old = lent c.args.file.now c.args.caches.now c.args.space.now in
-    let new = c.allocate_clusters.new in
+    let new = c.try_allocate_clusters.new in
     let mid = lent new.file new.caches (record { allocator = new.self; to_free = new.list }) in
     let n = c.cluster_count-count.result in
     let taken : n ≡ clusters_for h (length ws) = c.cluster_count-count.ensures ∙ ap (λ b. (8 * length ws + (2 ^ b - 1)) / 2 ^ b) c.requires.bits in
     subst (λ k. StoresRunUnsettled state k (table_bytes ws) old (Err c.in_err-pending.field-0.0) mid) taken
     (run-refused state old c.requires.rest c.requires.room n mid c.in_err-pending.field-0.0 c.in_err-pending.ensures.allocates
     (table_bytes ws) c.in_err-pending.ensures.held))
+
+pub returns-in_err-pending-clause-spares : goal.returns-in_err-pending-clause-spares
+returns-in_err-pending-clause-spares g c = rw (handed-on _ _ c.from_residual.ensures.1) (
+    let new = c.try_allocate_clusters.new in
+    run-spared g.S.Storage.state c.args.begun.now new.begun (lent c.args.file.now c.args.caches.now c.args.space.now) c.in_err-pending.field-0.0 new.self
+    new.caches new.file new.list c.requires.rest c.in_err-pending.ensures.spares c.in_err-pending.ensures.held)
+
+-- Once clusters were handed out it has begun.
+pub returns-in-Ok-clause-spares : goal.returns-in-Ok-clause-spares
+returns-in-Ok-clause-spares g c = λ not.
+    let h = c.args.file.now.header.fields in
+    let ws = c.args.table.now.words in
+    let n = c.cluster_count-count.result in
+    let taken : n ≡ clusters_for h (length ws) = c.cluster_count-count.ensures ∙ ap (λ b. (8 * length ws + (2 ^ b - 1)) / 2 ^ b) c.requires.bits in
+    let some : 0 < n = (let more = some-taken h (length ws) c.requires.some in omega (arith, more, taken)) in
+    let never = sym (c.in_ok-pending.ensures.begins some) ∙ not in
+    absurd (cc never)
+
+pub returns-in-Err-clause-spares : goal.returns-in-Err-clause-spares
+returns-in-Err-clause-spares g c = λ not.
+    let h = c.args.file.now.header.fields in
+    let ws = c.args.table.now.words in
+    let n = c.cluster_count-count.result in
+    let taken : n ≡ clusters_for h (length ws) = c.cluster_count-count.ensures ∙ ap (λ b. (8 * length ws + (2 ^ b - 1)) / 2 ^ b) c.requires.bits in
+    let some : 0 < n = (let more = some-taken h (length ws) c.requires.some in omega (arith, more, taken)) in
+    let never = sym (c.in_ok-pending.ensures.begins some) ∙ not in
+    absurd (cc never)

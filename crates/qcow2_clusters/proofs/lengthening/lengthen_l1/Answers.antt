@@ -5,17 +5,18 @@ use Rattle.qcow2_types.specs.Pending.{FreeEntry}
 use Rattle.qcow2_alloc.specs.FreeList.{FreeList}
 use Rattle.qcow2_clusters.specs.Lengthening.{IsTooLong, IsTop, LengthensL1, clusters_for}
 use Rattle.qcow2_clusters.specs.Rest.{IsReady, lent}
+use Rattle.qcow2_clusters.proofs.Sparing.{nothing-begun}
 use Rattle.qcow2_clusters.proofs.LengtheningL1.{clusters-taken, grow-refused, l1-named, l1-not-begun, l1-not-named, l1-not-placed, l1-not-stored}
 use Rattle.qcow2_alloc.proofs.Faults.{handed-on}
 use Rattle.qcow2_clusters.proofs.lengthening.lengthen_l1.Goals as goal
 
-pub returns-in_err-place_l1 : goal.returns-in_err-place_l1
-returns-in_err-place_l1 g c = rw (handed-on _ _ c.from_residual.ensures.1) (
+pub returns-in_err-place_l1-clause-lengthens : goal.returns-in_err-place_l1-clause-lengthens
+returns-in_err-place_l1-clause-lengthens g c = rw (handed-on _ _ c.from_residual.ensures.1) (
     l1-not-placed g.S.Storage.state c.args.l1.now c.args.index (lent c.args.file.now c.args.caches.now c.args.space.now)
     c.in_err-place_l1.field-0.0 c.place_l1.new.l1 c.requires.rest c.in_err-place_l1.ensures)
 
-pub returns-in_err-grown : goal.returns-in_err-grown
-returns-in_err-grown g c = rw (handed-on _ _ c.from_residual-in_err-grown.ensures.1) (
+pub returns-in_err-grown-clause-lengthens : goal.returns-in_err-grown-clause-lengthens
+returns-in_err-grown-clause-lengthens g c = rw (handed-on _ _ c.from_residual-in_err-grown.ensures.1) (
     l1-not-begun g.S.Storage.state c.args.l1.now c.args.index (lent c.args.file.now c.args.caches.now c.args.space.now)
     c.in_err-grown.field-0.0 c.place_l1.new.l1 c.requires.rest
     c.place_l1.ensures.same (λ ready asked long. let e = c.in_err-grown.ensures.limit (omega (arith, long)) in cc e)
@@ -27,8 +28,8 @@ returns-in_err-grown g c = rw (handed-on _ _ c.from_residual-in_err-grown.ensure
     (λ far. c.in_err-grown.ensures.limit (omega (arith, far))) (λ near. c.in_err-grown.ensures.few (omega (arith, near)))
     (λ far. inl (far, refl))))
 
-pub returns-in_err-store_l1 : goal.returns-in_err-store_l1
-returns-in_err-store_l1 g c = rw (handed-on _ _ c.from_residual-in_err-store_l1.ensures.1) (
+pub returns-in_err-store_l1-clause-lengthens : goal.returns-in_err-store_l1-clause-lengthens
+returns-in_err-store_l1-clause-lengthens g c = rw (handed-on _ _ c.from_residual-in_err-store_l1.ensures.1) (
     let new = c.store_l1.new in
     let ws = c.in_ok-grown.grown.words in
     l1-not-stored g.S.Storage.state c.args.l1.now c.args.index (lent c.args.file.now c.args.caches.now c.args.space.now) (clusters_for c.args.file.now.header.fields (length ws)) (table_bytes ws)
@@ -40,8 +41,8 @@ returns-in_err-store_l1 g c = rw (handed-on _ _ c.from_residual-in_err-store_l1.
 abbrev room_for : List FreeEntry → ℕ → FreeList
 room_for entries held = record { entries = entries; held = held }
 
-pub returns-in-Ok : goal.returns-in-Ok
-returns-in-Ok g c =
+pub returns-in-Ok-clause-lengthens : goal.returns-in-Ok-clause-lengthens
+returns-in-Ok-clause-lengthens g c =
     let state = g.S.Storage.state in
     let old = lent c.args.file.now c.args.caches.now c.args.space.now in
     let new = c.store_l1.new in
@@ -57,8 +58,8 @@ returns-in-Ok g c =
     (new.space.to_free.held - 1)
     (let more = c.in_ok-store_l1.ensures.stores.held in omega (arith, more)))
 
-pub returns-in-Err : goal.returns-in-Err
-returns-in-Err g c =
+pub returns-in-Err-clause-lengthens : goal.returns-in-Err-clause-lengthens
+returns-in-Err-clause-lengthens g c =
     let state = g.S.Storage.state in
     let old = lent c.args.file.now c.args.caches.now c.args.space.now in
     let new = c.store_l1.new in
@@ -76,3 +77,29 @@ returns-in-Err g c =
     (λ long. let e = c.in_ok-grown.ensures.limit (omega (arith, long)) in absurd (cc e)) fault refl
     (record { allocator = new.space.allocator; to_free = room_for new.space.to_free.entries c.args.space.now.to_free.held }) refl
     c.in-Err.ensures.err)
+
+pub returns-in_err-place_l1-clause-spares : goal.returns-in_err-place_l1-clause-spares
+returns-in_err-place_l1-clause-spares g c = rw (handed-on _ _ c.from_residual.ensures.1) (λ not. (
+  nothing-begun g.S.Storage.state c.args.begun.now (lent c.args.file.now c.args.caches.now c.args.space.now) c.in_err-place_l1.field-0.0 not,
+  c.place_l1.ensures.same,
+))
+
+pub returns-in_err-grown-clause-spares : goal.returns-in_err-grown-clause-spares
+returns-in_err-grown-clause-spares g c = rw (handed-on _ _ c.from_residual-in_err-grown.ensures.1) (λ not. (
+  nothing-begun g.S.Storage.state c.args.begun.now (lent c.args.file.now c.args.caches.now c.args.space.now) c.in_err-grown.field-0.0 not,
+  c.place_l1.ensures.same,
+))
+
+-- Once the longer table is stored it has begun.
+pub returns-in_err-store_l1-clause-spares : goal.returns-in_err-store_l1-clause-spares
+returns-in_err-store_l1-clause-spares g c = rw (handed-on _ _ c.from_residual-in_err-store_l1.ensures.1) (λ not.
+    let spared = c.in_err-store_l1.ensures.spares not in (
+      record { unbegun = spared.unbegun; refused = tt; kept = spared.kept; header = spared.header; space = spared.space },
+      c.place_l1.ensures.same,
+    ))
+
+pub returns-in-Ok-clause-spares : goal.returns-in-Ok-clause-spares
+returns-in-Ok-clause-spares g c = λ not. absurd (c.in_ok-store_l1.ensures.spares not).refused
+
+pub returns-in-Err-clause-spares : goal.returns-in-Err-clause-spares
+returns-in-Err-clause-spares g c = λ not. absurd (c.in_ok-store_l1.ensures.spares not).refused

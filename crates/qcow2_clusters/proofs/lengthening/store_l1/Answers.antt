@@ -15,3 +15,8 @@ pub returns-clause-stands : goal.returns-clause-stands
 returns-clause-stands g c =
     stands-still c.args.file.now.header.fields c.args.table.now c.allocate_and_write-stored.result c.settle_stored.result c.allocate_and_write-stored.new.table
     c.settle_stored.ensures.same c.allocate_and_write-stored.ensures.stands
+
+pub returns-clause-spares : goal.returns-clause-spares
+returns-clause-spares g c =
+    c.settle_stored.ensures.spares c.args.begun.now c.allocate_and_write-stored.new.begun
+    (lent c.args.file.now c.args.caches.now c.args.space.now) c.allocate_and_write-stored.ensures.spares

@@ -1,22 +1,24 @@
 use Rattle.std.proofs.Common.{◌∙◌, ◌-◌, ◌++◌, ◌∷◌, [], refl, ap, arith, sym, subst, Ok, Err}
 use Rattle.std.specs.Prelude.{slice_index}
 use Rattle.imago_storage.proofs.Composing.{kept_same}
+use Rattle.imago_storage.specs.declared.fault.Fault.TheVariants.{DamagedTable}
 use Rattle.qcow2_types.specs.Pending.{FreeEntry}
 use Rattle.qcow2_alloc.specs.FreeList.{FreeList}
 use Rattle.qcow2_clusters.specs.MakingTables.{CopiesTable, FindsTable, IsClusterOf}
 use Rattle.qcow2_clusters.specs.Rest.{lent}
+use Rattle.qcow2_clusters.proofs.Sparing.{nothing-begun, spared-behind, words-same}
 use Rattle.qcow2_clusters.proofs.CopyingTables.{content-behind, copied-so, found-behind, none-found, not-copied, not-found, not-read, read-before}
 use Rattle.qcow2_alloc.proofs.Faults.{handed-on}
 use Rattle.qcow2_clusters.proofs.making_tables.copy_table.Goals as goal
 
-pub returns-in_default : goal.returns-in_default
-returns-in_default g c =
+pub returns-in_default-clause-copies : goal.returns-in_default-clause-copies
+returns-in_default-clause-copies g c =
     not-found g.S.Storage.state c.args.l1.now c.args.index (lent c.args.file.now c.args.caches.now c.args.space.now) c.requires.rest
     (subst (FindsTable c.args.file.now.header.fields.cluster_bits (slice_index c.args.l1.now.words c.args.index))
     (none-found c.table_at.result c.in_default.not-Some) c.table_at.ensures)
 
-pub returns-in_err-content : goal.returns-in_err-content
-returns-in_err-content g c = rw (handed-on _ _ c.from_residual.ensures.1) (
+pub returns-in_err-content-clause-copies : goal.returns-in_err-content-clause-copies
+returns-in_err-content-clause-copies g c = rw (handed-on _ _ c.from_residual.ensures.1) (
     let read = c.read_cluster.ensures in
     not-read g.S.Storage.state c.args.l1.now c.args.index (lent c.args.file.now c.args.caches.now c.args.space.now)
     c.in_err-content.field-0.0
@@ -27,8 +29,8 @@ returns-in_err-content g c = rw (handed-on _ _ c.from_residual.ensures.1) (
 abbrev given_back : FreeList → FreeEntry → FreeList
 given_back list entry = record { entries = list.entries ++ entry ∷ []; held = list.held - 1 }
 
-pub returns : goal.returns
-returns g c =
+pub returns-clause-copies : goal.returns-clause-copies
+returns-clause-copies g c =
     let state = g.S.Storage.state in
     let old = lent c.args.file.now c.args.caches.now c.args.space.now in
     let read = c.read_cluster.ensures in
@@ -38,7 +40,7 @@ returns g c =
     let new = c.place_table.new in
     let l1 = c.args.l1.now in
     let t = c.in_ok-cluster.cluster in
-    let places = c.in_ok-cluster.ensures in
+    let places = c.in_ok-cluster.ensures.places in
     let finds = found-behind state old file image read.header l1 c.args.index c.in-Some.old c.in-Some.ensures in
     let is = content-behind state old file image read.header l1 c.args.index c.in-Some.old c.deref.result.now
     (subst (IsClusterOf (state c.args.file.now.image).bytes c.args.file.now.header.fields c.in-Some.old) (sym c.deref.ensures.value)
@@ -51,8 +53,8 @@ returns g c =
     (copied-so state l1 c.args.index mid c.in-Some.old c.deref.result.now finds is t new.l1 (lent new.file new.caches new.space) places
     (new.space.to_free.held - 1) (omega (arith, more))))
 
-pub returns-in_err-cluster : goal.returns-in_err-cluster
-returns-in_err-cluster g c = rw (handed-on _ _ c.from_residual-in_err-cluster.ensures.1) (
+pub returns-in_err-cluster-clause-copies : goal.returns-in_err-cluster-clause-copies
+returns-in_err-cluster-clause-copies g c = rw (handed-on _ _ c.from_residual-in_err-cluster.ensures.1) (
     let state = g.S.Storage.state in
     let old = lent c.args.file.now c.args.caches.now c.args.space.now in
     let read = c.read_cluster.ensures in
@@ -67,4 +69,29 @@ returns-in_err-cluster g c = rw (handed-on _ _ c.from_residual-in_err-cluster.en
     let fault = c.in_err-cluster.field-0.0 in
     read-before state old file image read.header l1 c.args.index (Err fault) new.l1 (lent new.file new.caches new.space)
     (not-copied state l1 c.args.index (lent file c.args.caches.now c.args.space.now) c.in-Some.old c.deref.result.now finds is fault new.l1
-    (lent new.file new.caches new.space) c.in_err-cluster.ensures))
+    (lent new.file new.caches new.space) c.in_err-cluster.ensures.places))
+
+pub returns-in_default-clause-spares : goal.returns-in_default-clause-spares
+returns-in_default-clause-spares g c = λ not. (
+  nothing-begun g.S.Storage.state c.args.begun.now (lent c.args.file.now c.args.caches.now c.args.space.now) DamagedTable not,
+  words-same c.args.l1.now,
+)
+
+pub returns-in_err-content-clause-spares : goal.returns-in_err-content-clause-spares
+returns-in_err-content-clause-spares g c = rw (handed-on _ _ c.from_residual.ensures.1) (λ not.
+    let read = c.read_cluster.ensures in
+    (record { unbegun = not; refused = tt; kept = read.kept; header = read.header; space = refl }, words-same c.args.l1.now))
+
+pub returns-clause-spares : goal.returns-clause-spares
+returns-clause-spares g c = λ not. absurd (c.in_ok-cluster.ensures.spares not).0.refused
+
+pub returns-in_err-cluster-clause-spares : goal.returns-in_err-cluster-clause-spares
+returns-in_err-cluster-clause-spares g c = rw (handed-on _ _ c.from_residual-in_err-cluster.ensures.1) (λ not.
+    let spared = c.in_err-cluster.ensures.spares not in
+    let read = c.read_cluster.ensures in
+    let new = c.place_table.new in (
+      spared-behind g.S.Storage.state c.args.begun.now new.begun (lent c.args.file.now c.args.caches.now c.args.space.now)
+          (lent c.read_cluster.new.file c.args.caches.now c.args.space.now) (lent new.file new.caches new.space) c.in_err-cluster.field-0.0
+          read.kept read.header refl spared.0,
+      spared.1,
+    ))

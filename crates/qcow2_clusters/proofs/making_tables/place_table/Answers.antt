@@ -7,28 +7,29 @@ use Rattle.qcow2_alloc.specs.FreeList.{FreeList}
 use Rattle.qcow2_alloc.proofs.Memory.Patches.{place-there}
 use Rattle.qcow2_clusters.specs.declared.space.Space.{Space}
 use Rattle.qcow2_clusters.specs.Rest.{lent}
+use Rattle.qcow2_clusters.proofs.Sparing.{nothing-begun}
 use Rattle.qcow2_clusters.proofs.MakingTables.{entered-so, not-entered, not-placed, not-stored}
 use Rattle.qcow2_alloc.proofs.Faults.{handed-on}
 use Rattle.qcow2_clusters.proofs.making_tables.place_table.Goals as goal
 
-pub returns-in_err-place_l1 : goal.returns-in_err-place_l1
-returns-in_err-place_l1 g c = rw (handed-on _ _ c.from_residual.ensures.1) (
+pub returns-in_err-place_l1-clause-places : goal.returns-in_err-place_l1-clause-places
+returns-in_err-place_l1-clause-places g c = rw (handed-on _ _ c.from_residual.ensures.1) (
     not-placed g.S.Storage.state c.args.content.now c.args.l1.now c.args.index
     (lent c.args.file.now c.args.caches.now c.args.space.now) c.in_err-place_l1.field-0.0 c.place_l1.new.l1 c.requires.rest
     (inr (cc c.in_err-place_l1.ensures.err, c.in_err-place_l1.ensures.cause)))
 
-pub returns-in_err-table : goal.returns-in_err-table
-returns-in_err-table g c = rw (handed-on _ _ c.from_residual-in_err-table.ensures.1) (
+pub returns-in_err-table-clause-places : goal.returns-in_err-table-clause-places
+returns-in_err-table-clause-places g c = rw (handed-on _ _ c.from_residual-in_err-table.ensures.1) (
     not-placed g.S.Storage.state c.args.content.now c.args.l1.now c.args.index
     (lent c.args.file.now c.args.caches.now c.args.space.now) c.in_err-table.field-0.0 c.place_l1.new.l1 c.requires.rest
     (inl c.in_err-table.ensures.err))
 
-pub returns-in_err-cluster : goal.returns-in_err-cluster
-returns-in_err-cluster g c = rw (handed-on _ _ c.from_residual-in_err-cluster.ensures.1) (
+pub returns-in_err-cluster-clause-places : goal.returns-in_err-cluster-clause-places
+returns-in_err-cluster-clause-places g c = rw (handed-on _ _ c.from_residual-in_err-cluster.ensures.1) (
     let new = c.store.new in
     not-stored g.S.Storage.state c.args.content.now c.args.l1.now c.args.index
     (lent c.args.file.now c.args.caches.now c.args.space.now) c.in_err-cluster.field-0.0 c.place_l1.new.l1
-    (lent new.file new.caches new.space) c.place_l1.ensures.same c.in_err-cluster.ensures)
+    (lent new.file new.caches new.space) c.place_l1.ensures.same c.in_err-cluster.ensures.stores)
 
 -- The table that is named begins with the cluster.
 begins : (h : Fields) (table table' : TableValue) (cluster : ℕ) → table.layout ≡ layout_of h
@@ -40,21 +41,21 @@ pub enter_table-requires-clause-namable : goal.enter_table-requires-clause-namab
 enter_table-requires-clause-namable g c =
     let h = c.args.file.now.header.fields in
     let t = c.in_ok-cluster.cluster in
-    let named = c.in_ok-cluster.ensures.named in
+    let named = c.in_ok-cluster.ensures.stores.named in
     let bits : c.place_l1.new.l1.layout.cluster_bits ≡ h.cluster_bits =
     ap (λ (l : Layout). l.cluster_bits) c.place_l1.ensures.same.layout ∙ c.in_ok-place_l1.ensures.bits in
     let there = place-there (2 ^ h.cluster_bits) t (pow_pos h.cluster_bits) named.0 in
     subst (λ (o : Option ℕ). IsNamable c.place_l1.new.l1.layout.cluster_bits o) (sym (ap (λ (table : TableValue). table.cluster) c.set_cluster.ensures))
     (subst (λ b. IsNamable b (Some t)) (sym bits) record { placed = named.1; some = omega (arith, there) })
 
-pub returns-in-Ok : goal.returns-in-Ok
-returns-in-Ok g c =
+pub returns-in-Ok-clause-places : goal.returns-in-Ok-clause-places
+returns-in-Ok-clause-places g c =
     let h = c.args.file.now.header.fields in
     let old = lent c.args.file.now c.args.caches.now c.args.space.now in
     let mid = lent c.store.new.file c.store.new.caches c.store.new.space in
     let new = lent c.enter_table.new.file c.store.new.caches c.store.new.space in
     let t = c.in_ok-cluster.cluster in
-    entered-so g.S.Storage.state c.args.content.now c.args.l1.now c.args.index old t mid c.requires.whole c.in_ok-cluster.ensures
+    entered-so g.S.Storage.state c.args.content.now c.args.l1.now c.args.index old t mid c.requires.whole c.in_ok-cluster.ensures.stores
     c.place_l1.new.l1 c.enter_table.new.l1 c.set_cluster.new.self c.enter_table.result new
     c.place_l1.ensures.same c.in_ok-place_l1.ensures.place
     (begins h c.in_ok-table.table c.set_cluster.new.self t (ap (λ (table : TableValue). table.layout) c.in_ok-table.ensures.ok)
@@ -62,8 +63,8 @@ returns-in-Ok g c =
     record { header = c.enter_table.ensures.header; caches = refl; allocator = refl; entries = refl }
     c.enter_table.ensures c.in-Ok.is refl
 
-pub returns : goal.returns
-returns g c =
+pub returns-clause-places : goal.returns-clause-places
+returns-clause-places g c =
     let h = c.args.file.now.header.fields in
     let old = lent c.args.file.now c.args.caches.now c.args.space.now in
     let mid = lent c.store.new.file c.store.new.caches c.store.new.space in
@@ -71,8 +72,8 @@ returns g c =
     let new = lent c.enter_table.new.file c.store.new.caches space in
     let t = c.in_ok-cluster.cluster in
     let less = ap (λ (l : FreeList). l.held) c.release.ensures in
-    let more = c.in_ok-cluster.ensures.held in
-    not-entered g.S.Storage.state c.args.content.now c.args.l1.now c.args.index old t mid c.requires.whole c.in_ok-cluster.ensures
+    let more = c.in_ok-cluster.ensures.stores.held in
+    not-entered g.S.Storage.state c.args.content.now c.args.l1.now c.args.index old t mid c.requires.whole c.in_ok-cluster.ensures.stores
     c.place_l1.new.l1 c.enter_table.new.l1 c.set_cluster.new.self c.enter_table.result new
     c.place_l1.ensures.same c.in_ok-place_l1.ensures.place
     (begins h c.in_ok-table.table c.set_cluster.new.self t (ap (λ (table : TableValue). table.layout) c.in_ok-table.ensures.ok)
@@ -83,3 +84,26 @@ returns g c =
       allocator = refl;
       entries = ap (λ (l : FreeList). l.entries) c.release.ensures;
     } c.enter_table.ensures c.in-Err.fault c.in-Err.is (omega (arith, less, more))
+
+pub returns-in_err-place_l1-clause-spares : goal.returns-in_err-place_l1-clause-spares
+returns-in_err-place_l1-clause-spares g c = rw (handed-on _ _ c.from_residual.ensures.1) (λ not. (
+  nothing-begun g.S.Storage.state c.args.begun.now (lent c.args.file.now c.args.caches.now c.args.space.now) c.in_err-place_l1.field-0.0 not,
+  c.place_l1.ensures.same,
+))
+
+pub returns-in_err-table-clause-spares : goal.returns-in_err-table-clause-spares
+returns-in_err-table-clause-spares g c = rw (handed-on _ _ c.from_residual-in_err-table.ensures.1) (λ not. (
+  nothing-begun g.S.Storage.state c.args.begun.now (lent c.args.file.now c.args.caches.now c.args.space.now) c.in_err-table.field-0.0 not,
+  c.place_l1.ensures.same,
+))
+
+pub returns-in_err-cluster-clause-spares : goal.returns-in_err-cluster-clause-spares
+returns-in_err-cluster-clause-spares g c = rw (handed-on _ _ c.from_residual-in_err-cluster.ensures.1)
+    (λ not. (c.in_err-cluster.ensures.spares not, c.place_l1.ensures.same))
+
+-- Once its bytes are stored it has begun.
+pub returns-in-Ok-clause-spares : goal.returns-in-Ok-clause-spares
+returns-in-Ok-clause-spares g c = λ not. absurd (c.in_ok-cluster.ensures.spares not).refused
+
+pub returns-clause-spares : goal.returns-clause-spares
+returns-clause-spares g c = λ not. absurd (c.in_ok-cluster.ensures.spares not).refused

@@ -3,7 +3,7 @@ use Rattle.qcow2_alloc.specs.Caches.{HasRoomOf, cached_in, order_of}
 use Rattle.qcow2_alloc.specs.Memory.{Cached}
 use Rattle.qcow2_alloc.proofs.Caching.Lengths.{all-long}
 use Rattle.qcow2_alloc.proofs.Faults.{handed-on}
-use Rattle.qcow2_clusters.proofs.Settled.{done_so, refused_so, settled-refused, settled-whole, unpinned-blocks, unpinned-tables}
+use Rattle.qcow2_clusters.proofs.Settled.{done_so, flushed-still, refused_so, settled-refused, settled-whole, unpinned-blocks, unpinned-tables}
 use Rattle.qcow2_clusters.proofs.settling.settle.Goals as goal
 
 pub drop_cached-requires-2 : goal.drop_cached-requires-2
@@ -29,8 +29,10 @@ returns g c =
     let flushed = c.flush_all-flushed.new in
     let long = all-long (order_of old) (state c.args.file.now.image) (cached_in old) done_so (state flushed.file.image)
     (cached_in flushed.self) done.blocks_first done.tables_first in
+    let still = flushed-still (order_of old) (state c.args.file.now.image) (state flushed.file.image) (cached_in old) (cached_in flushed.self)
+    done_so done.blocks_first done.tables_first in
     settled-whole g.S.Storage.state c.args.given c.args.file.now c.args.caches.now new c.drop_cached-2.ensures.empty room c.if-not-was_not_cut_off.ensures
-    c.flush_all-flushed.new.file (cached_in c.flush_all-flushed.new.self) done.others.1 long done.going done.cause done.tables done.blocks (done.faults tt)
+    c.flush_all-flushed.new.file (cached_in c.flush_all-flushed.new.self) done.others.1 long still done.going done.cause done.tables done.blocks (done.faults tt)
 
 pub returns-in_err-flushed : goal.returns-in_err-flushed
 returns-in_err-flushed g c = rw (handed-on _ _ c.from_residual.ensures.1) (
@@ -45,6 +47,8 @@ returns-in_err-flushed g c = rw (handed-on _ _ c.from_residual.ensures.1) (
     let flushed = c.flush_all-flushed.new in
     let long = all-long (order_of old) (state c.args.file.now.image) (cached_in old) (refused_so c.in_err-flushed.field-0.0) (state flushed.file.image)
     (cached_in flushed.self) done.blocks_first done.tables_first in
+    let still = flushed-still (order_of old) (state c.args.file.now.image) (state flushed.file.image) (cached_in old) (cached_in flushed.self)
+    (refused_so c.in_err-flushed.field-0.0) done.blocks_first done.tables_first in
     settled-refused g.S.Storage.state c.args.given c.args.file.now c.args.caches.now new c.drop_cached-2.ensures.empty room c.if-not-was_not_cut_off.ensures
-    c.flush_all-flushed.new.file (cached_in c.flush_all-flushed.new.self) done.others.1 long c.in_err-flushed.field-0.0 done.going done.cause
+    c.flush_all-flushed.new.file (cached_in c.flush_all-flushed.new.self) done.others.1 long still c.in_err-flushed.field-0.0 done.going done.cause
     done.faults)

@@ -5,6 +5,7 @@ use Rattle.qcow2_types.specs.Pending.{FreeEntry}
 use Rattle.qcow2_alloc.specs.FreeList.{FreeList}
 use Rattle.qcow2_clusters.specs.Rest.{lent}
 use Rattle.qcow2_clusters.specs.Storing.{StoresRunUnsettled}
+use Rattle.qcow2_clusters.proofs.Sparing.{run-spared}
 use Rattle.qcow2_clusters.proofs.AllocatingRuns.{run-refused}
 use Rattle.qcow2_clusters.proofs.Settled.{done_so, refused_so}
 use Rattle.qcow2_clusters.proofs.StoringRuns.{stored-refused, stored-unsettled, whole-fits}
@@ -14,11 +15,11 @@ use Rattle.qcow2_clusters.proofs.storing.allocate_and_write.Goals as goal
 abbrev room_for : List FreeEntry → ℕ → FreeList
 room_for entries held = record { entries = entries; held = held }
 
-pub returns-in-Ok : goal.returns-in-Ok
-returns-in-Ok g c =
+pub returns-in-Ok-clause-stores : goal.returns-in-Ok-clause-stores
+returns-in-Ok-clause-stores g c =
     let state = g.S.Storage.state in
     let old = lent c.args.file.now c.args.caches.now c.args.space.now in
-    let new = c.allocate_clusters.new in
+    let new = c.try_allocate_clusters.new in
     let mid = lent new.file new.caches (record { allocator = new.self; to_free = new.list }) in
     let after = c.write_cluster.new.file in
     let put = subst (λ (n : ℕ). Put (state new.file.image) (state after.image) (n * cluster_size new.file.header.fields) c.args.content.now
@@ -29,11 +30,11 @@ returns-in-Ok g c =
     c.args.content.now (whole-fits c.args.content.now c.args.count (cluster_size c.args.file.now.header.fields) c.requires.any
     c.requires.whole) after c.write_cluster.ensures.header put c.in_ok-pending.ensures.held)
 
-pub returns-in-Err : goal.returns-in-Err
-returns-in-Err g c =
+pub returns-in-Err-clause-stores : goal.returns-in-Err-clause-stores
+returns-in-Err-clause-stores g c =
     let state = g.S.Storage.state in
     let old = lent c.args.file.now c.args.caches.now c.args.space.now in
-    let new = c.allocate_clusters.new in
+    let new = c.try_allocate_clusters.new in
     let mid = lent new.file new.caches (record { allocator = new.self; to_free = new.list }) in
     let after = c.write_cluster.new.file in
     let fault = c.in-Err.fault in
@@ -47,9 +48,25 @@ returns-in-Err g c =
     c.requires.any
     c.args.content.now (whole-fits c.args.content.now c.args.count (cluster_size c.args.file.now.header.fields) c.requires.any c.requires.whole) after c.write_cluster.ensures.header fault put)
 
-pub returns-in_err-pending : goal.returns-in_err-pending
-returns-in_err-pending g c = rw (handed-on _ _ c.from_residual.ensures.1) (
-    let new = c.allocate_clusters.new in
+pub returns-in_err-pending-clause-stores : goal.returns-in_err-pending-clause-stores
+returns-in_err-pending-clause-stores g c = rw (handed-on _ _ c.from_residual.ensures.1) (
+    let new = c.try_allocate_clusters.new in
     run-refused g.S.Storage.state (lent c.args.file.now c.args.caches.now c.args.space.now) c.requires.rest c.requires.room c.args.count
     (lent new.file new.caches (record { allocator = new.self; to_free = new.list })) c.in_err-pending.field-0.0
     c.in_err-pending.ensures.allocates c.args.content.now c.in_err-pending.ensures.held)
+
+pub returns-in_err-pending-clause-spares : goal.returns-in_err-pending-clause-spares
+returns-in_err-pending-clause-spares g c = rw (handed-on _ _ c.from_residual.ensures.1) (
+    let new = c.try_allocate_clusters.new in
+    run-spared g.S.Storage.state c.args.begun.now new.begun (lent c.args.file.now c.args.caches.now c.args.space.now) c.in_err-pending.field-0.0 new.self
+    new.caches new.file new.list c.requires.rest c.in_err-pending.ensures.spares c.in_err-pending.ensures.held)
+
+pub returns-in-Ok-clause-spares : goal.returns-in-Ok-clause-spares
+returns-in-Ok-clause-spares g c = λ not. absurd (c.in-Ok.ensures.spares not).1
+
+-- Once clusters were handed out it has begun.
+pub returns-in-Err-clause-spares : goal.returns-in-Err-clause-spares
+returns-in-Err-clause-spares g c = λ not.
+    let unbegun = (c.in-Err.ensures.spares not).0 in
+    let never = sym (c.in_ok-pending.ensures.begins c.requires.any) ∙ unbegun in
+    absurd (cc never)

@@ -1,9 +1,12 @@
+use Rattle.std.specs.Prelude.{OnOk}
 use Rattle.std.proofs.Common.{◌≡◌, ℕ, ◌-◌, arith, ap, refl, sym, subst, ◌∙◌, List, Ok, Err, Result}
 use Rattle.imago_storage.specs.declared.fault.Fault.{Fault}
 use Rattle.qcow2_types.specs.Pending.{FreeEntry}
 use Rattle.qcow2_alloc.specs.FreeList.{FreeList}
 use Rattle.qcow2_clusters.specs.Rest.{lent}
+use Rattle.qcow2_clusters.specs.Sparing.{SparesUnsettled}
 use Rattle.qcow2_clusters.specs.Storing.{StoresRun, StoresRunUnsettled}
+use Rattle.qcow2_clusters.proofs.Sparing.{settled-spared}
 use Rattle.qcow2_clusters.proofs.StoringSettled.{held-refused, run-settled}
 use Rattle.qcow2_clusters.proofs.storing.settle_stored.Goals as goal
 
@@ -41,3 +44,19 @@ returns-in-Err-clause-stores g c = λ n content first long un.
     let was = subst (λ (r : Result ℕ Fault). StoresRunUnsettled state n content first r mid) c.in-Err.is un in
     run-settled state n content first long (Err fault) mid was settled.result settled.new.file settled.new.caches settled.ensures
     c.args.space.now.to_free.held (was.held ∙ sym (held-refused fault settled.result first.space.to_free.held settled.ensures.ok))
+
+-- What was stored had begun.
+pub returns-in-Ok-settle-clause-spares : goal.returns-in-Ok-settle-clause-spares
+returns-in-Ok-settle-clause-spares g c = λ was now first spares not.
+    absurd (subst (λ (r : Result ℕ Fault). OnOk r ⊥) c.in-Ok.is (spares not).0.refused)
+
+pub returns-in-Err-settle-clause-spares : goal.returns-in-Err-settle-clause-spares
+returns-in-Err-settle-clause-spares g c = λ was now first spares not.
+    absurd (subst (λ (r : Result ℕ Fault). OnOk r ⊥) c.in-Ok.is (spares not).0.refused)
+
+pub returns-in-Err-clause-spares : goal.returns-in-Err-clause-spares
+returns-in-Err-clause-spares g c = λ was now first spares.
+    let mid = lent c.args.file.now c.args.caches.now c.args.space.now in
+    let settled = c.settle-in-Err in
+    settled-spared g.S.Storage.state was now first c.in-Err.fault mid settled.result settled.new.file settled.new.caches settled.ensures
+    (subst (λ (r : Result ℕ Fault). SparesUnsettled g.S.Storage.state was first r now mid) c.in-Err.is spares)

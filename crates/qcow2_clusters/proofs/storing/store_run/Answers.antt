@@ -13,20 +13,20 @@ pub returns-in_err-first-clause-stores : goal.returns-in_err-first-clause-stores
 returns-in_err-first-clause-stores g c = rw (handed-on _ _ c.from_residual.ensures.1) (
     c.in_err-first.ensures.stores c.args.count c.args.content.now (lent c.args.file.now c.args.caches.now c.args.space.now)
     (whole-fits c.args.content.now c.args.count (cluster_size c.args.file.now.header.fields) c.requires.any c.requires.whole)
-    c.allocate_and_write-stored.ensures)
+    c.allocate_and_write-stored.ensures.stores)
 
 pub reach_end-requires-clause-reach : goal.reach_end-requires-clause-reach
 reach_end-requires-clause-reach g c =
     let run = c.in_ok-first.ensures.stores c.args.count c.args.content.now (lent c.args.file.now c.args.caches.now c.args.space.now)
     (whole-fits c.args.content.now c.args.count (cluster_size c.args.file.now.header.fields) c.requires.any c.requires.whole)
-    c.allocate_and_write-stored.ensures in
+    c.allocate_and_write-stored.ensures.stores in
     subst (λ (b : ℕ). IsInReach b (c.in_ok-first.first + (c.args.count - 1))) (sym (ap (λ (H : Header). H.fields.cluster_bits) run.rests.header.2)) run.named.1
 
 pub reach_end-requires-clause-near : goal.reach_end-requires-clause-near
 reach_end-requires-clause-near g c =
     let run = c.in_ok-first.ensures.stores c.args.count c.args.content.now (lent c.args.file.now c.args.caches.now c.args.space.now)
     (whole-fits c.args.content.now c.args.count (cluster_size c.args.file.now.header.fields) c.requires.any c.requires.whole)
-    c.allocate_and_write-stored.ensures in
+    c.allocate_and_write-stored.ensures.stores in
     ends-near c.in_ok-first.first c.args.count c.args.file.now.header.fields.cluster_bits c.requires.any run.named.1
 
 pub returns-in-Ok-clause-stores : goal.returns-in-Ok-clause-stores
@@ -35,7 +35,7 @@ returns-in-Ok-clause-stores g c =
     let new = c.settle_stored.new in
     let run = c.in_ok-first.ensures.stores c.args.count c.args.content.now old
     (whole-fits c.args.content.now c.args.count (cluster_size c.args.file.now.header.fields) c.requires.any c.requires.whole)
-    c.allocate_and_write-stored.ensures in
+    c.allocate_and_write-stored.ensures.stores in
     run-reaches g.S.Storage.state c.args.count c.requires.any c.args.content.now c.in_ok-first.first old (lent new.file new.caches new.space) run
     c.reach_end.new.file c.in-Ok.ensures
 
@@ -43,7 +43,7 @@ pub returns-in-Ok-clause-reaches : goal.returns-in-Ok-clause-reaches
 returns-in-Ok-clause-reaches g c =
     let run = c.in_ok-first.ensures.stores c.args.count c.args.content.now (lent c.args.file.now c.args.caches.now c.args.space.now)
     (whole-fits c.args.content.now c.args.count (cluster_size c.args.file.now.header.fields) c.requires.any c.requires.whole)
-    c.allocate_and_write-stored.ensures in
+    c.allocate_and_write-stored.ensures.stores in
     subst (λ (s : ℕ). (c.in_ok-first.first + c.args.count) * s ≤ length (g.S.Storage.state c.reach_end.new.file.image).bytes)
     (ap (λ (H : Header). cluster_size H.fields) run.rests.header.2) c.in-Ok.ensures.long
 
@@ -56,7 +56,7 @@ returns-in-Err-clause-stores g c =
     let fault = c.in-Err.fault in
     let run = c.in_ok-first.ensures.stores c.args.count c.args.content.now old
     (whole-fits c.args.content.now c.args.count (cluster_size c.args.file.now.header.fields) c.requires.any c.requires.whole)
-    c.allocate_and_write-stored.ensures in
+    c.allocate_and_write-stored.ensures.stores in
     let held : new.space.to_free.held - 1 ≡ c.args.space.now.to_free.held = (let more = run.held in omega (arith, more)) in
     subst (λ (l : FreeList). StoresRun state c.args.count c.args.content.now old (Err fault)
     (lent c.reach_end.new.file new.caches (record { allocator = new.space.allocator; to_free = l }))) (sym c.release.ensures)
@@ -67,6 +67,21 @@ pub release-requires : goal.release-requires
 release-requires g c =
     let run = c.in_ok-first.ensures.stores c.args.count c.args.content.now (lent c.args.file.now c.args.caches.now c.args.space.now)
     (whole-fits c.args.content.now c.args.count (cluster_size c.args.file.now.header.fields) c.requires.any c.requires.whole)
-    c.allocate_and_write-stored.ensures in
+    c.allocate_and_write-stored.ensures.stores in
     let more = run.held in
     omega (arith, more)
+
+pub returns-in_err-first-clause-spares : goal.returns-in_err-first-clause-spares
+returns-in_err-first-clause-spares g c = rw (handed-on _ _ c.from_residual.ensures.1) (
+    c.in_err-first.ensures.spares c.args.begun.now c.allocate_and_write-stored.new.begun
+    (lent c.args.file.now c.args.caches.now c.args.space.now) c.allocate_and_write-stored.ensures.spares)
+
+pub returns-in-Ok-clause-spares : goal.returns-in-Ok-clause-spares
+returns-in-Ok-clause-spares g c = λ not.
+    absurd (c.in_ok-first.ensures.spares c.args.begun.now c.allocate_and_write-stored.new.begun
+    (lent c.args.file.now c.args.caches.now c.args.space.now) c.allocate_and_write-stored.ensures.spares not).refused
+
+pub returns-in-Err-clause-spares : goal.returns-in-Err-clause-spares
+returns-in-Err-clause-spares g c = λ not.
+    absurd (c.in_ok-first.ensures.spares c.args.begun.now c.allocate_and_write-stored.new.begun
+    (lent c.args.file.now c.args.caches.now c.args.space.now) c.allocate_and_write-stored.ensures.spares not).refused

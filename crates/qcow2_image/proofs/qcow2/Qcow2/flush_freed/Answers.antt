@@ -1,4 +1,4 @@
-use Rattle.std.proofs.Common.{◌≡◌, ap, sym, subst, Result}
+use Rattle.std.proofs.Common.{true, ◌≡◌, ap, sym, subst, Result}
 use Rattle.imago_storage.specs.State.{StorageState}
 use Rattle.imago_storage.specs.Calls.{CountsFaults}
 use Rattle.imago_storage.specs.declared.fault.Fault.{Fault}
@@ -20,7 +20,7 @@ returns g c =
     let same = c.settle_change.ensures.same in
     let t = g.S.Storage.state c.flush-answer.new.self in
     let answer = c.flush-answer.result in
-    let failed : d.failed ≡ failed_cut answer m.failed = ap (λ (x : Qcow2 g.row.S.Denot g.S.Storage). x.failed) is in
+    let failed : d.failed ≡ failed_cut answer true m.failed = ap (λ (x : Qcow2 g.row.S.Denot g.S.Storage). x.failed) is in
     let state : g.S.Storage.state d.tables.file.image ≡ t = ap (λ (x : Qcow2 g.row.S.Denot g.S.Storage). g.S.Storage.state x.tables.file.image) is in
     let keeps : KeepsDisk g.S.Storage (WasNotCutOff answer) m d =
     requested g.S.Storage m d t c.flush-answer.ensures.kept c.flush-answer.ensures.later

@@ -1,15 +1,29 @@
 use Rattle.std.proofs.Common.{refl, sym, subst, ℕ, Result}
 use Rattle.imago_storage.specs.declared.fault.Fault.{Fault}
-use Rattle.qcow2_image.specs.Allocating.{StoresContent}
+use Rattle.qcow2_image.specs.Allocating.{Begins, StoresContent}
 use Rattle.qcow2_image.specs.declared.qcow2.Qcow2.{Qcow2}
+use Rattle.qcow2_clusters.proofs.Sparing.{words-same}
+use Rattle.qcow2_image.proofs.Beginning.{changed-begins}
 use Rattle.qcow2_image.proofs.ClusterSteps.{stored}
 use Rattle.qcow2_image.proofs.qcow2.Qcow2.store_content.Goals as goal
 
-pub returns : goal.returns
-returns g c =
+pub returns-clause-stores : goal.returns-clause-stores
+returns-clause-stores g c =
     let old = c.args.self.now in
     let bytes = c.args.content.now in
     subst (λ (r : Result ℕ Fault). StoresContent g.S.Storage c.args.count bytes old r c.settle_change.new.self) (sym c.settle_change.ensures.same)
     (subst (λ (d : Qcow2 g.row.S.Denot g.S.Storage). StoresContent g.S.Storage c.args.count bytes old c.store_run-stored.result d) (sym c.settle_change.ensures.marks)
-    (stored g.S.Storage old _ c.in-Some.space c.store_run-stored.new.space c.drop_cached-dropped.new.caches c.args.count bytes c.store_run-stored.result c.in-Some.is refl refl
+    (stored g.S.Storage old c.store_run-stored.new.begun _ c.in-Some.space c.store_run-stored.new.space c.drop_cached-dropped.new.caches c.args.count bytes c.store_run-stored.result c.in-Some.is refl refl
     c.requires.free c.requires.any c.store_run-stored.ensures.stores c.store_run-stored.ensures.reaches))
+
+pub returns-clause-begins : goal.returns-clause-begins
+returns-clause-begins g c =
+    let old = c.args.self.now in
+    let stored = c.store_run-stored in
+    let was = c.args.begun.now in
+    let now = stored.new.begun in
+    subst (λ (r : Result ℕ Fault). Begins g.S.Storage was old r now c.settle_change.new.self) (sym c.settle_change.ensures.same)
+    (subst (λ (d : Qcow2 g.row.S.Denot g.S.Storage). Begins g.S.Storage was old stored.result now d) (sym c.settle_change.ensures.marks)
+    (changed-begins g.S.Storage was now old _ c.in-Some.space stored.new.space c.drop_cached-dropped.new.caches stored.result c.in-Some.is refl
+    stored.ensures.stores.rests.later stored.ensures.stores.rests.faults stored.ensures.stores.rests.empty
+    (λ not. (stored.ensures.spares not, words-same old.tables.l1))))
