@@ -1,5 +1,5 @@
-"""Writes to qcow2 images over other layers, in one guest cluster each. The image is laid out at random, with each cluster counted as often as
-it is named; what its disk shows is read out of the bytes by the rules of the format alone. From there on a disk is a list of bytes: a write
+"""Writes to qcow2 images over other layers. The image is laid out at random, with each cluster counted as often as it is named; what its
+disk shows is read out of the bytes by the rules of the format alone. From there on a disk is a list of bytes: a write in one guest cluster
 changes its range at once, whatever the stop, and nothing leaks behind a flush.
 """
 from random_cases.images import COMPRESSED, COPIED, ZERO, Chain, Qcow2, Raw, header, lines_of, some_runs
@@ -163,6 +163,32 @@ def a_write(rng, disk):
     return at, n, call if refused is None else f"{call} = {refused}"
 
 
+def a_range(rng, disk):
+    """A write or zeroes over any range, or a bit past the disk's end: its line. Guest clusters are written as they rise, up to one that
+    refuses its part."""
+    at = rng.randrange(disk.size)
+    if rng.random() < 0.4:
+        at -= at % disk.cluster
+    n = rng.randint(1, min(disk.size - at, 8 * disk.cluster))
+    if rng.random() < 0.4:
+        n = min(disk.size, -(-(at + n) // disk.cluster) * disk.cluster) - at
+    if at + n == disk.size and rng.random() < 0.1:
+        n += 1
+    if rng.random() < 0.2:
+        call, data = f"zeroes {at} {n}", bytes(n)
+    else:
+        data = some_runs(rng, n)
+        while len(runs(data)) > 100:
+            data = some_runs(rng, n)
+        call = f"write {at} {runs(data)}"
+    refused = OUTSIDE if at + n > disk.size else None
+    while data and refused is None:
+        count = disk.cluster - at % disk.cluster
+        refused = disk.write(at, data[:count])
+        at, data = at + count, data[count:]
+    return call if refused is None else f"{call} = {refused}"
+
+
 def fitting(line_of, n):
     """The line of a range of n bytes, or of the first ones of these, if it would be too long."""
     while n > 1 and len(line_of(n)) > WIDTH:
@@ -195,22 +221,49 @@ def states(disk, seen, at, n):
     return STATES.join(texts)
 
 
-def written(rng):
-    """A chain whose top is written, by files of requests of 1 and 4,096 bytes, each stop of which is judged."""
-    layers, words, lines = a_chain(rng)
-    disk, chain = Disk(layers), " over ".join(words)
+def opened(rng, words, lines):
+    """The lines that open a chain whose top is written, by files of requests of 1 and 4,096 bytes."""
     yield from lines
     yield "keep_logs 1 4096"
     for layer in reversed(words[1:]):
         yield f"layer {layer}"
     yield f"layer {words[0]} writing{rng.choice(['', ' caches 2 2'])}"
-    for _ in range(rng.randint(3, 7)):
-        yield from some_writes(rng, disk, chain)
-        yield "forget"
-        at = rng.randrange(disk.size)
-        yield fitting(lambda n: f"read {at} {n} = {disk.shows(at, n)}", rng.randint(1, 3 * disk.cluster))
+
+
+def a_read(rng, disk):
+    at = rng.randrange(disk.size)
+    return fitting(lambda n: f"read {at} {n} = {disk.shows(at, n)}", rng.randint(1, 3 * disk.cluster))
+
+
+def flushed(rng, disk, chain):
+    """A flush, and what the files show by themselves behind it: nothing leaks."""
     yield "flush"
     yield "forget"
     for _ in range(4):
         at = rng.randrange(disk.size)
         yield fitting(lambda n: f"stops {at} {n} {chain} = 1: 0 {disk.shows(at, n)}", rng.randint(1, 3 * disk.cluster))
+
+
+def written(rng):
+    """A chain whose top is written in one guest cluster each time, each stop of which is judged."""
+    layers, words, lines = a_chain(rng)
+    disk, chain = Disk(layers), " over ".join(words)
+    yield from opened(rng, words, lines)
+    for _ in range(rng.randint(3, 7)):
+        yield from some_writes(rng, disk, chain)
+        yield "forget"
+        yield a_read(rng, disk)
+    yield from flushed(rng, disk, chain)
+
+
+def ranges(rng):
+    """A chain whose top is written over several guest clusters each time."""
+    layers, words, lines = a_chain(rng)
+    disk, chain = Disk(layers), " over ".join(words)
+    yield from opened(rng, words, lines)
+    for _ in range(rng.randint(5, 9)):
+        yield a_range(rng, disk)
+        if rng.random() < 0.2:
+            yield "flush"
+        yield a_read(rng, disk)
+    yield from flushed(rng, disk, chain)
