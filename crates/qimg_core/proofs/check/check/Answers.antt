@@ -8,8 +8,8 @@ use Rattle.qcow2_types.specs.Consistency.{leaks, is_under_counted, tables_sound,
 use Rattle.qimg_core.specs.Files.{file}
 use Rattle.qimg_core.specs.Check.{Found}
 use Rattle.qimg_core.specs.CheckParts.{HasHeader, IsUnsound, IsUnder, Tells}
-use Rattle.qimg_core.proofs.ScanLemmas.{kept-both, kept-file}
-use Rattle.qimg_core.proofs.Verdicts.{CanCheck, Named, named-since, table-verdict, shared-verdict, under-verdict, sound-verdict}
+use Rattle.qimg_core.proofs.Calls.{kept-both, kept-file}
+use Rattle.qimg_core.proofs.Counts.Verdicts.{CanCheck, Named, named-since, table-verdict, shared-verdict, under-verdict, sound-verdict}
 use Rattle.qimg_core.proofs.check.check.Goals as goal
 
 pub places_of-requires : goal.places_of-requires

@@ -1,4 +1,4 @@
-use Rattle.qimg_core.proofs.SearchLemmas.{neither}
+use Rattle.qimg_core.proofs.Names.Searches.{neither}
 use Rattle.qimg_core.proofs.check.check_shared.Goals as goal
 
 pub returns-then-is_none-clause-shared : goal.returns-then-is_none-clause-shared

@@ -6,9 +6,9 @@ use Rattle.qcow2_types.specs.Entries.{l2_table_sound}
 use Rattle.qimg_core.specs.Files.{file}
 use Rattle.qimg_core.specs.CheckParts.{AreTables, IsBlocksEnd, counted_clusters}
 use Rattle.qcow2_types.proofs.Changes.WriteBack.{place-near}
-use Rattle.qimg_core.proofs.TablesListed.{tables-placed, places-bounded, table-bytes, sound-by-list, damaged-finding}
-use Rattle.qimg_core.proofs.ImageNamed.{given-tells}
-use Rattle.qimg_core.proofs.NameLemmas.{adds-since}
+use Rattle.qimg_core.proofs.Contents.TableList.{tables-placed, places-bounded, table-bytes, sound-by-list, damaged-finding}
+use Rattle.qimg_core.proofs.Contents.Image.{given-tells}
+use Rattle.qimg_core.proofs.Names.Clusters.{adds-since}
 use Rattle.qimg_core.proofs.check.names_of.Goals as goal
 
 pub name_structure-requires-clause-l1 : goal.name_structure-requires-clause-l1

@@ -2,7 +2,7 @@ use Rattle.std.proofs.Common.{◌≡◌, ◌∙◌, refl, ap, ℕ, arith}
 use Rattle.std.specs.Prelude.{List, [], ◌∷◌}
 use Rattle.std.specs.Int.{w64, to_be_bytes}
 use Rattle.qimg_core.specs.Created.{blank, extension_bytes, l1_offset_for, first_counts}
-use Rattle.qimg_core.proofs.CreateLemmas.{piece-put, counts-none, counts-some}
+use Rattle.qimg_core.proofs.NewImages.Bytes.{piece-put, counts-none, counts-some}
 use Rattle.qimg_core.proofs.creation.put_blank.Goals as goal
 use Rattle.qimg_core.proofs.creation.put_blank.Goals.{then-entries-eq0, else-entries-eq0, then-entries-eq0-2, else-entries-eq0-2}
 use Rattle.std.proofs.lemmas.Bool.Decides.{nat_tests}

@@ -1,7 +1,7 @@
 use Rattle.std.proofs.Common.{◌+◌, ◌-◌, length, rules}
 use Rattle.std.proofs.lemmas.List.{places}
 use Rattle.imago_storage.specs.Calls.{Spliced}
-use Rattle.qimg_core.proofs.CreateLemmas.{spliced-bytes}
+use Rattle.qimg_core.proofs.NewImages.Bytes.{spliced-bytes}
 use Rattle.qimg_core.proofs.creation.put_in.Goals as goal
 use borrow.Rule.Slice.PartMut.{put_mid}
 

@@ -3,7 +3,7 @@ use Rattle.std.specs.Prelude.{take}
 use Rattle.std.proofs.lemmas.Bool.Decides.{nat_tests}
 use Rattle.qcow2_types.specs.Bytes.{bytes_of}
 use Rattle.qimg_core.specs.Created.{created, created_length, blank, l1_entries_of}
-use Rattle.qimg_core.proofs.CreateLemmas.{piece-put, zeroes-nothing, creates, created-refused}
+use Rattle.qimg_core.proofs.NewImages.Bytes.{piece-put, zeroes-nothing, creates, created-refused}
 use Rattle.qimg_core.proofs.creation.write_new.Goals as goal
 use Rattle.qimg_core.proofs.creation.write_new.Goals.{then-size-eq0, else-size-eq0}
 

@@ -1,9 +1,9 @@
 use Rattle.std.proofs.Common.{◌≤◌, arith, false}
 use Rattle.qcow2_types.proofs.Fields.HeaderLimits.{header-limited}
 use Rattle.qimg_core.specs.Files.{file}
-use Rattle.qimg_core.proofs.PlainTables.{l1-place}
-use Rattle.qimg_core.proofs.FewerWords.{cluster-at, l1-sound, l1-refused}
-use Rattle.qimg_core.proofs.TablePlaces.{first-words}
+use Rattle.qimg_core.proofs.Tables.Places.{l1-place}
+use Rattle.qimg_core.proofs.Tables.FewerWords.{cluster-at, l1-sound, l1-refused}
+use Rattle.qimg_core.proofs.Tables.TablePlaces.{first-words}
 use Rattle.qimg_core.proofs.plain.load_l1.Goals as goal
 
 pub words_before-words-requires : goal.words_before-words-requires

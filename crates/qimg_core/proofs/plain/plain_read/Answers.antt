@@ -1,7 +1,7 @@
 use Rattle.std.proofs.Common.{◌≡◌, ◌<◌, length, get_or, refl, ap, sym, subst, inl, arith, rules}
 use Rattle.std.specs.Prelude.{slice_set}
 use Rattle.qimg_core.specs.Plain.{seen_files, extras_of, faults_of, FilesKept}
-use Rattle.qimg_core.proofs.PlainFiles.{files-kept, none-refuses, none-must, several-refuse, several-must, one-read, one-unread, one-must, one-kept, one-extras, one-faults, other-refuses, other-must, same-file, not-qcow2}
+use Rattle.qimg_core.proofs.PlainReads.Files.{files-kept, none-refuses, none-must, several-refuse, several-must, one-read, one-unread, one-must, one-kept, one-extras, one-faults, other-refuses, other-must, same-file, not-qcow2}
 use Rattle.qimg_core.proofs.plain.plain_read.Goals as goal
 
 pub returns-then-is_empty-clause-err : goal.returns-then-is_empty-clause-err

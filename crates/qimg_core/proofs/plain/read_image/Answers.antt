@@ -6,8 +6,8 @@ use Rattle.qcow2_types.specs.Bytes.{Bytes}
 use Rattle.qcow2_types.specs.Entries.{l1_table_sound}
 use Rattle.qimg_core.specs.Files.{file}
 use Rattle.qimg_core.specs.Plain.{alone_fault}
-use Rattle.qimg_core.proofs.ScanLemmas.{kept-both, kept-file}
-use Rattle.qimg_core.proofs.PlainImage.{alone-unread, range-unread, disk-read, disk-unread, sum-fits, sum-passes}
+use Rattle.qimg_core.proofs.Calls.{kept-both, kept-file}
+use Rattle.qimg_core.proofs.PlainReads.Image.{alone-unread, range-unread, disk-read, disk-unread, sum-fits, sum-passes}
 use Rattle.qimg_core.proofs.plain.read_image.Goals as goal
 
 pub returns-clause-ok : goal.returns-clause-ok

@@ -1,7 +1,7 @@
 -- The block that a word of the refcount table names.
 use Rattle.std.proofs.Common.{◌∙◌, ◌/◌, ◌^◌, ap, arith}
 use Rattle.std.specs.Prelude.{slice_index}
-use Rattle.qimg_core.proofs.CountedBlocks.{holds-none, holds-missing, holds-past, holds-loaded}
+use Rattle.qimg_core.proofs.Counts.Blocks.{holds-none, holds-missing, holds-past, holds-loaded}
 use Rattle.qimg_core.proofs.check.counts.block_of.Goals as goal
 use Rattle.qimg_core.proofs.check.counts.block_of.Goals.{then-index-blocks-via-then-index-blocks, then-index-blocks-via-else-index-blocks+then-blocks-index-eq0, then-index-blocks-via-else-index-blocks+else-blocks-index-eq0+then-size-blocks}
 

@@ -7,8 +7,8 @@ use Rattle.qcow2_types.specs.Counts.{counters_of_block}
 use Rattle.qcow2_types.proofs.Counting.Counters.{some-counters}
 use Rattle.qimg_core.specs.Files.{file}
 use Rattle.qimg_core.specs.CheckParts.{Tells, AreCompared}
-use Rattle.qimg_core.proofs.ScanLemmas.{kept-both, kept-none, kept-file}
-use Rattle.qimg_core.proofs.Compared.{compared-start, rest-under, rest-counted, rest-leaks, under-since, uncounted-finding}
+use Rattle.qimg_core.proofs.Calls.{kept-both, kept-none, kept-file}
+use Rattle.qimg_core.proofs.Counts.Comparison.{compared-start, rest-under, rest-counted, rest-leaks, under-since, uncounted-finding}
 use Rattle.qimg_core.proofs.check.counts.compare.Goals as goal
 
 pub loop-index-init : goal.loop-index-init

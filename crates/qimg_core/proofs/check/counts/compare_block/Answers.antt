@@ -8,7 +8,7 @@ use Rattle.qimg_core.specs.Names.{times_at}
 use Rattle.qimg_core.specs.Files.{file}
 use Rattle.qimg_core.specs.CheckParts.{HoldsCounters, AreCompared}
 use Rattle.qimg_core.specs.Searches.{IsAlong}
-use Rattle.qimg_core.proofs.Compared.{gap-under, gap-compared, counter-under, counter-leak, counter-equal, uncounted-finding}
+use Rattle.qimg_core.proofs.Counts.Comparison.{gap-under, gap-compared, counter-under, counter-leak, counter-equal, uncounted-finding}
 use Rattle.qimg_core.proofs.check.counts.compare_block.Goals as goal
 use Rattle.qimg_core.proofs.check.counts.compare_block.Goals.{then-references-count+in_ok-push, else-references-count}
 

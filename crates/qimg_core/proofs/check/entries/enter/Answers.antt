@@ -1,6 +1,6 @@
 use Rattle.std.proofs.Common.{refl, arith, ap, ◌∙◌, length}
 use Rattle.std.proofs.lemmas.List.{length_push}
-use Rattle.qimg_core.proofs.EntryLemmas.{EntersDigits, adds-skip, adds-push, digits-reach}
+use Rattle.qimg_core.proofs.Names.Entries.{EntersDigits, adds-skip, adds-push, digits-reach}
 use Rattle.qimg_core.proofs.check.entries.enter.Goals as goal
 use Rattle.qimg_core.proofs.check.entries.enter.Goals.{then-digit-ne0+in_ok-push, else-digit-ne0}
 

@@ -1,4 +1,4 @@
-use Rattle.qimg_core.proofs.EntryLemmas.{EntersDigits}
+use Rattle.qimg_core.proofs.Names.Entries.{EntersDigits}
 use Rattle.qimg_core.proofs.check.entries.enter.Given as goal
 
 -- the lower digits are entered

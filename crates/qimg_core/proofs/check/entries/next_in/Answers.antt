@@ -1,4 +1,4 @@
-use Rattle.qimg_core.proofs.EntryLemmas.{cut-next, cut-end, cut-named}
+use Rattle.qimg_core.proofs.Names.Entries.{cut-next, cut-end, cut-named}
 use Rattle.qimg_core.proofs.check.entries.next_in.Goals as goal
 
 pub returns-then-cut-list-clause-next : goal.returns-then-cut-list-clause-next

@@ -5,7 +5,7 @@ use Rattle.std.proofs.lemmas.Nat.{shl_whole}
 use Rattle.std.proofs.lemmas.List.Sums.{sum_by-take-le}
 use Rattle.std.proofs.lemmas.Bool.{cases_lt}
 use Rattle.qimg_core.specs.Names.{cluster_of, weight_in, weight_of}
-use Rattle.qimg_core.proofs.EntryLemmas.{sum-start, sum-more, sum-end, weight-few}
+use Rattle.qimg_core.proofs.Names.Entries.{sum-start, sum-more, sum-end, weight-few}
 use Rattle.qimg_core.proofs.check.entries.weight_from.Goals as goal
 
 pub loop-i-init : goal.loop-i-init

@@ -1,5 +1,5 @@
 use Rattle.std.proofs.lemmas.Result.{on_ok_weaker}
-use Rattle.qimg_core.proofs.NameLemmas.{adds-entry}
+use Rattle.qimg_core.proofs.Names.Clusters.{adds-entry}
 use Rattle.qimg_core.proofs.check.names.enter_other.Goals as goal
 
 pub returns-clause-ok : goal.returns-clause-ok

@@ -2,7 +2,7 @@ use Rattle.std.proofs.Common.{arith, refl, sym, subst, ◌∙◌, IsSome, true�
 use Rattle.std.proofs.lemmas.List.{get_or_default}
 use Rattle.std.proofs.lemmas.Result.{on_ok_weaker}
 use Rattle.qimg_core.specs.Names.{HasRoom, HasRoomAt, no_few_times, cell_at}
-use Rattle.qimg_core.proofs.NameLemmas.{adds-in-cell, adds-in-entry}
+use Rattle.qimg_core.proofs.Names.Clusters.{adds-in-cell, adds-in-entry}
 use Rattle.qimg_core.proofs.check.names.name_cluster.Goals as goal
 use Rattle.qimg_core.proofs.check.names.name_cluster.Goals.{then-cluster-len+in_default, else-cluster-len}
 

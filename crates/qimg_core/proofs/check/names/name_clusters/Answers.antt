@@ -1,4 +1,4 @@
-use Rattle.qimg_core.proofs.NameLemmas.{adds-none, adds-more}
+use Rattle.qimg_core.proofs.Names.Clusters.{adds-none, adds-more}
 use Rattle.qimg_core.proofs.check.names.name_clusters.Goals as goal
 
 pub loop-cluster-init : goal.loop-cluster-init

@@ -1,6 +1,6 @@
 use Rattle.std.proofs.Common.{◌<◌, ◌+◌, ◌-◌, ◌/◌, ◌^◌, arith, ap, ◌∙◌}
 use Rattle.std.proofs.lemmas.Result.{on_ok_weaker}
-use Rattle.qimg_core.proofs.RangeLemmas.{adds-range, cluster-small}
+use Rattle.qimg_core.proofs.Names.Ranges.{adds-range, cluster-small}
 use Rattle.qimg_core.proofs.check.names.name_range.Goals as goal
 
 pub name_clusters-requires-clause-below : goal.name_clusters-requires-clause-below

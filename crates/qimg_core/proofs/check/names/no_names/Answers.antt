@@ -1,4 +1,4 @@
-use Rattle.qimg_core.proofs.NameLemmas.{no-names, no-others}
+use Rattle.qimg_core.proofs.Names.Clusters.{no-names, no-others}
 use Rattle.qimg_core.proofs.check.names.no_names.Goals as goal
 
 pub returns-clause-ok : goal.returns-clause-ok

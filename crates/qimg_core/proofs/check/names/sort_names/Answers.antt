@@ -1,5 +1,5 @@
 use Rattle.std.proofs.Common.{refl}
-use Rattle.qimg_core.proofs.NameLemmas.{sorted-same, sorted-spares, sorted-rising}
+use Rattle.qimg_core.proofs.Names.Clusters.{sorted-same, sorted-spares, sorted-rising}
 use Rattle.qimg_core.proofs.check.names.sort_names.Goals as goal
 
 pub returns-clause-same : goal.returns-clause-same

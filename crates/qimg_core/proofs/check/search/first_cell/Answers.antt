@@ -1,7 +1,7 @@
 use Rattle.std.proofs.Common.{arith}
 use Rattle.qimg_core.specs.Names.{all_times}
 use Rattle.qimg_core.specs.Searches.{is_such}
-use Rattle.qimg_core.proofs.SearchLemmas.{such-is, none-at-start, none-next, first-here}
+use Rattle.qimg_core.proofs.Names.Searches.{such-is, none-at-start, none-next, first-here}
 use Rattle.qimg_core.proofs.check.search.first_cell.Goals as goal
 
 pub loop-cluster-init : goal.loop-cluster-init

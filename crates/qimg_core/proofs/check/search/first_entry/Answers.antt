@@ -1,7 +1,7 @@
 use Rattle.std.proofs.Common.{◌<◌, subst, sym}
 use Rattle.qimg_core.specs.Names.{all_times}
 use Rattle.qimg_core.specs.Searches.{is_such}
-use Rattle.qimg_core.proofs.SearchLemmas.{IsAhead, ahead-first, ahead-next, along-at, left, left-less, such-is, none-until, none-bounded, first-here}
+use Rattle.qimg_core.proofs.Names.Searches.{IsAhead, ahead-first, ahead-next, along-at, left, left-less, such-is, none-until, none-bounded, first-here}
 use Rattle.qimg_core.proofs.check.search.first_entry.Goals as goal
 
 pub loop-way-init : goal.loop-way-init

@@ -1,7 +1,7 @@
 use Rattle.std.proofs.Common.{◌≡◌, ℕ}
 use Rattle.std.specs.Prelude.{Some}
 use Rattle.qimg_core.specs.Searches.{IsAlong}
-use Rattle.qimg_core.proofs.SearchLemmas.{IsAhead, left}
+use Rattle.qimg_core.proofs.Names.Searches.{IsAhead, left}
 use Rattle.qimg_core.proofs.check.search.first_entry.Given as goal
 
 -- no cluster before the next one passes, to which the way has come

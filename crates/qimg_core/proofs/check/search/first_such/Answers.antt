@@ -1,5 +1,5 @@
 use Rattle.qimg_core.specs.Searches.{is_such}
-use Rattle.qimg_core.proofs.SearchLemmas.{first-of-cells, first-of-both}
+use Rattle.qimg_core.proofs.Names.Searches.{first-of-cells, first-of-both}
 use Rattle.qimg_core.proofs.check.search.first_such.Goals as goal
 
 pub returns-in-Some : goal.returns-in-Some

@@ -1,5 +1,5 @@
 use Rattle.qimg_core.specs.Searches.{is_such}
-use Rattle.qimg_core.proofs.SearchLemmas.{over-all}
+use Rattle.qimg_core.proofs.Names.Searches.{over-all}
 use Rattle.qimg_core.proofs.check.search.least_such.Goals as goal
 
 pub returns : goal.returns

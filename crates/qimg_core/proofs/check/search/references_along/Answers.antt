@@ -3,8 +3,8 @@ use Rattle.std.specs.Prelude.{Some}
 use Rattle.std.proofs.lemmas.Grind.{common_steps}
 use Rattle.qimg_core.specs.declared.check.names.Times.{Times}
 use Rattle.qimg_core.specs.Names.{cell_at}
-use Rattle.qimg_core.proofs.NameLemmas.{cell-alone}
-use Rattle.qimg_core.proofs.SearchLemmas.{along-none, along-other}
+use Rattle.qimg_core.proofs.Names.Clusters.{cell-alone}
+use Rattle.qimg_core.proofs.Names.Searches.{along-none, along-other}
 use Rattle.qimg_core.proofs.check.search.references_along.Goals as goal
 
 pub returns-clause-value : goal.returns-clause-value

@@ -2,7 +2,7 @@ use Rattle.std.proofs.Common.{ap, subst, ◌+◌, ◌∙◌}
 use Rattle.std.specs.Prelude.{Some}
 use Rattle.qimg_core.specs.Names.{cell_at, weight_of}
 use Rattle.qimg_core.specs.Searches.{IsCut}
-use Rattle.qimg_core.proofs.NameLemmas.{together-is}
+use Rattle.qimg_core.proofs.Names.Clusters.{together-is}
 use Rattle.qimg_core.proofs.check.search.times_listed.Goals as goal
 
 pub returns-clause-value : goal.returns-clause-value

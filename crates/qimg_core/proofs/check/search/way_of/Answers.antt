@@ -1,7 +1,7 @@
 use Rattle.std.proofs.Common.{subst}
 use Rattle.std.specs.Prelude.{Some, IfSome}
 use Rattle.qimg_core.specs.Searches.{IsListed, IsCut, IsFrom}
-use Rattle.qimg_core.proofs.SearchLemmas.{along-cuts}
+use Rattle.qimg_core.proofs.Names.Searches.{along-cuts}
 use Rattle.qimg_core.proofs.check.search.way_of.Goals as goal
 
 pub returns : goal.returns

@@ -1,5 +1,5 @@
 use Rattle.qimg_core.specs.Files.{file}
-use Rattle.qimg_core.proofs.BlockPlaces.{BlocksTo}
+use Rattle.qimg_core.proofs.Tables.BlockPlaces.{BlocksTo}
 use Rattle.qimg_core.proofs.check.tables.block_places.Given as goal
 
 -- the places that the words before this one name are pushed

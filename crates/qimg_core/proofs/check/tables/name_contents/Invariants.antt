@@ -1,4 +1,4 @@
-use Rattle.qimg_core.proofs.ContentsNamed.{NamedTo}
+use Rattle.qimg_core.proofs.Contents.L2Tables.{NamedTo}
 use Rattle.qimg_core.proofs.check.tables.name_contents.Given as goal
 
 -- the tables at the places before this one are named

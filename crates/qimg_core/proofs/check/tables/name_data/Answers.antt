@@ -1,7 +1,7 @@
 use Rattle.std.proofs.Common.{◌+◌, subst}
 use Rattle.std.proofs.lemmas.Result.{on_ok_weaker}
 use Rattle.qimg_core.specs.Names.{AddsClusters}
-use Rattle.qimg_core.proofs.RangeLemmas.{adds-data}
+use Rattle.qimg_core.proofs.Names.Ranges.{adds-data}
 use Rattle.qimg_core.proofs.check.tables.name_data.Goals as goal
 use Rattle.qimg_core.proofs.check.tables.name_data.Goals.{then-copied, else-copied}
 

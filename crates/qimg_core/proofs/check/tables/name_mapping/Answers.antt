@@ -3,7 +3,7 @@ use Rattle.qcow2_types.specs.Words.{max_offset}
 use Rattle.qcow2_metadata.specs.MappingView.{IsNamed, mapping_seen}
 use Rattle.qcow2_metadata.specs.declared.mapping.L2Mapping.TheVariants.{Zero}
 use Rattle.qimg_core.specs.Entering.{AddsMapping}
-use Rattle.qimg_core.proofs.RangeLemmas.{named-small}
+use Rattle.qimg_core.proofs.Names.Ranges.{named-small}
 use Rattle.qimg_core.proofs.check.tables.name_mapping.Goals as goal
 
 pub name_data-requires : goal.name_data-requires

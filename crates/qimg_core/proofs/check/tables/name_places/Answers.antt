@@ -1,5 +1,5 @@
 use Rattle.std.proofs.Common.{◌<◌, arith, length, refl}
-use Rattle.qimg_core.proofs.PlacesNamed.{adds-no-places, adds-no-place, adds-place, adds-all-places}
+use Rattle.qimg_core.proofs.Contents.Places.{adds-no-places, adds-no-place, adds-place, adds-all-places}
 use Rattle.qimg_core.proofs.check.tables.name_places.Goals as goal
 use Rattle.qimg_core.proofs.check.tables.name_places.Goals.{then-places-i-ne0+in_ok-name_range, else-places-i-ne0}
 

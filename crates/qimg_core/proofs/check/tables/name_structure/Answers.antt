@@ -1,5 +1,5 @@
 use Rattle.std.proofs.lemmas.Result.{on_ok_weaker}
-use Rattle.qimg_core.proofs.PlacesNamed.{adds_structure}
+use Rattle.qimg_core.proofs.Contents.Places.{adds_structure}
 use Rattle.qimg_core.proofs.check.tables.name_structure.Goals as goal
 
 pub returns-clause-ok : goal.returns-clause-ok

@@ -1,9 +1,9 @@
 use Rattle.std.proofs.Common.{refl, arith}
 use Rattle.std.proofs.lemmas.Result.{on_ok_weaker}
 use Rattle.qimg_core.specs.Files.{file}
-use Rattle.qimg_core.proofs.FewerWords.{cluster-at}
-use Rattle.qimg_core.proofs.L2Words.{l2-sound}
-use Rattle.qimg_core.proofs.TableNamed.{adds-table, adds-past, past-sound, l2-begin, l2-words, l2-finding}
+use Rattle.qimg_core.proofs.Tables.FewerWords.{cluster-at}
+use Rattle.qimg_core.proofs.Tables.L2Words.{l2-sound}
+use Rattle.qimg_core.proofs.Contents.L2Table.{adds-table, adds-past, past-sound, l2-begin, l2-words, l2-finding}
 use Rattle.qimg_core.proofs.check.tables.name_table.Goals as goal
 
 pub returns-then-size-place-clause-ok : goal.returns-then-size-place-clause-ok

@@ -1,7 +1,7 @@
 use Rattle.std.proofs.Common.{◌<◌, arith, length}
 use Rattle.qcow2_types.specs.Header.{words_of_cluster}
 use Rattle.qcow2_metadata.specs.MappingView.{mapping_seen}
-use Rattle.qimg_core.proofs.WordsNamed.{adds-word, adds-no-words, word-meant, adds-all-words}
+use Rattle.qimg_core.proofs.Contents.Words.{adds-word, adds-no-words, word-meant, adds-all-words}
 use Rattle.qimg_core.proofs.check.tables.name_words.Goals as goal
 
 pub loop-index-init : goal.loop-index-init

@@ -1,6 +1,6 @@
 use Rattle.std.proofs.Common.{sym, subst}
 use Rattle.qimg_core.specs.CheckParts.{HasHeader}
-use Rattle.qimg_core.proofs.ScanLemmas.{kept-file}
+use Rattle.qimg_core.proofs.Calls.{kept-file}
 use Rattle.qimg_core.proofs.check.tables.places_of.Goals as goal
 
 pub block_places-requires : goal.block_places-requires

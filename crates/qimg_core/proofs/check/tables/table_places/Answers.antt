@@ -5,11 +5,11 @@ use Rattle.qcow2_types.specs.Entries.{l2_table}
 use Rattle.qcow2_types.proofs.Counting.Consistent.{header-reading}
 use Rattle.qcow2_types.proofs.Fields.HeaderLimits.{header-limited}
 use Rattle.qimg_core.specs.Files.{file}
-use Rattle.qimg_core.proofs.FewerWords.{cluster-at, loaded-count, loaded-word, l1-finding, l1-sound-by-first}
-use Rattle.qimg_core.proofs.PlainTables.{l1-place, some-place, none-place}
+use Rattle.qimg_core.proofs.Tables.FewerWords.{cluster-at, loaded-count, loaded-word, l1-finding, l1-sound-by-first}
+use Rattle.qimg_core.proofs.Tables.Places.{l1-place, some-place, none-place}
 use Rattle.qimg_core.proofs.check.tables.table_places.Goals as goal
 use Rattle.qimg_core.proofs.check.tables.table_places.Goals.{in-Some+in_ok-push, in_default}
-use Rattle.qimg_core.proofs.TablePlaces.{tables-pushed, tables-skip, tables-all, l2-loaded}
+use Rattle.qimg_core.proofs.Tables.TablePlaces.{tables-pushed, tables-skip, tables-all, l2-loaded}
 
 pub words_before-words-requires : goal.words_before-words-requires
 words_before-words-requires g c = let limited : Limited c.args.header.now.fields = header-limited true _ _ c.requires.loads.1 in omega (arith, limited.l1_entries, c.l1_table_entries.ensures)

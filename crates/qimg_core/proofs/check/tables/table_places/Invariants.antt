@@ -1,6 +1,6 @@
 use Rattle.std.proofs.Common.{◌≡◌}
 use Rattle.qimg_core.specs.Files.{file}
-use Rattle.qimg_core.proofs.TablePlaces.{tables_to}
+use Rattle.qimg_core.proofs.Tables.TablePlaces.{tables_to}
 use Rattle.qimg_core.proofs.check.tables.table_places.Given as goal
 
 -- the places that the words before this one name are pushed

@@ -7,8 +7,8 @@ use Rattle.qcow2_metadata.specs.MappingView.{mapping_seen}
 use Rattle.qcow2_metadata.specs.Tables.{TableValue}
 use Rattle.qimg_core.specs.Files.{file}
 use Rattle.qimg_core.specs.Plain.{NotShown, mapped_value, table_value}
-use Rattle.qimg_core.proofs.ScanLemmas.{kept-file}
-use Rattle.qimg_core.proofs.PlainReads.{shown-more, shown-short, div-near}
+use Rattle.qimg_core.proofs.Calls.{kept-file}
+use Rattle.qimg_core.proofs.PlainReads.Pieces.{shown-more, shown-short, div-near}
 use Rattle.qimg_core.proofs.plain.pieces.read_clusters.Goals as goal
 
 -- places of one guest cluster have one mapping

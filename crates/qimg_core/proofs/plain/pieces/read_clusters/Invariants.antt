@@ -1,7 +1,7 @@
 use Rattle.std.proofs.Common.{◌-◌, length}
 use Rattle.qimg_core.specs.Files.{file}
 use Rattle.qimg_core.specs.Plain.{table_value}
-use Rattle.qimg_core.proofs.PlainReads.{ShownSoFar}
+use Rattle.qimg_core.proofs.PlainReads.Pieces.{ShownSoFar}
 use Rattle.qimg_core.proofs.plain.pieces.read_clusters.Given as goal
 
 abbrev pub invariant-loop-done : goal.invariant-loop-done

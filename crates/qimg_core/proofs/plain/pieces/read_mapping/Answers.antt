@@ -4,7 +4,7 @@ use Rattle.imago_storage.specs.Disk.{Shows}
 use Rattle.qcow2_metadata.specs.MappingView.{mapping_seen}
 use Rattle.qimg_core.specs.Files.{file}
 use Rattle.qimg_core.specs.Plain.{mapped_value}
-use Rattle.qimg_core.proofs.PlainReads.{data-shown, counts-unshown}
+use Rattle.qimg_core.proofs.PlainReads.Pieces.{data-shown, counts-unshown}
 use Rattle.qimg_core.proofs.plain.pieces.read_mapping.Goals as goal
 
 pub returns-in-DataFile-clause-ok : goal.returns-in-DataFile-clause-ok

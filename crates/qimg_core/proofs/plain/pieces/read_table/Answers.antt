@@ -5,8 +5,8 @@ use Rattle.qcow2_types.specs.Places.{l2_entries}
 use Rattle.qcow2_metadata.specs.Tables.{place_or_none}
 use Rattle.qimg_core.specs.Files.{file}
 use Rattle.qimg_core.specs.Plain.{image_value, table_value}
-use Rattle.qimg_core.proofs.ScanLemmas.{kept-file}
-use Rattle.qimg_core.proofs.PlainTables.{none-shown, table-place, loaded-values, table-refused, shown-as, unshown-as}
+use Rattle.qimg_core.proofs.Calls.{kept-file}
+use Rattle.qimg_core.proofs.PlainReads.Tables.{none-shown, table-place, loaded-values, table-refused, shown-as, unshown-as}
 use Rattle.qimg_core.proofs.plain.pieces.read_table.Goals as goal
 
 -- the indices and the word that the code has them as

@@ -2,8 +2,8 @@ use Rattle.std.proofs.Common.{◌≡◌, ℕ, ◌+◌, ◌-◌, ◌≤◌, lengt
 use Rattle.qcow2_types.specs.Bytes.{Bytes}
 use Rattle.qimg_core.specs.Files.{file}
 use Rattle.qimg_core.specs.Plain.{NotShown, image_value}
-use Rattle.qimg_core.proofs.ScanLemmas.{kept-file}
-use Rattle.qimg_core.proofs.PlainReads.{shown-short}
+use Rattle.qimg_core.proofs.Calls.{kept-file}
+use Rattle.qimg_core.proofs.PlainReads.Pieces.{shown-short}
 use Rattle.qimg_core.proofs.plain.pieces.read_tables.Goals as goal
 
 pub returns-in-Err-clause-err : goal.returns-in-Err-clause-err

@@ -16,7 +16,7 @@ use Rattle.qimg_core.specs.Names.{named_by, structure_part, mapped_part, times_a
 use Rattle.qimg_core.specs.Searches.{is_such}
 use Rattle.qimg_core.specs.CheckParts.{Tells, IsUnsound, SharesFirst, IsUnder}
 use Rattle.qimg_core.specs.Check.{Found, IsFinding}
-use Rattle.qimg_core.proofs.ScanLemmas.{kept-both, kept-file}
+use Rattle.qimg_core.proofs.Calls.{kept-both, kept-file}
 
 -- What is asked of the names is what is asked of the file.
 module _ (f : Bytes) (h : Fields) (names : Tallies) (told : Tells f h names) where

@@ -15,8 +15,8 @@ use Rattle.qcow2_metadata.proofs.TableFacts.{words_long, words_at}
 use Rattle.imago_storage.specs.declared.fault.Fault.{Fault}
 use Rattle.qimg_core.specs.CheckParts.{tables_of}
 use Rattle.qimg_core.specs.Plain.{NamesTables}
-use Rattle.qimg_core.proofs.PlainTables.{l1-place}
-use Rattle.qimg_core.proofs.FewerWords.{past-word}
+use Rattle.qimg_core.proofs.Tables.Places.{l1-place}
+use Rattle.qimg_core.proofs.Tables.FewerWords.{past-word}
 
 -- the places that the first n words name
 abbrev pub tables_to : Bytes → Fields → ℕ → List ℕ

@@ -22,8 +22,8 @@ use Rattle.qimg_core.specs.Files.{file}
 use Rattle.qimg_core.specs.CheckParts.{IsUnsound, fault_of_load}
 use Rattle.qimg_core.specs.Check.{Found}
 use Rattle.qimg_core.specs.Plain.{NoL1}
-use Rattle.qimg_core.proofs.PlainTables.{l1-place}
-use Rattle.qimg_core.proofs.ScanLemmas.{tests-miss}
+use Rattle.qimg_core.proofs.Tables.Places.{l1-place}
+use Rattle.qimg_core.proofs.Tables.Tests.{tests-miss}
 
 -- the cluster where a table begins, by what is read of the header
 pub cluster-at : (cluster place bits place' bits' : ℕ) → cluster ≡ place / 2 ^ bits → place ≡ place' → bits ≡ bits' → cluster ≡ place' / 2 ^ bits'

@@ -14,8 +14,8 @@ use Rattle.qimg_core.specs.declared.check.search.Way.{Way}
 use Rattle.qimg_core.specs.declared.check.search.Question.TheVariants.{Shared, FalselyCopied, Either, AtAll}
 use Rattle.qimg_core.specs.Names.{no_times, no_few_times, cell_at, cluster_of, other_at, together, times_at, weight_of}
 use Rattle.qimg_core.specs.Searches.{passes, is_such, IsBelow, NoneWithin, IsFirstWithin, IsListed, IsEntry, IsFrom, IsCut, IsAlong}
-use Rattle.qimg_core.proofs.NameLemmas.{as-times}
-use Rattle.qimg_core.proofs.EntryLemmas.{weight-none}
+use Rattle.qimg_core.proofs.Names.Clusters.{as-times}
+use Rattle.qimg_core.proofs.Names.Entries.{weight-none}
 
 -- the next cluster of a list isn't before the least of them
 not-before : (next one : Option ℕ) (n : ℕ) → ((c : ℕ) → IsBelow next c → IsBelow one c) → IsSomeAnd one (λ e. e ≤ n) → IsSomeAnd next (λ e. e ≤ n)

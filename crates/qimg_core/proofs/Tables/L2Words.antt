@@ -8,7 +8,7 @@ use Rattle.qcow2_types.specs.Entries.{l2_mapping, l2_table_sound}
 use Rattle.qcow2_types.proofs.Counting.Sound.{all-below-holds}
 use Rattle.qcow2_metadata.specs.Tables.{AreSound, HasUnsound, words_in, l2_words}
 use Rattle.qcow2_metadata.proofs.TableFacts.{words_long, words_at}
-use Rattle.qimg_core.proofs.ScanLemmas.{tests-miss}
+use Rattle.qimg_core.proofs.Tables.Tests.{tests-miss}
 
 module _ (f : Bytes) (h : Fields) (place cluster : ℕ) (begin : cluster * cluster_size h ≡ place) where
   -- a word as it is in the file

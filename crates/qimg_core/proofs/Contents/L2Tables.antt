@@ -22,7 +22,7 @@ use Rattle.qimg_core.specs.Files.{file}
 use Rattle.qimg_core.specs.Names.{KeepsCells, SparesLists, named_by, structure_part, mapped_part, copied_part}
 use Rattle.qimg_core.specs.CheckParts.{IsDamagedTable, IsOneDamaged, AreTables, sum_over}
 use Rattle.qimg_core.specs.Check.{Found}
-use Rattle.qimg_core.proofs.PlacesNamed.{places-step}
+use Rattle.qimg_core.proofs.Contents.Places.{places-step}
 use Rattle.qimg_core.specs.Entering.{AddsTable, AddsTables}
 
 -- What the tables at the first i places name is entered, but for the last of them, so many, which are all at the place that follows.

@@ -24,8 +24,8 @@ use Rattle.qimg_core.specs.Entering.{AddsWords, AddsTable}
 use Rattle.qimg_core.specs.Names.{named_by, mapped_part, copied_part}
 use Rattle.qimg_core.specs.CheckParts.{IsDamagedTable, words_over, fault_of_load}
 use Rattle.qimg_core.specs.Check.{Found}
-use Rattle.qimg_core.proofs.FewerWords.{past-word}
-use Rattle.qimg_core.proofs.L2Words.{l2-unsound}
+use Rattle.qimg_core.proofs.Tables.FewerWords.{past-word}
+use Rattle.qimg_core.proofs.Tables.L2Words.{l2-unsound}
 use Rattle.qcow2_types.proofs.Changes.WriteBack.{place-whole}
 
 -- the sum over the first n words

@@ -26,8 +26,8 @@ use Rattle.qimg_core.specs.Files.{file}
 use Rattle.qimg_core.specs.CheckParts.{tables_of, sum_over, AreTables, IsUnsound, IsOneDamaged}
 use Rattle.qimg_core.specs.Check.{Found}
 use Rattle.qcow2_types.proofs.Changes.WriteBack.{place-near}
-use Rattle.qimg_core.proofs.TablePlaces.{tables_to, tables-more, tables-skip}
-use Rattle.qimg_core.proofs.ScanLemmas.{tests-miss, not-same}
+use Rattle.qimg_core.proofs.Tables.TablePlaces.{tables_to, tables-more, tables-skip}
+use Rattle.qimg_core.proofs.Tables.Tests.{tests-miss, not-same}
 
 module _ (f : Bytes) (h : Fields) where
   -- no word, no table

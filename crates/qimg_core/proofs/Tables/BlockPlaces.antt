@@ -23,9 +23,9 @@ use Rattle.qimg_core.specs.Files.{file}
 use Rattle.qcow2_types.proofs.Numbers.WordLemmas.{zero-place}
 use Rattle.qimg_core.specs.CheckParts.{IsUnsound, IsBlocks, fault_of_load}
 use Rattle.qimg_core.specs.Check.{Found}
-use Rattle.qimg_core.proofs.FewerWords.{past-word}
+use Rattle.qimg_core.proofs.Tables.FewerWords.{past-word}
 use Rattle.qcow2_types.proofs.Changes.WriteBack.{place-whole, place-near}
-use Rattle.qimg_core.proofs.ScanLemmas.{tests-miss}
+use Rattle.qimg_core.proofs.Tables.Tests.{tests-miss}
 
 -- a damaged refcount table
 blocks-damaged : (f : Bytes) (h : Fields) → refcount_table_sound f h ≡ false → tables_sound f h ≡ false

@@ -13,8 +13,8 @@ use Rattle.qimg_core.specs.declared.check.names.Tallies.{Tallies}
 use Rattle.qimg_core.specs.Names.{TellsNothing, named_by, structure_part, mapped_part, copied_part}
 use Rattle.qimg_core.specs.CheckParts.{Tells, HoldsPlaces, tables_of, sum_over, structure_over}
 use Rattle.qimg_core.specs.Entering.{AddsStructure, AddsTables}
-use Rattle.qimg_core.proofs.ScanLemmas.{not-same}
-use Rattle.qimg_core.proofs.TablesListed.{sum-tables, sum-list}
+use Rattle.qimg_core.proofs.Tables.Tests.{not-same}
+use Rattle.qimg_core.proofs.Contents.TableList.{sum-tables, sum-list}
 
 module _ (f : Bytes) (H : Header) (tables blocks : List ℕ) (holds : HoldsPlaces f H.fields tables blocks) where
   -- by the list of tables, the sum over all L2 tables

@@ -10,8 +10,8 @@ use Rattle.imago_access.specs.declared.format.Format.{Format}
 use Rattle.imago_access.specs.declared.format.Format.TheVariants.{Raw, Qcow2, Vmdk}
 use Rattle.qimg_core.specs.declared.plain.ChainFile.{ChainFile}
 use Rattle.qimg_core.specs.Plain.{SeenFile, seen_files, extras_of, faults_of, FilesKept, Refuses, FileRefuses, IsPlainRead, IsFileRead, NotPlainRead, MustRefuse, IsImageRead, NotImageRead}
-use Rattle.qimg_core.proofs.ScanLemmas.{kept-none}
-use Rattle.qimg_core.proofs.PlainImage.{image-must}
+use Rattle.qimg_core.proofs.Calls.{kept-none}
+use Rattle.qimg_core.proofs.PlainReads.Image.{image-must}
 
 -- files that nothing was asked of
 pub files-kept : (files : List SeenFile) → FilesKept files files

@@ -24,8 +24,8 @@ use Rattle.qimg_core.specs.declared.check.CheckFault.TheVariants as fault
 use Rattle.qimg_core.specs.Files.{file}
 use Rattle.qimg_core.specs.CheckParts.{Tells, IsBlocks, HoldsCounters, AreCompared, IsUnder, NamesFirst}
 use Rattle.qimg_core.specs.Check.{Found}
-use Rattle.qimg_core.proofs.ScanLemmas.{kept-file}
-use Rattle.qimg_core.proofs.Verdicts.{named-refs, named-same}
+use Rattle.qimg_core.proofs.Calls.{kept-file}
+use Rattle.qimg_core.proofs.Counts.Verdicts.{named-refs, named-same}
 
 module _ (f : Bytes) (h : Fields) where
   -- nothing is compared yet

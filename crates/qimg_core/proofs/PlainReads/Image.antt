@@ -17,8 +17,8 @@ use Rattle.qcow2_types.specs.Entries.{l1_table_sound}
 use Rattle.qcow2_metadata.specs.Loading.{NotLoaded}
 use Rattle.qimg_core.specs.Files.{file, value_at, chain_of}
 use Rattle.qimg_core.specs.Plain.{ShowsRange, IsFirstFault, NotShown, NoL1, image_value, value_fault, alone_fault, rules_of_reading, loaded_fault, image_fault, below_size, ImageRefuses, IsImageRead, NotImageRead, MustRefuse}
-use Rattle.qimg_core.proofs.PlainTables.{unshown-as}
-use Rattle.qimg_core.proofs.ScanLemmas.{kept-none, kept-file}
+use Rattle.qimg_core.proofs.PlainReads.Tables.{unshown-as}
+use Rattle.qimg_core.proofs.Calls.{kept-none, kept-file}
 
 -- the value of a place of the chain
 pub value-image : (f : Bytes) (H : Header) (p : ℕ) → header_of false f ≡ Ok H → value_at f p ≡ image_value f H.fields p

@@ -1,0 +1,4 @@
+-- Counters beside names, and the verdict.
+pub mod Blocks
+pub mod Comparison
+pub mod Verdicts
