@@ -6,7 +6,7 @@ ghost use Rattle.imago_storage.specs.MemStorage.{mem_state};
 ghost use Rattle.imago_storage.specs.declared.memory.MemStorage.{MemStorage};
 ghost use Rattle.qcow2_types.specs.Consistency.{IsConsistent};
 ghost use Rattle.qimg_core.specs.Created.{new_header};
-ghost use Rattle.qimg_core.specs.Files.{file, value_at};
+ghost use Rattle.qimg_core.specs.Plain.{file, value_at};
 ghost use Rattle.qimg_core.specs.declared.plain.ChainFile.{ChainFile};
 
 use crate::failure::Failure;

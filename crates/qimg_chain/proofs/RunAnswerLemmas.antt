@@ -4,7 +4,7 @@ use Rattle.imago_storage.specs.State.{StorageState}
 use Rattle.qcow2_types.specs.Bytes.{Bytes}
 use Rattle.qcow2_types.specs.Consistency.{Finding, header, snapshots, external, table, shared_table, false_copied, under_counted}
 use Rattle.qimg_core.specs.Check.{Found, IsFinding}
-use Rattle.qimg_core.specs.Files.{file}
+use Rattle.qcow2_metadata.specs.Loading.{file}
 use Rattle.qimg_core.specs.declared.check.CheckFault.{CheckFault}
 use Rattle.qimg_core.specs.declared.check.CheckFault.TheVariants as found
 use Rattle.qimg_chain.specs.RunAnswers.{IsUnsoundBy}

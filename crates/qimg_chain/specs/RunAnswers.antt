@@ -13,7 +13,7 @@ use Rattle.qcow2_types.specs.Bytes.{Bytes}
 use Rattle.qcow2_types.specs.Consistency.{header, snapshots, external, table, shared_table, false_copied, under_counted, IsVerdict}
 use Rattle.qimg_calls.specs.Making.{AnswersAlone}
 use Rattle.qimg_core.specs.Check.{IsFinding}
-use Rattle.qimg_core.specs.Files.{file}
+use Rattle.qcow2_metadata.specs.Loading.{file}
 use Rattle.qimg_core.specs.declared.plain.ChainFile.{ChainFile}
 use Rattle.qimg_core.specs.declared.check.CheckFault.{CheckFault}
 use Rattle.qimg_core.specs.declared.check.CheckFault.TheVariants as check_fault

@@ -3,7 +3,7 @@ use Rattle.std.proofs.Common.{◌≡◌, refl, ap, ◌∙◌}
 use Rattle.imago_storage.specs.State.{StorageState}
 use Rattle.imago_storage.specs.Calls.{Kept}
 use Rattle.qcow2_types.specs.Bytes.{bytes_of}
-use Rattle.qimg_core.specs.Files.{file}
+use Rattle.qcow2_metadata.specs.Loading.{file}
 
 -- calls that keep the storage's bytes
 pub kept-both : (a b c : StorageState) → Kept a b → Kept b c → Kept a c

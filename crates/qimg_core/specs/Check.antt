@@ -1,8 +1,15 @@
--- What the checker answers.
-use Rattle.std.specs.Prelude.{◌≡◌, Err}
+-- What the checker answers, and what its parts find.
+use Rattle.std.specs.Prelude.{◌≡◌, ℕ, IsTrue, IsFalse, Err, List, Any, Option}
 use Rattle.imago_storage.specs.State.{StorageState, Rose}
+use Rattle.imago_storage.specs.declared.fault.Fault.{Fault}
+use Rattle.imago_storage.specs.declared.fault.Fault.TheVariants as fault
 use Rattle.qcow2_types.specs.Bytes.{Bytes}
-use Rattle.qcow2_types.specs.Consistency.{Finding, header, snapshots, external, table, shared_table, false_copied, under_counted, IsVerdict}
+use Rattle.qcow2_types.specs.Header.{Fields}
+use Rattle.qcow2_types.specs.Entries.{l2_table_sound}
+use Rattle.qcow2_types.specs.Consistency.{Finding, header, snapshots, external, table, shared_table, false_copied, under_counted, IsVerdict, tables_sound, is_under_counted, Nowhere, IsLeast}
+use Rattle.qimg_core.specs.Searches.{is_such, IsFirstWithin}
+use Rattle.qimg_core.specs.declared.check.names.Tallies.{Tallies}
+use Rattle.qimg_core.specs.declared.check.search.Question.TheVariants as question
 use Rattle.qimg_core.specs.declared.check.CheckFault.{CheckFault}
 use Rattle.qimg_core.specs.declared.check.CheckFault.TheVariants.{Header, Snapshots, External, Table, SharedTable, FalseCopied, UnderCounted, Memory, Storage}
 
@@ -21,3 +28,43 @@ Found old new P Storage = Rose old.faults new.faults
 -- The finding is this verdict on the file.
 abbrev pub IsFinding : Bytes → Finding → Type 0
 IsFinding f finding = IsVerdict f (Err finding)
+
+-- The finding is a damaged table.
+abbrev pub IsUnsound : Bytes → Fields → Finding → Type 0
+IsUnsound f h table = IsFalse (tables_sound f h)
+IsUnsound f h finding = ⊥
+
+-- There is no finding.
+abbrev pub NoFinding : Finding → Type 0
+NoFinding finding = ⊥
+
+-- The finding is that the L2 table at this place is damaged, or one of those at these places.
+abbrev pub IsDamagedTable : Bytes → Fields → ℕ → Finding → Type 0
+IsDamagedTable f h place table = IsFalse (l2_table_sound f h place)
+IsDamagedTable f h place finding = ⊥
+
+abbrev pub IsOneDamaged : Bytes → Fields → List ℕ → Finding → Type 0
+IsOneDamaged f h places table = Any (λ place. IsFalse (l2_table_sound f h place)) places
+IsOneDamaged f h places finding = ⊥
+
+-- The finding is the least cluster that is counted less often than it is named.
+abbrev pub IsUnder : Bytes → Fields → Finding → Type 0
+IsUnder f h (under_counted c) = IsLeast (is_under_counted f h) c
+IsUnder f h finding = ⊥
+
+-- The first finding among clusters that are named more than once.
+abbrev pub SharesFirst : Tallies → CheckFault → Type 0
+SharesFirst names (SharedTable c) = IsLeast (is_such question.Shared names) c
+SharesFirst names (FalseCopied c) = Nowhere (is_such question.Shared names) × IsLeast (is_such question.FalselyCopied names) c
+SharesFirst names fault = ⊥
+
+-- The first cluster between two bounds that is named.
+abbrev pub NamesFirst : Tallies → ℕ → Option ℕ → CheckFault → Type 0
+NamesFirst names low high (UnderCounted c) = IsFirstWithin (is_such question.AtAll names) low high c
+NamesFirst names low high fault = ⊥
+
+-- what the checker answers where something isn't loaded: the same, or this in place of any other fault
+abbrev pub fault_of_load : CheckFault → Fault → CheckFault
+fault_of_load other fault.Memory = Memory
+fault_of_load other fault.Storage = Storage
+fault_of_load other fault = other

@@ -1,23 +1,17 @@
--- What the parts of the checker read of an image, and what they find.
-use Rattle.std.specs.Prelude.{◌≡◌, ◌≢◌, ℕ, ◌+◌, ◌*◌, ◌<◌, ◌≤◌, ⊤, not, ◌==◌, min, true, IsTrue, IsFalse, Ok, List, map, length, slice_index, All, Any, Option, Some, None}
+-- What the parts of the checker read of an image.
+use Rattle.std.specs.Prelude.{◌≡◌, ◌≢◌, ℕ, ◌+◌, ◌*◌, ◌<◌, ◌≤◌, ⊤, not, ◌==◌, min, true, IsTrue, IsFalse, Ok, List, map, length, slice_index, All, Option, Some, None}
 use Rattle.std.specs.Int.{div_ceil}
 use Rattle.std.specs.List.{sum_by, filter, range_with_len}
-use Rattle.imago_storage.specs.declared.fault.Fault.{Fault}
-use Rattle.imago_storage.specs.declared.fault.Fault.TheVariants as fault
 use Rattle.qcow2_types.specs.Bytes.{Bytes}
 use Rattle.qcow2_types.specs.Words.{Mapping, mapping_of, is_place}
 use Rattle.qcow2_types.specs.Header.{Fields, Feature, Header, header_of, cluster_size, layout_of, refcount_table_entries}
-use Rattle.qcow2_types.specs.Entries.{l2_table, l1_table_sound, l2_table_sound}
+use Rattle.qcow2_types.specs.Entries.{l2_table, l1_table_sound}
 use Rattle.qcow2_types.specs.Counts.{block_at, count, counters_of_block, refcount_table_sound}
 use Rattle.qcow2_types.specs.References.{meets, of_cluster, of_mapping, of_copied, structure, contents}
-use Rattle.qcow2_types.specs.Consistency.{Finding, table, under_counted, tables_sound, is_under_counted, leaks_below, Nowhere, IsLeast}
+use Rattle.qcow2_types.specs.Consistency.{is_under_counted, leaks_below}
 use Rattle.qcow2_metadata.specs.Blocks.{Block}
 use Rattle.qimg_core.specs.Names.{Total, named_by, structure_part, mapped_part, copied_part}
-use Rattle.qimg_core.specs.Searches.{is_such, IsFirstWithin}
 use Rattle.qimg_core.specs.declared.check.names.Tallies.{Tallies}
-use Rattle.qimg_core.specs.declared.check.search.Question.TheVariants as question
-use Rattle.qimg_core.specs.declared.check.CheckFault.{CheckFault}
-use Rattle.qimg_core.specs.declared.check.CheckFault.TheVariants.{SharedTable, FalseCopied, UnderCounted, Memory, Storage}
 
 -- The header that loads for writing is this one, but for the names of feature bits.
 abbrev pub HasHeader : Bytes → Header → Type 0
@@ -37,24 +31,6 @@ tables_of f h = filter (λ t. not (t == 0)) (map (l2_table f h) (range_with_len 
 abbrev pub counter_in : Option Block → ℕ → ℕ
 counter_in None j = 0
 counter_in (Some block) j = slice_index block.counters j
-
--- The finding is a damaged table.
-abbrev pub IsUnsound : Bytes → Fields → Finding → Type 0
-IsUnsound f h table = IsFalse (tables_sound f h)
-IsUnsound f h finding = ⊥
-
--- There is no finding.
-abbrev pub NoFinding : Finding → Type 0
-NoFinding finding = ⊥
-
--- The finding is that the L2 table at this place is damaged, or one of those at these places.
-abbrev pub IsDamagedTable : Bytes → Fields → ℕ → Finding → Type 0
-IsDamagedTable f h place table = IsFalse (l2_table_sound f h place)
-IsDamagedTable f h place finding = ⊥
-
-abbrev pub IsOneDamaged : Bytes → Fields → List ℕ → Finding → Type 0
-IsOneDamaged f h places table = Any (λ place. IsFalse (l2_table_sound f h place)) places
-IsOneDamaged f h places finding = ⊥
 
 -- what is given by each place, summed
 abbrev pub sum_over : (ℕ → ℕ) → List ℕ → ℕ
@@ -116,29 +92,7 @@ pub record HoldsCounters (f : Bytes) (h : Fields) (index : ℕ) (block : Option 
   pub counts : (j : ℕ) → j < counters_of_block h → counter_in block j ≡ count f h (index * counters_of_block h + j)
   pub whole : (j : ℕ) → j < counters_of_block h → IsIn block j
 
--- The finding is the least cluster that is counted less often than it is named.
-abbrev pub IsUnder : Bytes → Fields → Finding → Type 0
-IsUnder f h (under_counted c) = IsLeast (is_under_counted f h) c
-IsUnder f h finding = ⊥
-
--- The first finding among clusters that are named more than once.
-abbrev pub SharesFirst : Tallies → CheckFault → Type 0
-SharesFirst names (SharedTable c) = IsLeast (is_such question.Shared names) c
-SharesFirst names (FalseCopied c) = Nowhere (is_such question.Shared names) × IsLeast (is_such question.FalselyCopied names) c
-SharesFirst names fault = ⊥
-
--- The first cluster between two bounds that is named.
-abbrev pub NamesFirst : Tallies → ℕ → Option ℕ → CheckFault → Type 0
-NamesFirst names low high (UnderCounted c) = IsFirstWithin (is_such question.AtAll names) low high c
-NamesFirst names low high fault = ⊥
-
 -- The clusters before this one are counted often enough, and these are their leaks.
 pub record AreCompared (f : Bytes) (h : Fields) (found : List (ℕ × ℕ)) (c : ℕ) : Type 0 where
   pub enough : (d : ℕ) → d < c → IsFalse (is_under_counted f h d)
   pub are_leaks : found ≡ leaks_below f h c
-
--- what the checker answers where something isn't loaded: the same, or this in place of any other fault
-abbrev pub fault_of_load : CheckFault → Fault → CheckFault
-fault_of_load other fault.Memory = Memory
-fault_of_load other fault.Storage = Storage
-fault_of_load other fault = other

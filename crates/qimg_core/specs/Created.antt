@@ -8,7 +8,7 @@ use Rattle.imago_storage.specs.declared.fault.Fault.TheVariants.{Limit, Unsuppor
 use Rattle.qcow2_types.specs.Bytes.{Bytes, splice}
 use Rattle.qcow2_types.specs.Header.{Fields, Header}
 use Rattle.qcow2_types.specs.Switched.{with_size}
-use Rattle.qimg_core.specs.Files.{file}
+use Rattle.qcow2_metadata.specs.Loading.{file}
 
 -- how many words of the L1 table cover a disk of this size: each covers 64 clusters of 512 bytes
 abbrev pub l1_entries_of : ℕ → ℕ

@@ -1,4 +1,4 @@
--- What a read of an image's bytes alone answers, and why it is refused.
+-- What the bytes of an image file show, what a read of them alone answers, and why it is refused.
 use Rattle.std.specs.Prelude.{◌≡◌, ◌⊎◌, ℕ, ◌+◌, ◌-◌, ◌*◌, ◌/◌, ◌%◌, ◌^◌, ◌<◌, ◌≤◌, min, false, not, nat_le, List, [], ◌∷◌, length, slice_index, map, Option, Some, None, Result, Ok, Err, MatchResult}
 use Rattle.std.specs.Option.{is_some}
 use Rattle.imago_storage.specs.State.{StorageState, Rose}
@@ -10,15 +10,23 @@ use Rattle.qcow2_types.specs.Bytes.{Bytes}
 use Rattle.qcow2_types.specs.Words.{Mapping, mapping_of, table_offset}
 use Rattle.qcow2_types.specs.Header.{Fields, Header, Rule, header_of, first_fault, has_external_data}
 use Rattle.qcow2_types.specs.Entries.{l2_table, l1_table_sound}
-use Rattle.qcow2_types.specs.Disk.{shown, shown_by, chain_size}
+use Rattle.qcow2_types.specs.Disk.{Layer, qcow2, at, shown, shown_by, chain_size}
 use Rattle.qcow2_types.specs.Places.{l2_entries}
 use Rattle.qcow2_metadata.specs.Tables.{TableValue}
-use Rattle.qimg_core.specs.Files.{file, chain_of, value_at}
 use Rattle.std.specs.Prelude.{Vec, String}
 use Rattle.std.specs.declared.alloc.Global.{Global}
 use Rattle.imago_access.specs.declared.format.Format.{Format}
 use Rattle.imago_access.specs.declared.format.Format.TheVariants.{Raw, Qcow2, Vmdk}
 use Rattle.qimg_core.specs.declared.plain.ChainFile.{ChainFile}
+-- the bytes of a storage by their places
+pub use Rattle.qcow2_metadata.specs.Loading.{file}
+
+-- the chain of one image file, and the values that it shows
+abbrev pub chain_of : Bytes → List Layer
+chain_of f = qcow2 f (λ _. 0) ∷ []
+
+unfoldable pub value_at : Bytes → ℕ → Value
+value_at f p = at (chain_of f) p
 
 -- why a value can't be read, if it can't
 abbrev pub value_fault : Value → Option Fault

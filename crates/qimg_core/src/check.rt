@@ -3,11 +3,11 @@ ghost use Rattle.std.specs.Prelude.{◌≡◌, length, true, false, Ok, OnOk, If
 ghost use Rattle.imago_storage.specs.Calls.{Kept};
 ghost use Rattle.qcow2_types.specs.Header.{Limited, Shaped, header_of, has_external_data};
 ghost use Rattle.qcow2_types.specs.Consistency.{IsVerdict, Nowhere, tables_sound};
-ghost use Rattle.qimg_core.specs.Files.{file};
+ghost use Rattle.qcow2_metadata.specs.Loading.{file};
 ghost use Rattle.qimg_core.specs.Names.{AreRising, SparesLists};
 ghost use Rattle.qimg_core.specs.Searches.{is_such};
-ghost use Rattle.qimg_core.specs.CheckParts.{Tells, IsBlocksEnd, counted_clusters, HasCells, HoldsPlaces, IsUnsound, SharesFirst, fault_of_load};
-ghost use Rattle.qimg_core.specs.Check.{Found, IsFinding};
+ghost use Rattle.qimg_core.specs.CheckParts.{Tells, IsBlocksEnd, counted_clusters, HasCells, HoldsPlaces};
+ghost use Rattle.qimg_core.specs.Check.{IsUnsound, SharesFirst, fault_of_load, Found, IsFinding};
 ghost use Rattle.qimg_core.specs.declared.check.CheckFault.TheVariants.{Memory};
 ghost use Rattle.qimg_core.specs.declared.check.search.Question.TheVariants as question;
 

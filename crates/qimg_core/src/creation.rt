@@ -5,7 +5,8 @@ ghost use Rattle.imago_storage.specs.Calls.{Spliced};
 ghost use Rattle.imago_storage.specs.Disk.{byte};
 ghost use Rattle.qcow2_types.specs.Bytes.{bytes_of, splice};
 ghost use Rattle.qcow2_types.specs.Consistency.{IsConsistent, leaks};
-ghost use Rattle.qimg_core.specs.Files.{file, value_at};
+ghost use Rattle.qcow2_metadata.specs.Loading.{file};
+ghost use Rattle.qimg_core.specs.Plain.{value_at};
 ghost use Rattle.qimg_core.specs.Created.{Creates, NotCreated, new_header, nothing_in, blank};
 
 use imago_storage::{Fault, PreallocateMode, Storage, StorageExt, larger_alignment};

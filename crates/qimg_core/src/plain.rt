@@ -4,8 +4,8 @@ ghost use Rattle.std.specs.Result.{result_err};
 ghost use Rattle.imago_storage.specs.Calls.{Kept};
 ghost use Rattle.qcow2_types.specs.Header.{header_of, has_external_data};
 ghost use Rattle.qcow2_types.specs.Entries.{l1_table_sound};
-ghost use Rattle.qimg_core.specs.Files.{file, value_at};
-ghost use Rattle.qimg_core.specs.Plain.{NamesTables, alone_fault, NoL1, NotShown, below_size, ShowsRange, IsImageRead, NotImageRead, IsPlainRead, NotPlainRead, Refuses, MustRefuse, FilesKept, seen_files, extras_of, faults_of};
+ghost use Rattle.qcow2_metadata.specs.Loading.{file};
+ghost use Rattle.qimg_core.specs.Plain.{value_at, NamesTables, alone_fault, NoL1, NotShown, below_size, ShowsRange, IsImageRead, NotImageRead, IsPlainRead, NotPlainRead, Refuses, MustRefuse, FilesKept, seen_files, extras_of, faults_of};
 
 mod pieces;
 

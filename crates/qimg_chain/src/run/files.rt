@@ -1,6 +1,6 @@
 // What lines of a script ask of the top file itself: what the checker says of it, and what it shows by itself.
 ghost use Rattle.std.specs.Prelude.{IfOk, IfErr};
-ghost use Rattle.qimg_core.specs.Files.{file};
+ghost use Rattle.qcow2_metadata.specs.Loading.{file};
 ghost use Rattle.qimg_chain.specs.RunAnswers.{Checks, IsLength, ReadsPlainly, WhyNoBuffer};
 
 use super::calls::MOST_READ;

@@ -19,11 +19,11 @@ use Rattle.qcow2_metadata.specs.Tables.{WhyNotLoaded, words_in, l2_words}
 use Rattle.qcow2_metadata.proofs.TableFacts.{words_long, words_more}
 use Rattle.qimg_core.specs.declared.check.CheckFault.TheVariants.{Table}
 use Rattle.qimg_core.specs.declared.check.names.Tallies.{Tallies}
-use Rattle.qimg_core.specs.Files.{file}
+use Rattle.qcow2_metadata.specs.Loading.{file}
 use Rattle.qimg_core.specs.Entering.{AddsWords, AddsTable}
 use Rattle.qimg_core.specs.Names.{named_by, mapped_part, copied_part}
-use Rattle.qimg_core.specs.CheckParts.{IsDamagedTable, words_over, fault_of_load}
-use Rattle.qimg_core.specs.Check.{Found}
+use Rattle.qimg_core.specs.Check.{IsDamagedTable, fault_of_load, Found}
+use Rattle.qimg_core.specs.CheckParts.{words_over}
 use Rattle.qimg_core.proofs.Tables.FewerWords.{past-word}
 use Rattle.qimg_core.proofs.Tables.L2Words.{l2-unsound}
 use Rattle.qcow2_types.proofs.Changes.WriteBack.{place-whole}

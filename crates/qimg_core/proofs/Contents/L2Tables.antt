@@ -18,10 +18,10 @@ use Rattle.qcow2_types.specs.References.{meets, of_mapping, of_copied, of_table}
 use Rattle.qimg_core.specs.declared.check.CheckFault.{CheckFault}
 use Rattle.qimg_core.specs.declared.check.CheckFault.TheVariants.{Table, Memory, Storage}
 use Rattle.qimg_core.specs.declared.check.names.Tallies.{Tallies}
-use Rattle.qimg_core.specs.Files.{file}
+use Rattle.qcow2_metadata.specs.Loading.{file}
 use Rattle.qimg_core.specs.Names.{KeepsCells, SparesLists, named_by, structure_part, mapped_part, copied_part}
-use Rattle.qimg_core.specs.CheckParts.{IsDamagedTable, IsOneDamaged, AreTables, sum_over}
-use Rattle.qimg_core.specs.Check.{Found}
+use Rattle.qimg_core.specs.Check.{IsDamagedTable, IsOneDamaged, Found}
+use Rattle.qimg_core.specs.CheckParts.{AreTables, sum_over}
 use Rattle.qimg_core.proofs.Contents.Places.{places-step}
 use Rattle.qimg_core.specs.Entering.{AddsTable, AddsTables}
 

@@ -22,9 +22,9 @@ use Rattle.qcow2_metadata.proofs.TableSteps.{past_end}
 use Rattle.imago_storage.specs.State.{StorageState}
 use Rattle.qimg_core.specs.declared.check.CheckFault.{CheckFault}
 use Rattle.qimg_core.specs.declared.check.CheckFault.TheVariants.{Table, Memory, Storage}
-use Rattle.qimg_core.specs.Files.{file}
-use Rattle.qimg_core.specs.CheckParts.{tables_of, sum_over, AreTables, IsUnsound, IsOneDamaged}
-use Rattle.qimg_core.specs.Check.{Found}
+use Rattle.qcow2_metadata.specs.Loading.{file}
+use Rattle.qimg_core.specs.CheckParts.{tables_of, sum_over, AreTables}
+use Rattle.qimg_core.specs.Check.{IsUnsound, IsOneDamaged, Found}
 use Rattle.qcow2_types.proofs.Changes.WriteBack.{place-near}
 use Rattle.qimg_core.proofs.Tables.TablePlaces.{tables_to, tables-more, tables-skip}
 use Rattle.qimg_core.proofs.Tables.Tests.{tests-miss, not-same}

@@ -21,9 +21,9 @@ use Rattle.qimg_core.specs.Names.{times_at}
 use Rattle.qimg_core.specs.Searches.{is_such, NoneWithin, IsFirstWithin}
 use Rattle.qimg_core.specs.declared.check.CheckFault.{CheckFault}
 use Rattle.qimg_core.specs.declared.check.CheckFault.TheVariants as fault
-use Rattle.qimg_core.specs.Files.{file}
-use Rattle.qimg_core.specs.CheckParts.{Tells, IsBlocks, HoldsCounters, AreCompared, IsUnder, NamesFirst}
-use Rattle.qimg_core.specs.Check.{Found}
+use Rattle.qcow2_metadata.specs.Loading.{file}
+use Rattle.qimg_core.specs.CheckParts.{Tells, IsBlocks, HoldsCounters, AreCompared}
+use Rattle.qimg_core.specs.Check.{IsUnder, NamesFirst, Found}
 use Rattle.qimg_core.proofs.Calls.{kept-file}
 use Rattle.qimg_core.proofs.Counts.Verdicts.{named-refs, named-same}
 

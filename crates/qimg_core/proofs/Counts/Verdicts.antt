@@ -10,12 +10,12 @@ use Rattle.qcow2_types.specs.Consistency.{tables_sound, shares_structure, is_fal
 use Rattle.qimg_core.specs.declared.check.CheckFault.{CheckFault}
 use Rattle.qimg_core.specs.declared.check.CheckFault.TheVariants as fault
 use Rattle.qimg_core.specs.declared.check.names.Tallies.{Tallies}
-use Rattle.qimg_core.specs.Files.{file}
+use Rattle.qcow2_metadata.specs.Loading.{file}
 use Rattle.qimg_core.specs.declared.check.search.Question.TheVariants.{Shared, FalselyCopied, AtAll}
 use Rattle.qimg_core.specs.Names.{named_by, structure_part, mapped_part, times_at}
 use Rattle.qimg_core.specs.Searches.{is_such}
-use Rattle.qimg_core.specs.CheckParts.{Tells, IsUnsound, SharesFirst, IsUnder}
-use Rattle.qimg_core.specs.Check.{Found, IsFinding}
+use Rattle.qimg_core.specs.CheckParts.{Tells}
+use Rattle.qimg_core.specs.Check.{IsUnsound, SharesFirst, IsUnder, Found, IsFinding}
 use Rattle.qimg_core.proofs.Calls.{kept-both, kept-file}
 
 -- What is asked of the names is what is asked of the file.

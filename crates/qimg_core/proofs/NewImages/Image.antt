@@ -18,7 +18,7 @@ use Rattle.qcow2_types.proofs.Switching.HeaderSwitch.{header-made}
 use Rattle.qcow2_types.proofs.Switching.SizeSwitch.{size-switched}
 use Rattle.qcow2_types.proofs.Numbers.Splices.{be-written, splice-outside}
 use Rattle.qcow2_types.proofs.Showing.Values.{entry-slot}
-use Rattle.qimg_core.specs.Files.{value_at}
+use Rattle.qimg_core.specs.Plain.{value_at}
 use Rattle.qimg_core.specs.Created.{blank, blank_fields, blank_header, created, new_header, nothing_in, extension_bytes, l1_entries_of}
 use Rattle.qimg_core.proofs.NewImages.Blank.{blank-consistent, blank-leaks, blank-no_table}
 

@@ -14,9 +14,8 @@ use Rattle.qcow2_types.specs.Bytes.{Bytes}
 use Rattle.qcow2_types.specs.Header.{Header, header_of, first_fault, has_external_data}
 use Rattle.qcow2_types.specs.Disk.{size_in_header, chain_size, in_qcow2, shown}
 use Rattle.qcow2_types.specs.Entries.{l1_table_sound}
-use Rattle.qcow2_metadata.specs.Loading.{NotLoaded}
-use Rattle.qimg_core.specs.Files.{file, value_at, chain_of}
-use Rattle.qimg_core.specs.Plain.{ShowsRange, IsFirstFault, NotShown, NoL1, image_value, value_fault, alone_fault, rules_of_reading, loaded_fault, image_fault, below_size, ImageRefuses, IsImageRead, NotImageRead, MustRefuse}
+use Rattle.qcow2_metadata.specs.Loading.{NotLoaded, file}
+use Rattle.qimg_core.specs.Plain.{value_at, chain_of, ShowsRange, IsFirstFault, NotShown, NoL1, image_value, value_fault, alone_fault, rules_of_reading, loaded_fault, image_fault, below_size, ImageRefuses, IsImageRead, NotImageRead, MustRefuse}
 use Rattle.qimg_core.proofs.PlainReads.Tables.{unshown-as}
 use Rattle.qimg_core.proofs.Calls.{kept-none, kept-file}
 

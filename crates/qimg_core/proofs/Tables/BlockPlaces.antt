@@ -19,10 +19,10 @@ use Rattle.qcow2_types.proofs.Counting.Sound.{all-below-holds}
 use Rattle.qcow2_metadata.specs.Tables.{AreSound, HasUnsound, WhyNotLoaded, words_in, block_words}
 use Rattle.qcow2_metadata.proofs.TableFacts.{words_long, words_at}
 use Rattle.qimg_core.specs.declared.check.CheckFault.TheVariants.{Table}
-use Rattle.qimg_core.specs.Files.{file}
+use Rattle.qcow2_metadata.specs.Loading.{file}
 use Rattle.qcow2_types.proofs.Numbers.WordLemmas.{zero-place}
-use Rattle.qimg_core.specs.CheckParts.{IsUnsound, IsBlocks, fault_of_load}
-use Rattle.qimg_core.specs.Check.{Found}
+use Rattle.qimg_core.specs.Check.{IsUnsound, fault_of_load, Found}
+use Rattle.qimg_core.specs.CheckParts.{IsBlocks}
 use Rattle.qimg_core.proofs.Tables.FewerWords.{past-word}
 use Rattle.qcow2_types.proofs.Changes.WriteBack.{place-whole, place-near}
 use Rattle.qimg_core.proofs.Tables.Tests.{tests-miss}

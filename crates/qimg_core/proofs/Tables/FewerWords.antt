@@ -18,9 +18,8 @@ use Rattle.qcow2_metadata.specs.Tables.{TableValue, AreSound, HasUnsound, WhyNot
 use Rattle.qcow2_metadata.proofs.TableFacts.{words_long, words_at}
 use Rattle.qcow2_metadata.proofs.TableSteps.{past_end}
 use Rattle.qimg_core.specs.declared.check.CheckFault.TheVariants.{Table}
-use Rattle.qimg_core.specs.Files.{file}
-use Rattle.qimg_core.specs.CheckParts.{IsUnsound, fault_of_load}
-use Rattle.qimg_core.specs.Check.{Found}
+use Rattle.qcow2_metadata.specs.Loading.{file}
+use Rattle.qimg_core.specs.Check.{IsUnsound, fault_of_load, Found}
 use Rattle.qimg_core.specs.Plain.{NoL1}
 use Rattle.qimg_core.proofs.Tables.Places.{l1-place}
 use Rattle.qimg_core.proofs.Tables.Tests.{tests-miss}

@@ -4,12 +4,12 @@ ghost use Rattle.imago_storage.specs.Calls.{Kept};
 ghost use Rattle.qcow2_types.specs.Header.{Limited, Shaped};
 ghost use Rattle.qcow2_types.specs.Counts.{counters_of_block};
 ghost use Rattle.qcow2_types.specs.Consistency.{Nowhere, is_under_counted, leaks};
-ghost use Rattle.qimg_core.specs.Files.{file};
+ghost use Rattle.qcow2_metadata.specs.Loading.{file};
 ghost use Rattle.qimg_core.specs.Names.{AreRising};
 ghost use Rattle.qimg_core.specs.Searches.{is_such, NoneWithin};
-ghost use Rattle.qimg_core.specs.CheckParts.{Tells, IsBlocks, HoldsCounters, AreCompared, IsUnder, NamesFirst, NoFinding};
+ghost use Rattle.qimg_core.specs.CheckParts.{Tells, IsBlocks, HoldsCounters, AreCompared};
+ghost use Rattle.qimg_core.specs.Check.{IsUnder, NamesFirst, NoFinding, Found};
 ghost use Rattle.qimg_core.specs.declared.check.search.Question.TheVariants as question;
-ghost use Rattle.qimg_core.specs.Check.{Found};
 
 use super::names::Tallies;
 use super::search::{Question, first_such, references_along, way_from};

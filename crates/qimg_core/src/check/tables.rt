@@ -6,10 +6,10 @@ ghost use Rattle.qcow2_types.specs.Header.{Fields, cluster_size, words_of_cluste
 ghost use Rattle.qcow2_types.specs.Entries.{l1_table_sound, l2_table_sound};
 ghost use Rattle.qcow2_types.specs.Counts.{refcount_table_sound};
 ghost use Rattle.qcow2_metadata.specs.MappingView.{mapping_seen, IsNamed};
-ghost use Rattle.qimg_core.specs.Files.{file};
+ghost use Rattle.qcow2_metadata.specs.Loading.{file};
 ghost use Rattle.qimg_core.specs.Entering.{AddsPlaces, AddsStart, AddsStructure, AddsMapping, AddsWords, AddsTable, AddsTables};
-ghost use Rattle.qimg_core.specs.CheckParts.{HasHeader, tables_of, AreTables, IsBlocks, HoldsPlaces, IsUnsound, IsDamagedTable, IsOneDamaged};
-ghost use Rattle.qimg_core.specs.Check.{Found};
+ghost use Rattle.qimg_core.specs.CheckParts.{HasHeader, tables_of, AreTables, IsBlocks, HoldsPlaces};
+ghost use Rattle.qimg_core.specs.Check.{IsUnsound, IsDamagedTable, IsOneDamaged, Found};
 
 use super::names::{Tallies, Times, name_cluster, name_range};
 use super::{CheckFault, blocks_end, load_fault};

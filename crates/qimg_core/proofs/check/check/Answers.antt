@@ -5,9 +5,9 @@ use Rattle.std.specs.Prelude.{Result, IfOk, OnOk, IsTrue}
 use Rattle.qcow2_types.specs.Header.{Header, Limited}
 use Rattle.qcow2_types.proofs.Fields.HeaderLimits.{header-limited}
 use Rattle.qcow2_types.specs.Consistency.{leaks, is_under_counted, tables_sound, Nowhere}
-use Rattle.qimg_core.specs.Files.{file}
-use Rattle.qimg_core.specs.Check.{Found}
-use Rattle.qimg_core.specs.CheckParts.{HasHeader, IsUnsound, IsUnder, Tells}
+use Rattle.qcow2_metadata.specs.Loading.{file}
+use Rattle.qimg_core.specs.Check.{Found, IsUnsound, IsUnder}
+use Rattle.qimg_core.specs.CheckParts.{HasHeader, Tells}
 use Rattle.qimg_core.proofs.Calls.{kept-both, kept-file}
 use Rattle.qimg_core.proofs.Counts.Verdicts.{CanCheck, Named, named-since, table-verdict, shared-verdict, under-verdict, sound-verdict}
 use Rattle.qimg_core.proofs.check.check.Goals as goal

@@ -3,7 +3,7 @@ use Rattle.std.proofs.Common.{arith, ap, sym, subst, ◌∙◌}
 use Rattle.std.specs.Prelude.{IsTrue, All}
 use Rattle.std.proofs.lemmas.Result.{err_from_is_err_and}
 use Rattle.qcow2_types.specs.Entries.{l2_table_sound}
-use Rattle.qimg_core.specs.Files.{file}
+use Rattle.qcow2_metadata.specs.Loading.{file}
 use Rattle.qimg_core.specs.CheckParts.{AreTables, IsBlocksEnd, counted_clusters}
 use Rattle.qcow2_types.proofs.Changes.WriteBack.{place-near}
 use Rattle.qimg_core.proofs.Contents.TableList.{tables-placed, places-bounded, table-bytes, sound-by-list, damaged-finding}

@@ -1,6 +1,6 @@
 use Rattle.std.proofs.Common.{◌≤◌, ◌∙◌, ap, sym, subst, arith}
 use Rattle.qcow2_types.specs.Consistency.{IsConsistent, leaks}
-use Rattle.qimg_core.specs.Files.{value_at}
+use Rattle.qimg_core.specs.Plain.{value_at}
 use Rattle.qimg_core.specs.Created.{new_header}
 use Rattle.qimg_core.proofs.NewImages.Image.{created-consistent, created-leaks, created-zeroes}
 use Rattle.qimg_core.proofs.creation.create.Goals as goal

@@ -1,6 +1,6 @@
 use Rattle.std.proofs.Common.{◌≤◌, arith, false}
 use Rattle.qcow2_types.proofs.Fields.HeaderLimits.{header-limited}
-use Rattle.qimg_core.specs.Files.{file}
+use Rattle.qcow2_metadata.specs.Loading.{file}
 use Rattle.qimg_core.proofs.Tables.Places.{l1-place}
 use Rattle.qimg_core.proofs.Tables.FewerWords.{cluster-at, l1-sound, l1-refused}
 use Rattle.qimg_core.proofs.Tables.TablePlaces.{first-words}

@@ -1,6 +1,6 @@
 use Rattle.std.proofs.Common.{◌≡◌, ◌-◌, length, take, length-take, arith}
 use Rattle.std.specs.Prelude.{min}
-use Rattle.qimg_core.specs.Files.{file}
+use Rattle.qcow2_metadata.specs.Loading.{file}
 use Rattle.qimg_core.proofs.PlainReads.Image.{front-read, front-unread}
 use Rattle.qimg_core.proofs.plain.read_disk.Goals as goal
 

@@ -4,7 +4,7 @@ use Rattle.std.proofs.lemmas.Result.{err_from_is_err_and}
 use Rattle.std.specs.Result.{result_err}
 use Rattle.qcow2_types.specs.Bytes.{Bytes}
 use Rattle.qcow2_types.specs.Entries.{l1_table_sound}
-use Rattle.qimg_core.specs.Files.{file}
+use Rattle.qcow2_metadata.specs.Loading.{file}
 use Rattle.qimg_core.specs.Plain.{alone_fault}
 use Rattle.qimg_core.proofs.Calls.{kept-both, kept-file}
 use Rattle.qimg_core.proofs.PlainReads.Image.{alone-unread, range-unread, disk-read, disk-unread, sum-fits, sum-passes}

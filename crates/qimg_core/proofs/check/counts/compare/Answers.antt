@@ -5,7 +5,7 @@ use Rattle.std.proofs.lemmas.Result.{err_from_is_err_and}
 use Rattle.qcow2_types.specs.Header.{refcount_table_entries}
 use Rattle.qcow2_types.specs.Counts.{counters_of_block}
 use Rattle.qcow2_types.proofs.Counting.Counters.{some-counters}
-use Rattle.qimg_core.specs.Files.{file}
+use Rattle.qcow2_metadata.specs.Loading.{file}
 use Rattle.qimg_core.specs.CheckParts.{Tells, AreCompared}
 use Rattle.qimg_core.proofs.Calls.{kept-both, kept-none, kept-file}
 use Rattle.qimg_core.proofs.Counts.Comparison.{compared-start, rest-under, rest-counted, rest-leaks, under-since, uncounted-finding}

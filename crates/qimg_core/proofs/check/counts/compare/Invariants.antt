@@ -2,7 +2,7 @@
 use Rattle.std.proofs.Common.{◌≡◌, ◌*◌}
 use Rattle.imago_storage.specs.Calls.{Kept}
 use Rattle.qcow2_types.specs.Counts.{counters_of_block}
-use Rattle.qimg_core.specs.Files.{file}
+use Rattle.qcow2_metadata.specs.Loading.{file}
 use Rattle.qimg_core.specs.CheckParts.{AreCompared}
 use Rattle.qimg_core.proofs.check.counts.compare.Given as goal
 

@@ -5,7 +5,7 @@ use Rattle.std.proofs.lemmas.Nat.{mul-le}
 use Rattle.std.proofs.lemmas.Result.{on_ok_weaker, MatchResult-weaker}
 use Rattle.qcow2_types.specs.Counts.{counters_of_block}
 use Rattle.qimg_core.specs.Names.{times_at}
-use Rattle.qimg_core.specs.Files.{file}
+use Rattle.qcow2_metadata.specs.Loading.{file}
 use Rattle.qimg_core.specs.CheckParts.{HoldsCounters, AreCompared}
 use Rattle.qimg_core.specs.Searches.{IsAlong}
 use Rattle.qimg_core.proofs.Counts.Comparison.{gap-under, gap-compared, counter-under, counter-leak, counter-equal, uncounted-finding}

@@ -1,7 +1,7 @@
 -- The clusters before this one are compared, and the way has come to it.
 use Rattle.std.proofs.Common.{◌+◌, ◌*◌}
 use Rattle.qcow2_types.specs.Counts.{counters_of_block}
-use Rattle.qimg_core.specs.Files.{file}
+use Rattle.qcow2_metadata.specs.Loading.{file}
 use Rattle.qimg_core.specs.CheckParts.{AreCompared}
 use Rattle.qimg_core.specs.Searches.{IsAlong}
 use Rattle.qimg_core.proofs.check.counts.compare_block.Given as goal

@@ -3,7 +3,7 @@ use Rattle.qcow2_types.specs.Words.{block_offset}
 use Rattle.qcow2_types.specs.Header.{Limited, refcount_table_entries}
 use Rattle.qcow2_types.specs.Counts.{block_at}
 use Rattle.qcow2_types.proofs.Fields.HeaderLimits.{header-limited}
-use Rattle.qimg_core.specs.Files.{file}
+use Rattle.qcow2_metadata.specs.Loading.{file}
 use Rattle.qimg_core.proofs.Tables.BlockPlaces.{blocks-place, block-loaded, blocks-finding, blocks-sound-by-first, blocks-more, blocks-all}
 use Rattle.qimg_core.proofs.Tables.FewerWords.{cluster-at, loaded-count, loaded-word}
 use Rattle.qimg_core.proofs.Tables.Places.{some-place, none-place}

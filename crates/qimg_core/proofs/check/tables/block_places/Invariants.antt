@@ -1,4 +1,4 @@
-use Rattle.qimg_core.specs.Files.{file}
+use Rattle.qcow2_metadata.specs.Loading.{file}
 use Rattle.qimg_core.proofs.Tables.BlockPlaces.{BlocksTo}
 use Rattle.qimg_core.proofs.check.tables.block_places.Given as goal
 

@@ -3,9 +3,8 @@ use Rattle.std.specs.Prelude.{slice_index}
 use Rattle.std.proofs.lemmas.Grind.{get_or_default_zero}
 use Rattle.std.proofs.lemmas.Result.{err_from_is_err_and}
 use Rattle.qcow2_types.specs.Words.{is_place}
-use Rattle.qimg_core.specs.Files.{file}
-use Rattle.qimg_core.specs.CheckParts.{IsDamagedTable}
-use Rattle.qimg_core.specs.Check.{Found}
+use Rattle.qcow2_metadata.specs.Loading.{file}
+use Rattle.qimg_core.specs.Check.{IsDamagedTable, Found}
 use Rattle.qimg_core.proofs.Contents.L2Tables.{named-now, named-later, named-all, all-sound, one-damaged, placed-at}
 use Rattle.qimg_core.proofs.check.tables.name_contents.Goals as goal
 use Rattle.qimg_core.proofs.check.tables.name_contents.Goals.{then-i-len+in_ok-name_table, else-i-len+else-index}

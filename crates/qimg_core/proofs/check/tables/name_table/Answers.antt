@@ -1,6 +1,6 @@
 use Rattle.std.proofs.Common.{refl, arith}
 use Rattle.std.proofs.lemmas.Result.{on_ok_weaker}
-use Rattle.qimg_core.specs.Files.{file}
+use Rattle.qcow2_metadata.specs.Loading.{file}
 use Rattle.qimg_core.proofs.Tables.FewerWords.{cluster-at}
 use Rattle.qimg_core.proofs.Tables.L2Words.{l2-sound}
 use Rattle.qimg_core.proofs.Contents.L2Table.{adds-table, adds-past, past-sound, l2-begin, l2-words, l2-finding}

@@ -4,7 +4,7 @@ use Rattle.qcow2_types.specs.Header.{Limited}
 use Rattle.qcow2_types.specs.Entries.{l2_table}
 use Rattle.qcow2_types.proofs.Counting.Consistent.{header-reading}
 use Rattle.qcow2_types.proofs.Fields.HeaderLimits.{header-limited}
-use Rattle.qimg_core.specs.Files.{file}
+use Rattle.qcow2_metadata.specs.Loading.{file}
 use Rattle.qimg_core.proofs.Tables.FewerWords.{cluster-at, loaded-count, loaded-word, l1-finding, l1-sound-by-first}
 use Rattle.qimg_core.proofs.Tables.Places.{l1-place, some-place, none-place}
 use Rattle.qimg_core.proofs.check.tables.table_places.Goals as goal

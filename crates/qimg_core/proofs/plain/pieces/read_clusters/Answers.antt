@@ -5,7 +5,7 @@ use Rattle.qcow2_types.specs.Words.{Mapping, mapping_of}
 use Rattle.std.specs.Prelude.{slice_index}
 use Rattle.qcow2_metadata.specs.MappingView.{mapping_seen}
 use Rattle.qcow2_metadata.specs.Tables.{TableValue}
-use Rattle.qimg_core.specs.Files.{file}
+use Rattle.qcow2_metadata.specs.Loading.{file}
 use Rattle.qimg_core.specs.Plain.{NotShown, mapped_value, table_value}
 use Rattle.qimg_core.proofs.Calls.{kept-file}
 use Rattle.qimg_core.proofs.PlainReads.Pieces.{shown-more, shown-short, div-near}

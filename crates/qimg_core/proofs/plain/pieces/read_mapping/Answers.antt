@@ -2,7 +2,7 @@ use Rattle.std.proofs.Common.{◌≡◌, ◌+◌, ◌*◌, ◌%◌, ◌^◌, ◌
 use Rattle.std.specs.Prelude.{OnOk}
 use Rattle.imago_storage.specs.Disk.{Shows}
 use Rattle.qcow2_metadata.specs.MappingView.{mapping_seen}
-use Rattle.qimg_core.specs.Files.{file}
+use Rattle.qcow2_metadata.specs.Loading.{file}
 use Rattle.qimg_core.specs.Plain.{mapped_value}
 use Rattle.qimg_core.proofs.PlainReads.Pieces.{data-shown, counts-unshown}
 use Rattle.qimg_core.proofs.plain.pieces.read_mapping.Goals as goal

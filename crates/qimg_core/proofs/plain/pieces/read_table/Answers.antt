@@ -3,7 +3,7 @@ use Rattle.std.specs.Prelude.{Option, slice_index}
 use Rattle.qcow2_types.specs.Words.{table_offset}
 use Rattle.qcow2_types.specs.Places.{l2_entries}
 use Rattle.qcow2_metadata.specs.Tables.{place_or_none}
-use Rattle.qimg_core.specs.Files.{file}
+use Rattle.qcow2_metadata.specs.Loading.{file}
 use Rattle.qimg_core.specs.Plain.{image_value, table_value}
 use Rattle.qimg_core.proofs.Calls.{kept-file}
 use Rattle.qimg_core.proofs.PlainReads.Tables.{none-shown, table-place, loaded-values, table-refused, shown-as, unshown-as}

@@ -1,6 +1,6 @@
 use Rattle.std.proofs.Common.{◌≡◌, ℕ, ◌+◌, ◌-◌, ◌≤◌, length, refl, arith, subst, take, drop, length-take, length-drop, ap, sym}
 use Rattle.qcow2_types.specs.Bytes.{Bytes}
-use Rattle.qimg_core.specs.Files.{file}
+use Rattle.qcow2_metadata.specs.Loading.{file}
 use Rattle.qimg_core.specs.Plain.{NotShown, image_value}
 use Rattle.qimg_core.proofs.Calls.{kept-file}
 use Rattle.qimg_core.proofs.PlainReads.Pieces.{shown-short}

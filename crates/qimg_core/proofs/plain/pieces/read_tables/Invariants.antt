@@ -1,5 +1,5 @@
 use Rattle.std.proofs.Common.{◌-◌, length}
-use Rattle.qimg_core.specs.Files.{file}
+use Rattle.qcow2_metadata.specs.Loading.{file}
 use Rattle.qimg_core.specs.Plain.{image_value}
 use Rattle.qimg_core.proofs.PlainReads.Pieces.{ShownSoFar}
 use Rattle.qimg_core.proofs.plain.pieces.read_tables.Given as goal
