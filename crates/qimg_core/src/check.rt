@@ -1,4 +1,7 @@
 //! The checker: whether an image is consistent, and what it leaks, from the bytes of its file.
+//!
+//! Where qemu and imago say that an entry of a table references a cluster, a word of it names the cluster here. What counts a
+//! cluster is its refcount, which stands in a block: a refcount block, imago's `RefBlock`.
 ghost use Rattle.std.specs.Prelude.{◌≡◌, length, true, false, Ok, OnOk, IfOk, IfErr, IsTrue};
 ghost use Rattle.imago_storage.specs.Calls.{Kept};
 ghost use Rattle.qcow2_types.specs.Header.{Limited, Shaped, header_of, has_external_data};

@@ -1,7 +1,7 @@
 //! What lies before a file's end: all bytes behind it are 0.
 ghost use Rattle.std.specs.Prelude.{◌≡◌, ℕ, ◌+◌, ◌*◌, ◌<◌, ◌≤◌, ◌^◌};
 
-/// How many of the words from a place on begin before the file's end: those behind are 0.
+/// How many of the words (a table's entries) from a place (an offset) on begin before the file's end: those behind are 0.
 pub fn words_before(end: u64, place: u64, words: usize) -> usize
     requires { words < 2 ^ 32 }
     ensures few { result ≤ words }

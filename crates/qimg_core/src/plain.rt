@@ -1,4 +1,5 @@
-//! A plain reader of images: it reads their bytes anew at each call, and keeps nothing.
+//! A plain reader of images: it reads their bytes anew at each call, and keeps nothing. The file below an image is its backing
+//! file, a word of a table its entry, and a place of the disk a guest offset.
 ghost use Rattle.std.specs.Prelude.{◌≡◌, ◌<◌, length, Ok, false, IsTrue, IsFalse, OnOk, IfOk, IfErr, IsErrOf};
 ghost use Rattle.std.specs.Result.{result_err};
 ghost use Rattle.imago_storage.specs.Calls.{Kept};

@@ -1,4 +1,4 @@
-// Counters against what is named.
+// Counters, which qemu calls refcounts, against what is named, or referenced.
 ghost use Rattle.std.specs.Prelude.{◌≡◌, ℕ, ◌+◌, ◌*◌, ◌<◌, ◌≤◌, ◌^◌, OnOk, IfOk, IfErr};
 ghost use Rattle.imago_storage.specs.Calls.{Kept};
 ghost use Rattle.qcow2_types.specs.Header.{Limited, Shaped};
@@ -19,8 +19,8 @@ use qcow2_metadata::{Header, RefBlock};
 use qcow2_types::{HostCluster, HostOffset};
 use std::alloc::Global;
 
-/// The refcount block at an index of the refcount table, or none where there is none or it is past the file's end: all its
-/// counters are 0 then.
+/// The refcount block (imago's refblock) at an index of the refcount table, or none where there is none or it is past the file's
+/// end: all its counters are 0 then.
 fn block_of<S: Storage>(
     alloc: Global,
     image: &mut S,

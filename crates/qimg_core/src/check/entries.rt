@@ -1,5 +1,5 @@
-// Lists of names. A name is 2048 times its cluster, 256 times a place below 8, and a digit below 256: it counts for the digit at
-// that place of a number to the base of 256.
+// Lists of names, or references. A name is 2048 times its cluster, 256 times a place below 8, and a digit below 256: it counts for
+// the digit at that place of a number to the base of 256.
 ghost use Rattle.std.specs.Prelude.{◌≡◌, ℕ, ◌+◌, ◌*◌, ◌/◌, ◌<◌, ◌≤◌, ◌^◌, nat_lt, Some, IfSome, OnOk, IsOkUnless};
 ghost use Rattle.qimg_core.specs.Names.{AddsWeight, TakesFew, IsRising, weight_of};
 ghost use Rattle.qimg_core.specs.Searches.{IsListed, IsCut, IsFrom};

@@ -1,4 +1,4 @@
-// How often each host cluster is named.
+// How often each host cluster is named: referenced, as qemu and imago say.
 ghost use Rattle.std.specs.Prelude.{◌≡◌, ℕ, ◌+◌, ◌*◌, ◌<◌, ◌≤◌, ◌^◌, length, OnOk, IfOk, IsOk, IfSome, IsSome, IsOkUnless};
 ghost use Rattle.qimg_core.specs.Entering.{AddsRange};
 ghost use Rattle.qimg_core.specs.Names.{AddsClusters, AddsEntry, KeepsCells, IsFewSum, HasRoom, HasRoomAt, SparesLists, AreRising, TellsNothing, cell_at, times_at};
@@ -14,9 +14,9 @@ use std::alloc::Global;
 pub struct Times {
     /// As a part of the structure.
     pub structure: u64,
-    /// By words of L2 tables.
+    /// By words, or entries, of L2 tables.
     pub mapped: u64,
-    /// By those of them that are marked as copied.
+    /// By those of them that are marked as copied: `QCOW_OFLAG_COPIED`, imago's copied bit.
     pub copied: u64,
 }
 

@@ -1,4 +1,4 @@
-// The least cluster whose names are of some kind.
+// The least cluster whose names, or references, are of some kind.
 ghost use Rattle.std.specs.Prelude.{◌≡◌, ◌⊎◌, ℕ, ◌+◌, ◌<◌, ◌≤◌, ◌^◌, length, MatchOption, IsSomeAnd, Some, IsTrue, IsFalse};
 ghost use Rattle.qcow2_types.specs.Consistency.{Nowhere, IsLeast};
 ghost use Rattle.qimg_core.specs.Names.{AreRising, all_times, times_at};
@@ -12,7 +12,7 @@ use super::names::{AllTimes, Others, Tallies, cell_of};
 pub enum Question {
     /// As a part of the structure, and more than once?
     Shared,
-    /// As copied, and more than once?
+    /// As copied (`QCOW_OFLAG_COPIED`, the copied bit), and more than once?
     FalselyCopied,
     /// One of these two?
     Either,

@@ -1,4 +1,4 @@
-// What the tables of an image name.
+// What the tables of an image name, or reference. A word of a table is its entry, and a place an offset in the file.
 ghost use Rattle.std.specs.Prelude.{◌≡◌, ℕ, ◌+◌, ◌*◌, ◌<◌, ◌≤◌, ◌^◌, length, slice_index, OnOk, IfOk, IfErr, IsOkUnless, IsTrue, All};
 ghost use Rattle.imago_storage.specs.Calls.{Kept};
 ghost use Rattle.qcow2_types.specs.Words.{max_offset, is_place, data_at};
@@ -26,7 +26,7 @@ const STRUCTURE: Times = Times {
     copied: 0,
 };
 
-/// The places of the L2 tables, and of the refcount blocks.
+/// The places of the L2 tables, and of the refcount blocks, or refblocks.
 #[derive(Drop)]
 pub struct Places {
     pub tables: Vec<u64>,

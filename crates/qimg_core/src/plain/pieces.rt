@@ -1,4 +1,5 @@
-// Reads of ranges of an image: inside one guest cluster, inside what one L2 table maps, and of any.
+// Reads of ranges of an image: inside one guest cluster, inside what one L2 table maps, and of any. A place is an offset: of the
+// guest's disk, or of the file.
 ghost use Rattle.std.specs.Prelude.{◌≡◌, ℕ, ◌+◌, ◌*◌, ◌/◌, ◌%◌, ◌<◌, ◌≤◌, ◌^◌, length, slice_index, Ok, false, IsTrue, IsFalse, OnOk, IfErr};
 ghost use Rattle.imago_storage.specs.Calls.{CountsFaults, Kept, Reads};
 ghost use Rattle.imago_storage.specs.Disk.{Shows};
