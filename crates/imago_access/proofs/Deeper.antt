@@ -1,15 +1,14 @@
 -- A lookup that goes on below.
 use Rattle.std.proofs.Common.{◌≡◌, refl, inl, inr, ℕ, ◌+◌, ◌<◌, ◌≤◌, List, ◌∷◌, ◌++◌, arith, add-one, sym, ◌∙◌, ap, subst}
-use Rattle.std.specs.Prelude.{Bool, true, false, ◌&&◌, if◌then◌else◌, IsTrue, IsSome, Option, Some, None}
-use Rattle.std.proofs.lemmas.Bool.{le-ltb}
+use Rattle.std.specs.Prelude.{Bool, true, false, ◌&&◌, IsTrue, IsSome, Option, Some, None}
 use Rattle.imago_storage.specs.State.{StorageState}
 use Rattle.imago_storage.specs.Disk.{byte}
 use Rattle.imago_storage.specs.declared.fault.Fault.{Fault}
 use Rattle.imago_storage.specs.declared.fault.Fault.TheVariants.{Failed, MissingData, DamagedTable, Memory, Storage}
-use Rattle.imago_access.specs.Layer.{Layer, unmapped, through}
+use Rattle.imago_access.specs.Layer.{Layer, unmapped}
 use Rattle.imago_access.specs.Chain.{at}
 use Rattle.imago_access.specs.Files.{Pairs, IsLater}
-use Rattle.imago_access.specs.Mappings.{AreStated, EachIs, States, Names, IsRun, IsDeepRun, NamesHome, stored_at, DeepNames, DeepNamesWritable, AreWritable, SaysBarred, IsRunBelow, IsDeepBelow, HasStorage, IsThere, lower, is_deep_end}
+use Rattle.imago_access.specs.Mappings.{AreStated, EachIs, States, Names, IsRun, IsDeepRun, NamesHome, stored_at, DeepNames, DeepNamesWritable, AreWritable, SaysBarred, IsRunBelow, HasStorage, IsThere, lower, is_deep_end}
 use Rattle.imago_access.specs.Refusals.{LookCause, DeepLookCause}
 use Rattle.imago_access.specs.declared.mapping.Mapping.{Mapping}
 use Rattle.imago_access.specs.declared.mapping.Mapping.TheVariants.{Raw, Zero, Eof, Special}

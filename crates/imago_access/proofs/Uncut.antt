@@ -1,12 +1,11 @@
 -- Parts of a call whose ends cut no unit that the call covers whole.
-use Rattle.std.proofs.Common.{◌≡◌, inl, inr, ℕ, ◌+◌, ◌-◌, ◌*◌, ◌≤◌, arith, sym, subst}
+use Rattle.std.proofs.Common.{◌≡◌, inl, inr, ℕ, ◌+◌, ◌-◌, ◌≤◌, arith, sym, subst}
 use Rattle.imago_storage.specs.Steps.{Call}
 use Rattle.imago_storage.specs.Causes.{offset_of, length_of}
 use Rattle.imago_access.specs.Layer.{Layer, Fixed}
-use Rattle.imago_access.specs.Room.{IsUncutAt, Reaches}
+use Rattle.imago_access.specs.Room.{IsUncutAt}
 use Rattle.imago_access.specs.Parts.{IsUncutPart}
 use Rattle.imago_access.proofs.Room.{whole_rest}
-use Rattle.std.proofs.lemmas.Bool.{cases_lt}
 
 module _ (unit size offset n : ℕ) where
   pub uncut_start : IsUncutAt unit size offset n offset

@@ -4,7 +4,7 @@ use Rattle.std.proofs.lemmas.List.Sums.{sum_by_more, sum_by_more_le}
 use Rattle.std.proofs.lemmas.Bool.{cases_lt, lt-ltb, le-ltb}
 use Rattle.imago_formats.specs.Descriptor.{size_of}
 use Rattle.imago_storage.specs.Through.{round_up}
-use Rattle.imago_formats.specs.VmdkLayer.{file_names, files_asked, name_in, asks_file, end_in_file, in_extents, in_source, has_file, AreInReach, IsExtentAt, IsWholeRun}
+use Rattle.imago_formats.specs.VmdkLayer.{file_names, files_asked, name_in, end_in_file, in_extents, in_source, has_file, AreInReach, IsExtentAt, IsWholeRun}
 use Rattle.imago_formats.specs.declared.vmdk.descriptor.Extent.{Extent}
 use Rattle.std.proofs.Math.Seq.{drop-cons}
 use Rattle.std.proofs.lemmas.List.{map-append}

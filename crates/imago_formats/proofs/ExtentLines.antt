@@ -1,5 +1,5 @@
 -- Lines that name an extent, by what they are made of.
-use Rattle.std.proofs.Common.{zero, suc, ◌≡◌, ◌⊎◌, inl, inr, ℕ, ◌+◌, ◌*◌, ◌<◌, ◌^◌, ◌&&◌, ◌||◌, Bool, true, false, not, cond, eqb, ltb, List, [], ◌∷◌, ◌++◌, length, take, drop, get_or, Option, Some, None, Result, Ok, Err, refl, sym, ap, subst, ◌∙◌, add-one, append-nil, length-append, take-append-drop, codes, arith}
+use Rattle.std.proofs.Common.{suc, ◌≡◌, ◌⊎◌, inl, inr, ℕ, ◌+◌, ◌*◌, ◌<◌, ◌^◌, ◌&&◌, ◌||◌, Bool, true, false, not, cond, eqb, ltb, List, [], ◌∷◌, ◌++◌, length, take, drop, get_or, Option, Some, None, Result, Ok, Err, refl, sym, ap, subst, ◌∙◌, add-one, append-nil, length-append, take-append-drop, codes, arith}
 use Rattle.std.specs.Prelude.{⊤, IsTrue}
 use Rattle.std.specs.List.{list_all, position_or_len, take_while, before_first, after_first}
 use Rattle.std.specs.Char.{is_ascii_digit}
@@ -16,7 +16,7 @@ use Rattle.imago_storage.specs.declared.fault.Fault.TheVariants.{DamagedDescript
 use Rattle.imago_formats.proofs.WordLemmas.{both}
 use Rattle.imago_formats.specs.DescriptorWords.{◌>>=◌, is_blank, past_blanks, word, past_word, is_decimal, decimal, is_empty, begins_with}
 use Rattle.imago_formats.specs.Descriptor.{access_of, sector_of, in_file, named, flat_of, zero_of, source_of, extent_of, setting_of, is_carried, is_skipped, said_with, said_by}
-use Rattle.imago_formats.specs.DescriptorLines.{AreBlanks, IsGap, AreDigitsOf, access_word, IsSectorText, IsFlatText, IsZeroText, IsSourceText, IsExtentLine}
+use Rattle.imago_formats.specs.DescriptorLines.{AreBlanks, IsGap, AreDigitsOf, access_word, IsSectorText, IsSourceText, IsExtentLine}
 use Rattle.imago_formats.specs.WorkedDescriptor.{extent}
 use Rattle.imago_formats.specs.declared.vmdk.descriptor.Access.{Access}
 use Rattle.imago_formats.specs.declared.vmdk.descriptor.Access.TheVariants.{ReadWrite, ReadOnly, NoAccess}

@@ -1,5 +1,5 @@
 -- The files that extents ask for, opened one by one.
-use Rattle.std.proofs.Common.{[], inl, inr, ◌≡◌, ◌⊎◌, ℕ, ◌+◌, ◌<◌, ◌≤◌, ◌^◌, Bool, true, false, cond, List, ◌∷◌, ◌++◌, length, take, drop, get_or, refl, sym, ap, subst, ◌∙◌, append_assoc, append-nil, length-append, take-append-drop, arith}
+use Rattle.std.proofs.Common.{[], inl, inr, ◌≡◌, ◌⊎◌, ℕ, ◌+◌, ◌<◌, ◌^◌, false, cond, List, ◌∷◌, ◌++◌, length, take, drop, get_or, refl, sym, ap, subst, ◌∙◌, append_assoc, length-append, take-append-drop, arith}
 use Rattle.std.specs.Prelude.{map, Result, Ok, Err, Some}
 use Rattle.std.proofs.lemmas.List.{length-map, map-append}
 use Rattle.std.proofs.lemmas.List.Sums.{sum_by-cons}
@@ -18,7 +18,7 @@ use Rattle.imago_formats.specs.Descriptor.{descriptor_of}
 use Rattle.imago_formats.specs.DescriptorView.{NotRead, RefusesOpening, kept_extent, kept_extents, kept_names, source_with}
 use Rattle.imago_formats.specs.VmdkFiles.{unit_of_all}
 use Rattle.imago_formats.specs.VmdkLayer.{AreInReach, asks_file, end_in_file, file_names, files_asked, has_file, name_in, vmdk_layer}
-use Rattle.imago_formats.specs.VmdkOpening.{FilesRefused, MayRefuse, NotAllOpened, Opens, OpensNext, StopsOpening, Unread}
+use Rattle.imago_formats.specs.VmdkOpening.{FilesRefused, MayRefuse, NotAllOpened, Opens, OpensNext, StopsOpening}
 use Rattle.imago_formats.specs.declared.vmdk.descriptor.Access.{Access}
 use Rattle.imago_formats.specs.declared.vmdk.descriptor.Access.TheVariants.{ReadWrite, ReadOnly, NoAccess}
 use Rattle.imago_formats.specs.declared.vmdk.descriptor.Source.{Source}

@@ -27,7 +27,7 @@ use Rattle.imago_access.specs.PartCalls.{PartCall, ensures_zero, LeavesPart, Doe
 use Rattle.imago_access.proofs.Answers.{handed_on}
 use Rattle.imago_access.proofs.FilePairs.{kept_all_same, later_all_same, faultless_all_same}
 use Rattle.imago_access.proofs.Stopping.{passes_none}
-use Rattle.imago_formats.specs.VmdkFiles.{IsStopped, Keeps, Refuses}
+use Rattle.imago_formats.specs.VmdkFiles.{Keeps, Refuses}
 use borrow.Author.Tests.{ne_eqb}
 
 kept_later : (xs ys : List StorageState) → Pairs IsKept xs ys → Pairs IsLater xs ys

@@ -1,6 +1,6 @@
 -- What calls do to a VMDK image that only look at its storages.
 use Rattle.std.proofs.Common.{zero, suc, ◌≡◌, ℕ, ◌+◌, ◌-◌, ◌*◌, ◌<◌, ◌≤◌, ◌^◌, min, List, [], ◌∷◌, Result, Ok, Err, refl, sym, ap, subst, ◌∙◌, ◌++◌, take, drop, max, arith}
-use Rattle.std.specs.Prelude.{IsOk, Bool, false, true, None, Some, if◌then◌else◌, length, ltb, ◌&&◌, OnOk, IfErr, IsTrue, map, slice_index}
+use Rattle.std.specs.Prelude.{IsOk, Bool, false, true, None, Some, if◌then◌else◌, length, ltb, ◌&&◌, OnOk, IsTrue, map, slice_index}
 use Rattle.imago_storage.specs.State.{StorageState, Shape}
 use Rattle.imago_storage.specs.Disk.{byte, barred}
 use Rattle.imago_storage.specs.Through.{Overflows, round_up}
@@ -9,7 +9,7 @@ use Rattle.imago_access.specs.Mappings.{EachIs, IsOneOf, Looks, States}
 use Rattle.imago_access.specs.declared.mapping.ShallowMapping.TheVariants as shallow
 use Rattle.imago_formats.specs.RawHome.{never}
 use Rattle.imago_storage.specs.declared.fault.Fault.{Fault}
-use Rattle.imago_storage.specs.declared.fault.Fault.TheVariants.{Memory, MissingData, Storage}
+use Rattle.imago_storage.specs.declared.fault.Fault.TheVariants.{MissingData}
 use borrow.Author.Tests.{ltb-false}
 use Rattle.imago_access.specs.Layer.{Layer, Cell, own, loose, unit_of_layer}
 use Rattle.std.specs.declared.string.String.{String}
@@ -19,7 +19,6 @@ use Rattle.imago_access.specs.Files.{Pairs, IsKept, WasNotCutOff, byte_in, great
 use Rattle.imago_access.specs.declared.format.Format.TheVariants as format
 use Rattle.imago_formats.specs.Descriptor.{descriptor_of, size_of}
 use Rattle.imago_formats.specs.DescriptorView.{kept_extents}
-use Rattle.imago_formats.specs.VmdkFiles.{IsStopped}
 use Rattle.imago_formats.specs.declared.vmdk.descriptor.Access.{Access}
 use Rattle.imago_formats.specs.declared.vmdk.descriptor.Access.TheVariants.{ReadWrite, ReadOnly, NoAccess}
 use Rattle.imago_formats.specs.declared.vmdk.descriptor.Source.{Source}

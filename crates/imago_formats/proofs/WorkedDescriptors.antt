@@ -1,6 +1,6 @@
 -- What worked descriptors mean.
-use Rattle.std.proofs.Common.{zero, suc, ◌≡◌, ◌+◌, ◌^◌, ◌<◌, ◌&&◌, ℕ, Bool, true, false, ltb, lit<, List, [], ◌∷◌, ◌++◌, length, drop, inl, inr, refl, ap, ◌∙◌, Option, Some, None, Result, Ok, Err, codes, arith}
-use Rattle.std.specs.Prelude.{map, nat_le, if◌then◌else◌}
+use Rattle.std.proofs.Common.{zero, suc, ◌≡◌, ◌^◌, ◌&&◌, ℕ, Bool, true, ltb, lit<, List, [], ◌∷◌, ◌++◌, length, drop, inr, refl, ap, ◌∙◌, Some, None, Result, Ok, Err, codes, arith}
+use Rattle.std.specs.Prelude.{nat_le, if◌then◌else◌}
 use Rattle.std.specs.List.{list_all}
 use Rattle.std.specs.Str.{IsAscii, is_utf8}
 use Rattle.std.specs.Str.Lines.{lines}

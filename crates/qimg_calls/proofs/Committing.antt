@@ -1,22 +1,17 @@
 -- The mapping that is kept is committed, or given up.
-use Rattle.std.proofs.Common.{◌≡◌, ◌⊎◌, inl, inr, ℕ, ◌<◌, ◌≤◌, List, ◌∷◌, arith, refl, sym, subst, ap, false}
-use Rattle.std.specs.Prelude.{Option, Some, None, is_some, IsSome, Result, Ok, Err, map, OnOk, ⊤}
-use Rattle.imago_storage.specs.Disk.{Value}
-use Rattle.imago_storage.specs.State.{StorageState}
-use Rattle.imago_storage.specs.Steps.{Call, commit, done}
+use Rattle.std.proofs.Common.{◌≡◌, ◌⊎◌, ◌<◌, ◌≤◌, List, ◌∷◌, arith, refl, sym, subst, ap, false}
+use Rattle.std.specs.Prelude.{Option, Some, None, Result, Ok, Err, map, ⊤}
+use Rattle.imago_storage.specs.Steps.{Call}
 use Rattle.imago_storage.specs.declared.fault.Fault.{Fault}
 use Rattle.imago_access.specs.declared.seen.Seen.{Ghosts}
 use Rattle.imago_access.specs.declared.mapping.PreparedDataMapping.{PreparedDataMapping}
-use Rattle.imago_access.specs.Layer.{Layer, IsFree}
-use Rattle.imago_access.specs.Chain.{at, Each}
-use Rattle.imago_access.specs.ChainCalls.{ChainCause, ChainCommits, ChainCancels, commit_of}
-use Rattle.imago_access.specs.Files.{IsMild, IsLater, Pairs, IsKept as IsKeptFile, files, files_of}
-use Rattle.imago_access.specs.Going.{IsUnchanged, LookedUnder, Went}
+use Rattle.imago_access.specs.Chain.{at}
+use Rattle.imago_access.specs.ChainCalls.{ChainCause, ChainCommits, commit_of}
+use Rattle.imago_access.specs.Files.{IsMild, IsLater, files_of}
+use Rattle.imago_access.specs.Going.{IsUnchanged, LookedUnder}
 use Rattle.imago_access.specs.PreparingCalls.{Commits, CommitRefused, Cancels}
-use Rattle.imago_access.specs.Refusals.{barrier}
 use Rattle.imago_access.specs.Running.{IsIntactChain, below_ghosts, below_of, chain_disk}
-use Rattle.imago_access.specs.Spending.{IsMine}
-use Rattle.imago_access.specs.Stops.{KeepsStops, KeepsStopsTo, GivesHeld, Left, MakesNone}
+use Rattle.imago_access.specs.Stops.{KeepsStops, KeepsStopsTo, GivesHeld, Left}
 use Rattle.imago_access.proofs.FilePairs.{is_later_same, kept_all_same}
 use Rattle.imago_access.proofs.Looking.{looked_under_same}
 use Rattle.imago_access.proofs.Stopping.{passes_none, passes_on}
@@ -29,7 +24,7 @@ use Rattle.qimg_calls.specs.Making.{Makes}
 use Rattle.qimg_calls.proofs.Leading.{ValuesBetween, fewer-stops, step-leads, usable-by}
 use Rattle.qimg_calls.proofs.Moving.{layer-stays}
 use Rattle.qimg_calls.proofs.Resizing.{stays-between}
-use Rattle.qimg_calls.proofs.Spending.{cancelled-between, committed-between, free-then, held-gives, not-foreign, not-given-back, not-spending, not-spent, spent-free}
+use Rattle.qimg_calls.proofs.Spending.{committed-between, held-gives, not-given-back, not-spending, not-spent, spent-free}
 
 module _ {D St : Type 0} (g : Ghosts D St) (safe_runs : (d : D) → g.safe d → (g.layer d).failed ≡ false) (old new : D × List D) (mapping : PreparedDataMapping St)
     (below : new.1 ≡ old.1) (kept : IsKept g (holding old (Some mapping))) where

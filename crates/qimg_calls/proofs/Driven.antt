@@ -1,9 +1,9 @@
 -- What a list of calls does to a chain, with the mapping cancelled that is kept at its end.
-use Rattle.std.proofs.Common.{◌≡◌, ℕ, ◌<◌, List, ◌∷◌, refl, sym, subst, ap}
+use Rattle.std.proofs.Common.{◌≡◌, ℕ, List, refl, sym, subst}
 use Rattle.std.specs.Prelude.{Bool, Some, None, Option, map}
-use Rattle.imago_storage.specs.Disk.{Value, Disk}
+use Rattle.imago_storage.specs.Disk.{Disk}
 use Rattle.imago_storage.specs.Calls.{IsFaultless}
-use Rattle.imago_storage.specs.Steps.{cancel, done}
+use Rattle.imago_storage.specs.Steps.{cancel}
 use Rattle.imago_access.specs.declared.seen.Seen.{Ghosts}
 use Rattle.imago_access.specs.declared.mapping.PreparedDataMapping.{PreparedDataMapping}
 use Rattle.imago_access.specs.Files.{IsLater}
@@ -15,8 +15,8 @@ use Rattle.qimg_calls.specs.declared.call.Call.{Call}
 use Rattle.qimg_calls.specs.declared.call.Call.TheVariants as calls
 use Rattle.qimg_calls.specs.declared.call.Answer.{Answer}
 use Rattle.qimg_calls.specs.declared.call.Answer.TheVariants as told
-use Rattle.qimg_calls.specs.Since.{Since, Begun, begun, IsSince}
-use Rattle.qimg_calls.specs.Held.{Holding, holding, IsKept, IsReady, disk_call}
+use Rattle.qimg_calls.specs.Since.{Since, begun, IsSince}
+use Rattle.qimg_calls.specs.Held.{holding, IsKept, IsReady, disk_call}
 use Rattle.qimg_calls.specs.Making.{Makes, AnswersAll, CancelsKept, MadeAll}
 use Rattle.qimg_calls.specs.Runs.{StandsSince, Driven}
 use Rattle.qimg_calls.proofs.Lists.{Going, going-all, going-both, going-made, going-same, ran-all, stands-next}

@@ -1,6 +1,6 @@
 -- What calls of a chain leave to the next one, and to a stop.
-use Rattle.std.proofs.Common.{◌≡◌, ◌⊎◌, inl, inr, ℕ, ◌<◌, ◌≤◌, ◌+◌, ◌^◌, ◌∷◌, List, length, arith, sym, ◌∙◌, ap, subst, refl, false}
-use Rattle.std.specs.Prelude.{IsTrue, map, Option, Some, None, Result, Ok, Err, IsOk, IfErr}
+use Rattle.std.proofs.Common.{◌≡◌, ◌⊎◌, inl, inr, ℕ, ◌<◌, ◌≤◌, ◌+◌, ◌^◌, ◌∷◌, List, length, arith, sym, ap, subst, refl, false}
+use Rattle.std.specs.Prelude.{map, Option, Some, None, Result, Ok, Err, IsOk, IfErr}
 use Rattle.std.proofs.lemmas.List.{length-map}
 use Rattle.imago_storage.specs.Disk.{Value, Disk}
 use Rattle.imago_storage.specs.State.{StorageState}
@@ -19,7 +19,7 @@ use Rattle.imago_access.specs.Going.{Looked, LookedUnder, Went}
 use Rattle.imago_access.specs.Parts.{PlainCause}
 use Rattle.imago_access.specs.Refusals.{barrier}
 use Rattle.imago_access.specs.Running.{RanChain, IsBetween, IsIntactChain, below_ghosts, chain_disk}
-use Rattle.imago_access.specs.Stops.{Left, KeepsStops, KeepsStopsTo, GivesNone}
+use Rattle.imago_access.specs.Stops.{Left, KeepsStopsTo, GivesNone}
 use Rattle.imago_access.proofs.Looking.{chain_same, chain_sees, chain_kept}
 use Rattle.imago_access.proofs.Stopping.{passes_weaker}
 use Rattle.qimg_calls.specs.Since.{Begun, most_size}

@@ -1,19 +1,18 @@
 -- Calls one behind the other: from what each makes by itself to what the list does.
 use Rattle.std.proofs.lemmas.Bool.{cases_lt}
 use Rattle.std.proofs.lemmas.List.Elements.{All-weaker}
-use Rattle.std.proofs.Common.{◌≡◌, ◌⊎◌, inl, inr, ℕ, ◌+◌, ◌<◌, ◌≤◌, ◌^◌, ◌∷◌, ◌++◌, [], List, length, arith, refl, sym, subst, ap, ◌∙◌, true, false, suc, zero}
-use Rattle.std.specs.Prelude.{Bool, Option, Some, None, is_some, is_none, IsTrue, map, take, drop, ⊤, if◌then◌else◌}
+use Rattle.std.proofs.Common.{◌≡◌, ◌⊎◌, inl, inr, ℕ, ◌+◌, ◌<◌, ◌≤◌, ◌^◌, ◌∷◌, ◌++◌, [], List, length, arith, refl, sym, subst, ap, ◌∙◌, true, false, suc}
+use Rattle.std.specs.Prelude.{Bool, Option, Some, None, is_some, is_none, IsTrue, map}
 use Rattle.imago_storage.specs.State.{StorageState, InStep, Rose}
 use Rattle.imago_storage.specs.Passing.{Passes}
 use Rattle.imago_storage.specs.Through.{StopsIn}
 use Rattle.imago_storage.specs.Calls.{IsFaultless}
 use Rattle.imago_storage.specs.Steps.{Call as DiskCall}
-use Rattle.imago_storage.specs.declared.fault.Fault.{Fault}
 use Rattle.imago_storage.specs.declared.fault.Fault.TheVariants.{Memory, Storage, BadArgument}
 use Rattle.imago_access.specs.declared.seen.Seen.{Ghosts}
 use Rattle.imago_access.specs.Layer.{IsFree}
 use Rattle.imago_access.specs.Chain.{Each}
-use Rattle.imago_access.specs.Files.{Pairs, IsMild, IsLater, IsKept as IsKeptFile, files_of}
+use Rattle.imago_access.specs.Files.{Pairs, IsLater, IsKept as IsKeptFile, files_of}
 use Rattle.imago_access.specs.Running.{chain_disk, IsIntactChain}
 use Rattle.imago_access.specs.Stops.{IsCovered, IsWritten, Left}
 use Rattle.imago_access.proofs.FilePairs.{is_later_same, is_later_both, kept_all_same, kept_all_both}

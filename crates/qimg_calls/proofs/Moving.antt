@@ -4,7 +4,6 @@ use Rattle.std.specs.Prelude.{Result, Ok, Err, OnOk, IfErr, IsErrOf, IsOk, IsFal
 use Rattle.imago_storage.specs.State.{StorageState}
 use Rattle.imago_storage.specs.Steps.{done}
 use Rattle.imago_storage.specs.declared.fault.Fault.{Fault}
-use Rattle.imago_storage.specs.declared.fault.Fault.TheVariants.{Memory, Storage}
 use Rattle.imago_access.specs.declared.seen.Seen.{Ghosts}
 use Rattle.imago_access.specs.ChainCalls.{ChainSteps, ChainStays, IfMild}
 use Rattle.imago_access.specs.Layer.{IsFree}
@@ -17,7 +16,7 @@ use Rattle.qimg_calls.specs.declared.call.Answer.TheVariants as told
 use Rattle.qimg_calls.specs.Calls.{Fits, GoesOn, IfRefused, WasDone, tells_something}
 use Rattle.qimg_calls.specs.Held.{Holding, disk_call}
 use Rattle.qimg_calls.specs.Making.{done_or_refused}
-use Rattle.qimg_calls.specs.Moves.{Moves, Does, KeepsMapping, Names, Refuses, Leaves, TopStays}
+use Rattle.qimg_calls.specs.Moves.{Moves, KeepsMapping, Names, Refuses, Leaves, TopStays}
 use Rattle.qimg_calls.proofs.Leading.{whole-ok}
 
 -- an answer that goes on is that of a call that was not cut off

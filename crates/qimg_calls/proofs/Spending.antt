@@ -1,6 +1,6 @@
 -- What becomes of the mapping that is kept, and of the disk, where it is spent.
-use Rattle.std.proofs.Common.{◌≡◌, ◌⊎◌, inl, inr, ℕ, ◌<◌, List, ◌∷◌, arith, refl, sym, subst, ap}
-use Rattle.std.specs.Prelude.{Bool, true, false, not, Option, Some, None, is_some, is_none, IsSome, map}
+use Rattle.std.proofs.Common.{◌≡◌, ◌⊎◌, inl, inr, ℕ, ◌<◌, List, arith, refl}
+use Rattle.std.specs.Prelude.{Bool, true, false, not, Option, Some, None, is_some, is_none, IsSome}
 use Rattle.imago_storage.specs.Disk.{Value, Disk, Hold, free, held}
 use Rattle.imago_storage.specs.Steps.{Step, Settles, commit, cancel, done}
 use Rattle.imago_storage.specs.declared.fault.Fault.{Fault}
@@ -10,7 +10,6 @@ use Rattle.imago_access.specs.Files.{IsMild}
 use Rattle.imago_access.specs.Spending.{GivenBack, IsMine, IsForeignTo, IsSpending, Spends}
 use Rattle.imago_access.specs.Refusals.{barrier}
 use Rattle.imago_access.specs.Layer.{Layer, Held, loose, beside, inside, hold_of, IsFree}
-use Rattle.imago_access.specs.Running.{IsIntactChain, chain_disk, below_of}
 use Rattle.imago_access.specs.Stops.{MayTake as MayTakeHeld}
 use Rattle.qimg_calls.specs.Since.{Begun, MayTake}
 use Rattle.qimg_calls.proofs.Leading.{ValuesBetween}

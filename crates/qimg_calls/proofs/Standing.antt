@@ -1,5 +1,5 @@
 -- A target behind a copy, as calls of it rest on.
-use Rattle.std.proofs.Common.{◌≡◌, inl, inr, ℕ, ◌+◌, ◌<◌, List, arith, sym, ap, ◌∙◌, false}
+use Rattle.std.proofs.Common.{◌≡◌, inl, inr, ℕ, ◌<◌, List, arith, sym, ap, ◌∙◌, false}
 use Rattle.std.specs.Prelude.{◌∷◌, Result, map}
 use Rattle.imago_storage.specs.Disk.{Value, byte}
 use Rattle.imago_storage.specs.Steps.{write}

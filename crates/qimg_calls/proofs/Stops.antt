@@ -1,9 +1,9 @@
 -- What a stop in one call shows, behind the calls before it.
 use Rattle.std.proofs.lemmas.Bool.{cases_lt}
 use Rattle.std.proofs.lemmas.Bool.Decides.{nat_tests}
-use Rattle.std.proofs.Common.{◌≡◌, ◌⊎◌, inl, inr, ℕ, ◌<◌, ◌≤◌, ◌∷◌, List, arith, sym, ◌∙◌, ap, subst, refl, true}
-use Rattle.std.specs.Prelude.{ltb, IsTrue, max}
-use Rattle.imago_storage.specs.Disk.{Value, Disk, Hold}
+use Rattle.std.proofs.Common.{◌≡◌, ◌⊎◌, inl, inr, ℕ, ◌<◌, ◌≤◌, ◌∷◌, List, arith, sym, ap, subst, refl, true}
+use Rattle.std.specs.Prelude.{ltb, IsTrue}
+use Rattle.imago_storage.specs.Disk.{Value, Disk}
 use Rattle.imago_storage.specs.Steps.{Call, grow}
 use Rattle.imago_access.specs.Layer.{Layer, Fixed, through}
 use Rattle.imago_access.specs.Chain.{at, disk_of}

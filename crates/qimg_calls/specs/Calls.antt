@@ -1,5 +1,5 @@
 -- The calls of a list, as calls of a disk.
-use Rattle.std.specs.Prelude.{◌≡◌, ⊤, Bool, false, true, not, ◌&&◌, IsFalse, Option, Some, None, List}
+use Rattle.std.specs.Prelude.{⊤, Bool, false, true, not, ◌&&◌, IsFalse, Option, Some, None}
 use Rattle.imago_storage.specs.declared.fault.Fault.{Fault}
 use Rattle.imago_storage.specs.Steps.{Answer as DiskAnswer, done, bytes_read, run, found, prepared}
 use Rattle.imago_access.specs.Files.{IsMild}

@@ -1,5 +1,5 @@
 -- A chain with the mapping that is kept, and what calls of it rest on.
-use Rattle.std.specs.Prelude.{◌≡◌, ◌+◌, ◌<◌, ◌^◌, ⊤, ℕ, List, length, map, Option, Some, None, is_some}
+use Rattle.std.specs.Prelude.{◌≡◌, ◌+◌, ◌<◌, ◌^◌, List, length, map, Option, Some, None, is_some}
 use Rattle.imago_storage.specs.Steps.{Call as DiskCall, read, write, write_zeroes, discard_to_zero, discard_to_any, discard_to_backing, prepare, cancel, ensure, write_mapped, lookup, flush, sync, grow, shrink}
 use Rattle.imago_access.specs.declared.seen.Seen.{Ghosts}
 use Rattle.imago_access.specs.declared.mapping.PreparedDataMapping.{PreparedDataMapping}

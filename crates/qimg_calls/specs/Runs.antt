@@ -1,5 +1,5 @@
 -- What a list of calls does to a chain: each reads and changes one flat disk, and a stop shows what was flushed or what was begun since.
-use Rattle.std.specs.Prelude.{◌≡◌, ⊤, ℕ, ◌+◌, ◌<◌, ◌^◌, List, [], ◌∷◌, length, map, take, Option, Some, None, MatchOption, is_some, is_none, IsTrue, if◌then◌else◌}
+use Rattle.std.specs.Prelude.{◌≡◌, ⊤, ℕ, ◌+◌, ◌<◌, ◌^◌, List, [], ◌∷◌, length, map, take, Some, None, MatchOption, is_some, is_none, IsTrue, if◌then◌else◌}
 use Rattle.imago_storage.specs.Calls.{IsFaultless}
 use Rattle.imago_storage.specs.Passing.{Passes}
 use Rattle.imago_storage.specs.declared.fault.Fault.{Fault}

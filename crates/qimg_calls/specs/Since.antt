@@ -1,5 +1,5 @@
 -- What a disk may show since the last flush.
-use Rattle.std.specs.Prelude.{◌≡◌, ◌⊎◌, ⊤, ℕ, ◌<◌, max, true, Some, None, List, [], ◌∷◌}
+use Rattle.std.specs.Prelude.{◌≡◌, ◌⊎◌, ℕ, ◌<◌, max, true, Some, None, List, [], ◌∷◌}
 use Rattle.imago_storage.specs.Disk.{Value, byte, Hold, held, Disk}
 use Rattle.imago_storage.specs.Steps.{Call, write, write_zeroes, discard_to_zero, discard_to_any, discard_to_backing, commit, ensure, write_mapped, grow, shrink, IsByte}
 use Rattle.imago_access.specs.Layer.{Layer, Fixed}

@@ -1,5 +1,5 @@
-use Rattle.std.proofs.Common.{◌≡◌, ℕ, suc, ◌≤◌, ◌<◌, ◌+◌, ◌++◌, ◌∷◌, ◌∙◌, [], arith, length, refl, sym, ap}
-use Rattle.std.specs.Prelude.{None, take, vec_len, vec_capacity}
+use Rattle.std.proofs.Common.{◌≡◌, ℕ, suc, ◌≤◌, ◌<◌, ◌+◌, ◌++◌, ◌∷◌, ◌∙◌, [], arith, length, sym, ap}
+use Rattle.std.specs.Prelude.{None, take, vec_capacity}
 use Rattle.std.proofs.Math.Seq.{take-suc}
 use Rattle.qimg_calls.specs.Held.{holding}
 use Rattle.qimg_calls.specs.Making.{Answers}

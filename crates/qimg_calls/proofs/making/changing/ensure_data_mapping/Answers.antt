@@ -1,14 +1,12 @@
-use Rattle.std.specs.Prelude.{None, map, Bool, true, false}
-use Rattle.std.proofs.Common.{ℕ, List, ◌∷◌, ap, arith, refl}
+use Rattle.std.specs.Prelude.{map, Bool, true, false}
+use Rattle.std.proofs.Common.{ℕ, List, ap, arith, refl}
 use Rattle.imago_storage.specs.Disk.{Value, Disk}
 use Rattle.imago_storage.specs.Steps.{ensure, run}
-use Rattle.imago_access.specs.Files.{WasNotCutOff}
 use Rattle.imago_access.specs.Layer.{Layer}
 use Rattle.imago_access.specs.Running.{chain_disk}
 use Rattle.imago_access.specs.Stops.{GivesAnnounced}
 use Rattle.qimg_calls.specs.Calls.{GoesOn}
 use Rattle.qimg_calls.specs.Since.{Begun}
-use Rattle.qimg_calls.specs.Held.{holding}
 use Rattle.qimg_calls.specs.declared.call.Answer.TheVariants as told
 use Rattle.qimg_calls.proofs.Leading.{ran-leads}
 use Rattle.qimg_calls.proofs.making.changing.ensure_data_mapping.Goals as goal

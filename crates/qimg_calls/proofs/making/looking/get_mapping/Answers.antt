@@ -1,5 +1,4 @@
 use Rattle.std.proofs.Common.{ap, arith, refl}
-use Rattle.std.specs.Prelude.{map}
 use Rattle.imago_storage.specs.Steps.{lookup, found}
 use Rattle.imago_access.specs.Kinds.{deep_kind_of}
 use Rattle.qimg_calls.specs.Calls.{GoesOn}

@@ -3,8 +3,6 @@ use Rattle.std.proofs.Common.{◌≡◌, ◌++◌, ℕ, List, length, ◌∙◌,
 use Rattle.std.proofs.Math.Seq.{take-append_seam}
 use Rattle.imago_storage.specs.Steps.{read, bytes_read}
 use Rattle.imago_access.specs.ChainLooks.{ChainReads}
-use Rattle.qimg_calls.specs.Calls.{GoesOn}
-use Rattle.qimg_calls.specs.Held.{holding}
 use Rattle.qimg_calls.specs.declared.call.Answer.TheVariants as told
 use Rattle.qimg_calls.proofs.Leading.{like-kept, look-leads, looked-stays}
 use Rattle.qimg_calls.proofs.making.looking.read.Goals as goal

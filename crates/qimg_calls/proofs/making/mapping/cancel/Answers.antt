@@ -1,6 +1,6 @@
-use Rattle.std.specs.Prelude.{None, Some, map}
+use Rattle.std.specs.Prelude.{Some, map}
 use Rattle.std.proofs.Common.{refl, arith}
-use Rattle.imago_storage.specs.Steps.{cancel, done}
+use Rattle.imago_storage.specs.Steps.{done}
 use Rattle.imago_access.specs.Running.{below_of, chain_disk}
 use Rattle.qimg_calls.specs.Since.{Begun}
 use Rattle.qimg_calls.specs.Held.{holding, disk_call}

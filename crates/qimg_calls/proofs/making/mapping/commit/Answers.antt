@@ -1,4 +1,3 @@
-use Rattle.std.specs.Prelude.{None, Some}
 use Rattle.std.proofs.Common.{inl, refl}
 use Rattle.imago_storage.specs.Steps.{done}
 use Rattle.qimg_calls.proofs.Committing.{commit-leads, refused-makes}

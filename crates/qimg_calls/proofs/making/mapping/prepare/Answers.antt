@@ -1,8 +1,7 @@
-use Rattle.std.specs.Prelude.{None, Some, is_some, not}
+use Rattle.std.specs.Prelude.{is_some, not}
 use Rattle.std.proofs.Common.{◌≡◌, ◌∙◌, ap, arith, refl, sym}
 use Rattle.imago_storage.specs.Steps.{prepare, prepared}
 use Rattle.imago_access.specs.Stops.{GivesNone}
-use Rattle.qimg_calls.specs.Moves.{IsTold}
 use Rattle.qimg_calls.specs.declared.call.Answer.TheVariants as told
 use Rattle.qimg_calls.proofs.Leading.{ran-leads}
 use Rattle.qimg_calls.proofs.Spending.{some-or-none}
