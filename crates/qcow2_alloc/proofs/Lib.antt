@@ -1,4 +1,5 @@
 pub mod Faults
+pub mod Causes
 pub mod Caching
 pub mod Flushing
 pub mod Memory

@@ -1,10 +1,10 @@
 -- How free clusters are counted, and made room to be counted in.
-use Rattle.std.specs.Prelude.{⊤, ◌==◌, if◌then◌else◌, Bool, IfOk, ◌≡◌, ◌≢◌, ◌⊎◌, ℕ, ◌+◌, ◌*◌, ◌/◌, ◌%◌, ◌<◌, ◌≤◌, IsTrue, Result, OnOk, Ok, Err, MatchResult, MatchOption, length, slice_index}
+use Rattle.std.specs.Prelude.{⊤, ◌==◌, if◌then◌else◌, Bool, IfOk, ◌≡◌, ◌≢◌, ◌⊎◌, ℕ, ◌+◌, ◌*◌, ◌/◌, ◌%◌, ◌<◌, ◌≤◌, IsTrue, Result, OnOk, Ok, Err, MatchOption, length, slice_index}
 use Rattle.std.specs.List.{sum_by}
 use Rattle.imago_storage.specs.State.{StorageState}
 use Rattle.imago_storage.specs.Calls.{Later, IsFaultless}
 use Rattle.imago_storage.specs.declared.fault.Fault.{Fault}
-use Rattle.imago_storage.specs.declared.fault.Fault.TheVariants.{DamagedTable, Counter, Limit}
+use Rattle.imago_storage.specs.declared.fault.Fault.TheVariants.{DamagedTable, Counter}
 use Rattle.qcow2_types.specs.Words.{block_offset}
 use Rattle.qcow2_types.specs.Counts.{counters_of_block}
 use Rattle.qcow2_types.specs.Header.{Header}
@@ -18,7 +18,8 @@ use Rattle.qcow2_alloc.specs.declared.cache.CacheDependency.TheVariants.{L2Depen
 use Rattle.qcow2_alloc.specs.Allocators.{named_block, UsesBlock}
 use Rattle.qcow2_alloc.specs.Caches.{CachedFile, order_of, KeepsTables}
 use Rattle.qcow2_alloc.specs.FreeList.{covers}
-use Rattle.qcow2_alloc.specs.Freeing.{IsLoose, WhyNotCounted}
+use Rattle.qcow2_alloc.specs.Causes.{Causes, FailsFor}
+use Rattle.qcow2_alloc.specs.Freeing.{IsLoose, counting_causes}
 use Rattle.qcow2_alloc.specs.Going.{WasNotCutOff}
 use Rattle.qcow2_alloc.specs.MakingRoom.{run_of}
 use Rattle.qcow2_alloc.specs.Quiet.{Metadata, IsSound, Quietly, counted}
@@ -41,11 +42,11 @@ RaisesCluster state table cluster old result new = MatchOption
 abbrev pub OnlyRaised : Metadata → Metadata → Type 0
 OnlyRaised m m' = (c : ℕ) → (counted m' c ≡ counted m c) ⊎ ((counted m c ≡ 0) × (counted m' c ≡ 1))
 
--- Why a call that allocates was refused: as one that counts is, or since there is no place left, of which `full` says what number tells it,
--- and no fault goes before.
-abbrev pub WhyNotAllocated : Type 0 → (Bool → Type 0) → (ℕ → Type 0) → ℕ → ℕ → Fault → Type 0
-WhyNotAllocated sound loose full before after (Limit number) = full number × (after ≡ before)
-WhyNotAllocated sound loose full before after fault = WhyNotCounted sound loose before after fault
+-- Calls that allocate fail as those that count do, and since there is no place left, of which `full` says what number tells it; no fault
+-- goes before that.
+abbrev pub allocating_causes : (sound : Type 0) → (loose : Bool → Type 0) → (full : ℕ → Type 0) → (before after : ℕ) → Causes
+allocating_causes sound loose full before after =
+    record (counting_causes sound loose before after) { limit = λ number. full number × (after ≡ before) }
 
 -- Clusters of a run of n are counted, while blocks are written before tables: those that are handed out of a part of it, which is all of it
 -- unless that is cut off. No counter of a sound image stops it where no cluster of the run is counted and each is ready.
@@ -67,10 +68,9 @@ pub record CountsPart {S : Type 0} (state : S → StorageState) (handed : ℕ �
   pub header : s'.file.header ≡ s.file.header
   pub loose : (any : Bool) → IsLoose s.table s.caches any → IsLoose s.table s'.caches any
   pub room : KeepsTables s.caches s'.caches
-  pub cause : MatchResult result (λ _. (state s'.file.image).faults ≡ (state s.file.image).faults)
-      (WhyNotCounted (IsTrue (state s.file.image).shape.keeps × (order_of s.caches ≡ L2DependsOnRb) × IsSound (metadata state s)
-      × ((c : ℕ) → first ≤ c → c < first + n → (counted (metadata state s) c ≡ 0) × ready c))
-      (IsLoose s.table s.caches) (state s.file.image).faults (state s'.file.image).faults)
+  pub cause : FailsFor (counting_causes (IsTrue (state s.file.image).shape.keeps × (order_of s.caches ≡ L2DependsOnRb)
+      × IsSound (metadata state s) × ((c : ℕ) → first ≤ c → c < first + n → (counted (metadata state s) c ≡ 0) × ready c))
+      (IsLoose s.table s.caches) (state s.file.image).faults (state s'.file.image).faults) result
 
 -- A run of n clusters is counted. Each needs a block that the refcount table names.
 abbrev pub CountsRun : {S : Type 0} → (S → StorageState) → (first n : ℕ) → ImageState S → Result Unit Fault → ImageState S → Type 0
@@ -104,10 +104,9 @@ pub record MakesBlock {S : Type 0} (state : S → StorageState) (index : ℕ) (s
   pub header : s'.file.header ≡ s.file.header
   pub loose : (any : Bool) → IsLoose s.table s.caches any → IsLoose s'.table s'.caches any
   pub room : KeepsTables s.caches s'.caches
-  pub cause : MatchResult result (λ _. (state s'.file.image).faults ≡ (state s.file.image).faults)
-      (WhyNotAllocated (IsGuarded state s) (IsLoose s.table s.caches)
+  pub cause : FailsFor (allocating_causes (IsGuarded state s) (IsLoose s.table s.caches)
       (λ number. (number ≤ index * counters_of_block s.file.header.fields) × (IsInReach s.file.header.fields.cluster_bits number → ⊥))
-      (state s.file.image).faults (state s'.file.image).faults)
+      (state s.file.image).faults (state s'.file.image).faults) result
 
 -- how many words of a refcount table name no block
 abbrev pub missing : TableValue → ℕ
@@ -143,7 +142,6 @@ pub record MakesBlocks {S : Type 0} (state : S → StorageState) (first end : �
   pub layout : s'.table.layout ≡ s.table.layout
   pub placed : s'.table.cluster ≡ s.table.cluster
   pub header : s'.file.header ≡ s.file.header
-  pub cause : MatchResult result (λ _. (state s'.file.image).faults ≡ (state s.file.image).faults)
-      (WhyNotAllocated (IsGuarded state s) (IsLoose s.table s.caches)
+  pub cause : FailsFor (allocating_causes (IsGuarded state s) (IsLoose s.table s.caches)
       (λ number. (i : ℕ) × (first ≤ i) × (i < end) × (number ≤ i * counters_of_block s.file.header.fields)
-      × (IsInReach s.file.header.fields.cluster_bits number → ⊥)) (state s.file.image).faults (state s'.file.image).faults)
+      × (IsInReach s.file.header.fields.cluster_bits number → ⊥)) (state s.file.image).faults (state s'.file.image).faults) result

@@ -1,12 +1,12 @@
 -- How L2 tables and refcount blocks are found in their caches, or loaded into them.
-use Rattle.std.specs.Prelude.{◌≡◌, ◌⊎◌, ℕ, ◌*◌, ◌<◌, ◌≤◌, ◌∷◌, ◌&&◌, ⊤, Bool, true, IsSome, OnOk, OnErr, Ok, Err, Result, MatchResult, List, None, Some, cond, length, map, nat_eq, nat_lt}
+use Rattle.std.specs.Prelude.{◌≡◌, ◌⊎◌, ℕ, ◌*◌, ◌<◌, ◌≤◌, ◌∷◌, ◌&&◌, Bool, true, IsSome, OnOk, OnErr, Ok, Err, Result, MatchResult, List, None, Some, cond, length, map, nat_eq, nat_lt}
 use Rattle.std.specs.Option.{option_map_or}
 use Rattle.std.specs.List.{AllByRecursion, count_by}
 use Rattle.std.specs.Map.{lookup, remove_entry}
-use Rattle.imago_storage.specs.State.{StorageState, Rose}
+use Rattle.imago_storage.specs.State.{StorageState}
 use Rattle.imago_storage.specs.Calls.{Kept}
 use Rattle.imago_storage.specs.declared.fault.Fault.{Fault}
-use Rattle.imago_storage.specs.declared.fault.Fault.TheVariants.{Memory, Storage, DamagedTable, CacheFull}
+use Rattle.imago_storage.specs.declared.fault.Fault.TheVariants.{CacheFull}
 use Rattle.qcow2_types.specs.Bytes.{Bytes, bytes_of}
 use Rattle.qcow2_types.specs.Header.{Fields, cluster_size, words_of_cluster, layout_of}
 use Rattle.qcow2_metadata.specs.Places.{IsInReach}
@@ -19,6 +19,7 @@ use Rattle.qcow2_alloc.specs.declared.file.ImageFile.{ImageFile}
 use Rattle.qcow2_alloc.specs.Backends.{TableFlushed, BlockFlushed}
 use Rattle.qcow2_alloc.specs.Cache.{victim, FlushedAt}
 use Rattle.qcow2_alloc.specs.Caches.{cached_in, order_of, HasRoomOf}
+use Rattle.qcow2_alloc.specs.Causes.{Causes, FailsFor}
 use Rattle.qcow2_alloc.specs.Going.{Going, CachedStep, Always, WasNotCutOff, AreTablesInReach, AreBlocksInReach, BehindBlocks, BehindTables}
 use Rattle.qcow2_alloc.specs.Memory.{written_table, written_block}
 use Rattle.qcow2_alloc.specs.Safety.{AreTablesClean, AreBlocksClean}
@@ -74,18 +75,11 @@ abbrev pub LetsBlockIn : CachedStep
 LetsBlockIn old cached result new cached' = (cached'.tables ≡ cached.tables)
     × LetsIn BlockFlushed old cached.blocks result new cached'.blocks
 
--- Why a search was refused, by the counts of faults before and after, where `fine` says that words can name what is loaded and written
--- and that what is loaded is sound. `Memory` may come behind a fault of the storage.
-abbrev pub WhyNotFound : Type 0 → Type 0 → ℕ → ℕ → Fault → Type 0
-WhyNotFound fine full before after Memory = ⊤
-WhyNotFound fine full before after Storage = Rose before after
-WhyNotFound fine full before after DamagedTable = fine → ⊥
-WhyNotFound fine full before after CacheFull = full
-WhyNotFound fine full before after fault = ⊥
-
--- the count of faults after it
-abbrev pub CountsSearch : Type 0 → Type 0 → ℕ → ℕ → Result Unit Fault → Type 0
-CountsSearch fine full before after result = MatchResult result (λ _. after ≡ before) (WhyNotFound fine full before after)
+-- Searches fail, but for want of memory or by a storage, as a damaged table where `fine` doesn't hold, that words can name what is loaded
+-- and written and that what is loaded is sound; and as a full cache where `full` does.
+abbrev pub search_causes : (fine full : Type 0) → (before after : ℕ) → Causes
+search_causes fine full before after =
+    record { damaged = fine → ⊥; counter = ⊥; full = full; limit = λ number. ⊥; before = before; after = after }
 
 -- Words can name the table in this cluster, and the file has it sound.
 pub record IsTableFine (f : Bytes) (h : Fields) (cluster : ℕ) : Type 0 where
@@ -116,9 +110,9 @@ pub record TableFound {S : Type 0} (state : S → StorageState) (cluster : ℕ) 
       × AreTablesClean (cached_in new) × AreBlocksClean (cached_in new)
   pub others : (new.order ≡ old.order) × (after.header ≡ before.header)
   pub room : HasRoomOf old new
-  pub cause : CountsSearch (IsTableFine (bytes_of (state after.image).bytes) before.header.fields cluster × AreTablesInReach (cached_in old)
-      × AreBlocksInReach (cached_in old)) (IsPinnedFull old.l2.slots.cap (cached_in old).tables) (state before.image).faults
-      (state after.image).faults result
+  pub cause : FailsFor (search_causes (IsTableFine (bytes_of (state after.image).bytes) before.header.fields cluster
+      × AreTablesInReach (cached_in old) × AreBlocksInReach (cached_in old)) (IsPinnedFull old.l2.slots.cap (cached_in old).tables)
+      (state before.image).faults (state after.image).faults) result
 
 -- The same of a refcount block.
 pub record BlockFound {S : Type 0} (state : S → StorageState) (cluster : ℕ) (old : MetadataCaches S) (before : ImageFile S)
@@ -138,6 +132,6 @@ pub record BlockFound {S : Type 0} (state : S → StorageState) (cluster : ℕ) 
       × AreTablesClean (cached_in new) × AreBlocksClean (cached_in new)
   pub others : (new.order ≡ old.order) × (after.header ≡ before.header)
   pub room : HasRoomOf old new
-  pub cause : CountsSearch (IsInReach before.header.fields.cluster_bits cluster × AreTablesInReach (cached_in old)
+  pub cause : FailsFor (search_causes (IsInReach before.header.fields.cluster_bits cluster × AreTablesInReach (cached_in old)
       × AreBlocksInReach (cached_in old)) (IsPinnedFull old.rb.slots.cap (cached_in old).blocks) (state before.image).faults
-      (state after.image).faults result
+      (state after.image).faults) result

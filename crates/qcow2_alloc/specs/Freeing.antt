@@ -1,10 +1,9 @@
 -- How clusters that wait to be freed are counted down.
-use Rattle.std.specs.Prelude.{◌≡◌, ◌⊎◌, ⊤, ℕ, ◌<◌, ◌≤◌, Result, MatchResult, OnOk, Bool, List, [], ◌∷◌, Some, length, nat_eq, not, true, false}
+use Rattle.std.specs.Prelude.{◌≡◌, ◌⊎◌, ⊤, ℕ, ◌<◌, ◌≤◌, Result, OnOk, Bool, List, [], ◌∷◌, Some, length, nat_eq, not, true, false}
 use Rattle.std.specs.List.{filter}
-use Rattle.imago_storage.specs.State.{StorageState, Rose}
+use Rattle.imago_storage.specs.State.{StorageState}
 use Rattle.imago_storage.specs.Calls.{IsFaultless}
 use Rattle.imago_storage.specs.declared.fault.Fault.{Fault}
-use Rattle.imago_storage.specs.declared.fault.Fault.TheVariants.{Memory, Storage, DamagedTable, CacheFull, Counter}
 use Rattle.qcow2_types.specs.Pending.{FreeEntry}
 use Rattle.qcow2_metadata.specs.Tables.{TableValue}
 use Rattle.qcow2_alloc.specs.declared.cache.CacheDependency.{CacheDependency}
@@ -12,6 +11,7 @@ use Rattle.qcow2_alloc.specs.declared.cache.CacheDependency.TheVariants.{RbDepen
 use Rattle.qcow2_alloc.specs.declared.cache.MetadataCaches.{MetadataCaches}
 use Rattle.qcow2_alloc.specs.Allocators.{named_block}
 use Rattle.qcow2_alloc.specs.Caches.{cached_in, KeepsTables}
+use Rattle.qcow2_alloc.specs.Causes.{Causes, FailsFor}
 use Rattle.qcow2_alloc.specs.Finding.{pinned_among, pinned_in, PinsNothing}
 use Rattle.qcow2_alloc.specs.FreeList.{entry_at, listed, shortened}
 use Rattle.qcow2_alloc.specs.Going.{IsNoShorter, WasNotCutOff}
@@ -41,24 +41,15 @@ IsUnbarred sound loose = (any : Bool) × (any ≡ true → sound) × loose any
 abbrev pub IsMarked : Metadata → ℕ → Type 0
 IsMarked m mark = (c : ℕ) → c < mark → 0 < counted m c
 
--- Why a call that frees was refused, by the counts of faults before and after: for want of memory or by a storage; as a damaged table or a
--- counter that can't change only where the image isn't sound; and as a full cache only where `loose` doesn't hold, that there is room to
--- spare.
-abbrev pub WhyNotFreed : Type 0 → Type 0 → ℕ → ℕ → Fault → Type 0
-WhyNotFreed sound loose before after Memory = ⊤
-WhyNotFreed sound loose before after Storage = Rose before after
-WhyNotFreed sound loose before after DamagedTable = sound → ⊥
-WhyNotFreed sound loose before after Counter = sound → ⊥
-WhyNotFreed sound loose before after CacheFull = loose → ⊥
-WhyNotFreed sound loose before after fault = ⊥
+-- Calls that free fail, but for want of memory or by a storage, as a damaged table or for a counter that can't change only where the image
+-- isn't sound; and as a full cache only where `loose` doesn't hold, that there is room to spare.
+abbrev pub freeing_causes : (sound loose : Type 0) → (before after : ℕ) → Causes
+freeing_causes sound loose before after =
+    record { damaged = sound → ⊥; counter = sound → ⊥; full = loose → ⊥; limit = λ number. ⊥; before = before; after = after }
 
--- Why one that counts was: so, and as a full cache only where something is pinned and the image isn't sound, or where `loose` doesn't hold.
-abbrev pub WhyNotCounted : Type 0 → (Bool → Type 0) → ℕ → ℕ → Fault → Type 0
-WhyNotCounted sound loose before after fault = WhyNotFreed sound (IsUnbarred sound loose) before after fault
-
--- the count of faults after it
-abbrev pub CountsFreeing : Type 0 → Type 0 → ℕ → ℕ → Result Unit Fault → Type 0
-CountsFreeing sound loose before after result = MatchResult result (λ _. after ≡ before) (WhyNotFreed sound loose before after)
+-- So do those that count, and as a full cache only where something is pinned and the image isn't sound, or where `loose` doesn't hold.
+abbrev pub counting_causes : (sound : Type 0) → (loose : Bool → Type 0) → (before after : ℕ) → Causes
+counting_causes sound loose before after = freeing_causes sound (IsUnbarred sound loose) before after
 
 -- An entry may be freed at once: it held metadata, or tables are written before blocks.
 abbrev pub MayFree : CacheDependency → FreeEntry → Type 0
@@ -87,7 +78,8 @@ pub record Frees {S : Type 0} (state : S → StorageState) (mark : ℕ) (s : Ima
   pub room : KeepsTables s.caches s'.caches
   pub less : (c : ℕ) → listed s'.pending c ≤ listed s.pending c
   pub fewer : length s'.pending ≤ length s.pending
-  pub cause : CountsFreeing (IsKept state s) (HasSpareRoom s.caches) (state s.file.image).faults (state s'.file.image).faults result
+  pub cause : FailsFor (freeing_causes (IsKept state s) (HasSpareRoom s.caches) (state s.file.image).faults
+      (state s'.file.image).faults) result
 
 -- the entries of guest data
 abbrev pub data_in : List FreeEntry → List FreeEntry

@@ -1,11 +1,11 @@
 -- What writes of cached tables and blocks do to the image file and to what is cached.
-use Rattle.std.specs.Prelude.{◌≡◌, ◌⊎◌, ◌≤◌, ℕ, ⊤, IsTrue, true, length, Result, IsErr, Ok, Err, MatchResult}
+use Rattle.std.specs.Prelude.{◌≡◌, ◌⊎◌, ◌≤◌, ℕ, ⊤, IsTrue, true, length, Result, IsErr, Ok, Err}
 use Rattle.std.specs.List.{AllByRecursion}
-use Rattle.imago_storage.specs.State.{StorageState, Rose}
+use Rattle.imago_storage.specs.State.{StorageState}
 use Rattle.imago_storage.specs.Calls.{Later, IsFaultless}
 use Rattle.imago_storage.specs.Passing.{Passes}
 use Rattle.imago_storage.specs.declared.fault.Fault.{Fault}
-use Rattle.imago_storage.specs.declared.fault.Fault.TheVariants.{Memory, Storage, DamagedTable}
+use Rattle.imago_storage.specs.declared.fault.Fault.TheVariants.{Memory, Storage}
 use Rattle.qcow2_types.specs.Bytes.{bytes_of}
 use Rattle.qcow2_types.specs.Header.{Header}
 use Rattle.qcow2_metadata.specs.Places.{IsInReach}
@@ -13,6 +13,7 @@ use Rattle.qcow2_alloc.specs.declared.cache.CacheDependency.{CacheDependency}
 use Rattle.qcow2_alloc.specs.declared.cache.CacheDependency.TheVariants.{L2DependsOnRb, RbDependsOnL2}
 use Rattle.qcow2_alloc.specs.Cache.{FlushedEach, fault_of}
 use Rattle.qcow2_alloc.specs.Backends.{TableFlushed, BlockFlushed}
+use Rattle.qcow2_alloc.specs.Causes.{Causes}
 use Rattle.qcow2_alloc.specs.Memory.{Cached, memory}
 use Rattle.qcow2_alloc.specs.Safety.{Safe, IsLeft, IsCalm, IsSettled, AreTablesClean, AreBlocksClean}
 
@@ -49,17 +50,11 @@ AreTablesInReach cached = AllByRecursion (λ e. e.1.value.modified ≡ true → 
 abbrev pub AreBlocksInReach : Cached → Type 0
 AreBlocksInReach cached = AllByRecursion (λ e. e.1.value.modified ≡ true → IsInReach e.1.value.cluster_bits e.0) cached.blocks
 
--- Why writes of cached tables or blocks were refused, by the counts of faults before and after. `Memory` may come behind a fault of the
--- storage, and `DamagedTable` comes only where something to be written is out of reach.
-abbrev pub WhyNotWritten : Type 0 → ℕ → ℕ → Fault → Type 0
-WhyNotWritten reach before after Memory = ⊤
-WhyNotWritten reach before after Storage = Rose before after
-WhyNotWritten reach before after DamagedTable = reach → ⊥
-WhyNotWritten reach before after fault = ⊥
-
--- the count of faults after them
-abbrev pub CountsWrites : Type 0 → ℕ → ℕ → Result Unit Fault → Type 0
-CountsWrites reach before after result = MatchResult result (λ _. after ≡ before) (WhyNotWritten reach before after)
+-- Calls that write fail, but for want of memory or by a storage, only as a damaged table, where `sound` doesn't hold: for cached tables and
+-- blocks that words can name each that is to be written.
+abbrev pub writing_causes : (sound : Type 0) → (before after : ℕ) → Causes
+writing_causes sound before after =
+    record { damaged = sound → ⊥; counter = ⊥; full = ⊥; limit = λ number. ⊥; before = before; after = after }
 
 -- what a step does to the file, and to what is cached of it
 abbrev pub CachedStep : Type 1

@@ -1,5 +1,5 @@
 -- How the refcount table grows.
-use Rattle.std.specs.Prelude.{◌≡◌, ◌⊎◌, ℕ, ◌+◌, ◌-◌, ◌*◌, ◌/◌, ◌^◌, ◌<◌, ◌≤◌, ◌==◌, ◌++◌, ◌∷◌, [], min, true, if◌then◌else◌, List, Some, Result, Err, OnOk, OnErr, IfErr, MatchResult, length, slice_index, Bool}
+use Rattle.std.specs.Prelude.{◌≡◌, ◌⊎◌, ℕ, ◌+◌, ◌-◌, ◌*◌, ◌/◌, ◌^◌, ◌<◌, ◌≤◌, ◌==◌, ◌++◌, ◌∷◌, [], min, true, if◌then◌else◌, List, Some, Result, Err, OnOk, OnErr, IfErr, length, slice_index, Bool}
 use Rattle.imago_storage.specs.State.{StorageState}
 use Rattle.imago_storage.specs.declared.fault.Fault.{Fault}
 use Rattle.imago_storage.specs.declared.fault.Fault.TheVariants.{CacheFull, Limit}
@@ -10,7 +10,8 @@ use Rattle.qcow2_types.specs.Pending.{FreeEntry}
 use Rattle.qcow2_metadata.specs.Growth.{IsEnough, IsGrownLength}
 use Rattle.qcow2_metadata.specs.Places.{IsInReach}
 use Rattle.qcow2_metadata.specs.Tables.{TableValue}
-use Rattle.qcow2_alloc.specs.Allocating.{Allocating, WhyNotAllocated}
+use Rattle.qcow2_alloc.specs.Allocating.{Allocating, allocating_causes}
+use Rattle.qcow2_alloc.specs.Causes.{FailsFor}
 use Rattle.qcow2_alloc.specs.FreeList.{covers}
 use Rattle.qcow2_alloc.specs.Freeing.{IsLoose}
 use Rattle.qcow2_alloc.specs.Going.{WasNotCutOff, IsMild}
@@ -101,7 +102,6 @@ pub record GrowsTable {S : Type 0} (state : S → StorageState) (mark at : ℕ) 
   pub waits : OnOk result (s'.pending ≡ s.pending ++ table_run s.file.header.fields)
   pub kept : OnErr result (s'.pending ≡ s.pending)
   pub stays : IfErr result (λ fault. IsMild fault → (s'.table ≡ s.table) × (s'.file.header ≡ s.file.header))
-  pub cause : MatchResult result (λ _. (state s'.file.image).faults ≡ (state s.file.image).faults)
-      (WhyNotAllocated (IsGuarded state s) (IsLoose s.table s.caches)
+  pub cause : FailsFor (allocating_causes (IsGuarded state s) (IsLoose s.table s.caches)
       (λ number. WhereGuarded state s (NoPlaceToGrow (metadata state s) mark at number))
-      (state s.file.image).faults (state s'.file.image).faults)
+      (state s.file.image).faults (state s'.file.image).faults) result

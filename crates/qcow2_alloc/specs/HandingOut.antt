@@ -1,5 +1,5 @@
 -- What the public calls do that hand out clusters and let the refcount table grow.
-use Rattle.std.specs.Prelude.{◌≡◌, ◌≢◌, ⊤, ◌⊎◌, ◌==◌, ℕ, ◌+◌, ◌-◌, ◌/◌, ◌<◌, ◌≤◌, ◌++◌, [], if◌then◌else◌, Bool, false, List, Option, Some, None, Result, OnOk, OnErr, IfOk, IfErr, Ok, Err, MatchResult, length}
+use Rattle.std.specs.Prelude.{◌≡◌, ◌≢◌, ⊤, ◌⊎◌, ◌==◌, ℕ, ◌+◌, ◌-◌, ◌/◌, ◌<◌, ◌≤◌, ◌++◌, [], if◌then◌else◌, Bool, false, List, Option, Some, None, Result, OnOk, OnErr, IfOk, IfErr, Ok, Err, length}
 use Rattle.imago_storage.specs.State.{StorageState}
 use Rattle.imago_storage.specs.Calls.{IsFaultless}
 use Rattle.imago_storage.specs.declared.fault.Fault.{Fault}
@@ -13,8 +13,9 @@ use Rattle.qcow2_metadata.specs.Places.{IsInReach}
 use Rattle.qcow2_alloc.specs.declared.cache.CacheDependency.TheVariants.{L2DependsOnRb}
 use Rattle.qcow2_alloc.specs.declared.cache.MetadataCaches.{MetadataCaches}
 use Rattle.qcow2_alloc.specs.declared.file.ImageFile.{ImageFile}
-use Rattle.qcow2_alloc.specs.Allocating.{MovedTable, OnlyRaised, WhyNotAllocated}
+use Rattle.qcow2_alloc.specs.Allocating.{MovedTable, OnlyRaised, allocating_causes}
 use Rattle.qcow2_alloc.specs.Caches.{order_of, KeepsTables}
+use Rattle.qcow2_alloc.specs.Causes.{FailsFor}
 use Rattle.qcow2_alloc.specs.Crowding.{IsCrowded, TakesLittle}
 use Rattle.qcow2_alloc.specs.Freeing.{Frees, IsLoose, IsMarked, IsRestInTurn}
 use Rattle.qcow2_alloc.specs.Going.{WasNotCutOff, IsMild}
@@ -49,10 +50,9 @@ pub record GrowsReftable {S : Type 0} (state : S → StorageState) (mark at : �
   pub waits : OnOk result (s'.pending ≡ s.pending ++ table_run s.file.header.fields)
   pub kept : OnErr result (s'.pending ≡ s.pending)
   pub stays : IfErr result (λ fault. IsMild fault → (s'.table ≡ s.table) × (s'.file.header ≡ s.file.header))
-  pub cause : MatchResult result (λ _. (state s'.file.image).faults ≡ (state s.file.image).faults)
-      (WhyNotAllocated (IsKept state s) (IsLoose s.table s.caches)
+  pub cause : FailsFor (allocating_causes (IsKept state s) (IsLoose s.table s.caches)
       (λ number. WhereKept state s (NoPlaceToGrow (metadata state s) mark at number))
-      (state s.file.image).faults (state s'.file.image).faults)
+      (state s.file.image).faults (state s'.file.image).faults) result
 
 -- The image once something of what waited was freed: no cluster is counted more often. The search begins at a cluster before which each is
 -- counted where that was so.
@@ -116,10 +116,9 @@ pub record AllocatesClusters {S : Type 0} (state : S → StorageState) (mark n :
   pub order : OnOk result (order_of s'.caches ≡ L2DependsOnRb)
   pub shape : StaysInShape s s'
   pub list : IsLengthenedByTable s.file.header.fields s.table s'.table left s'.pending
-  pub cause : MatchResult result (λ _. (state s'.file.image).faults ≡ (state s.file.image).faults)
-      (WhyNotAllocated (IsKept state s) (IsLoose s.table s.caches)
+  pub cause : FailsFor (allocating_causes (IsKept state s) (IsLoose s.table s.caches)
       (λ number. WhereKept state s (IsCrowded mid mid_mark n × IsRunTold (metadata state s') mid_mark n number))
-      (state s.file.image).faults (state s'.file.image).faults)
+      (state s.file.image).faults (state s'.file.image).faults) result
 
 -- what a call hands out that may answer none
 abbrev pub handed_at : Result (Option FreeEntry) Fault → (ℕ → ℕ) → ℕ → ℕ
@@ -182,5 +181,5 @@ pub record AllocatesClusterAt {S : Type 0} (state : S → StorageState) (mark cl
   pub order : OnOk result (order_of s'.caches ≡ L2DependsOnRb)
   pub shape : StaysInShape s s'
   pub list : IsLengthenedByTable s.file.header.fields s.table s'.table s.pending s'.pending
-  pub cause : MatchResult result (λ _. (state s'.file.image).faults ≡ (state s.file.image).faults)
-      (WhyNotAllocated (IsKept state s) (IsLoose s.table s.caches) (λ _. ⊥) (state s.file.image).faults (state s'.file.image).faults)
+  pub cause : FailsFor (allocating_causes (IsKept state s) (IsLoose s.table s.caches) (λ _. ⊥) (state s.file.image).faults
+      (state s'.file.image).faults) result

@@ -1,5 +1,5 @@
 -- How one cluster is given a counter, and handed out.
-use Rattle.std.specs.Prelude.{◌≡◌, ◌≢◌, ℕ, ◌/◌, ◌<◌, false, Option, Some, Result, OnOk, OnErr, IfOk, Ok, Err, MatchResult, length, slice_index}
+use Rattle.std.specs.Prelude.{◌≡◌, ◌≢◌, ℕ, ◌/◌, ◌<◌, false, Option, Some, Result, OnOk, OnErr, IfOk, Ok, Err, length, slice_index}
 use Rattle.imago_storage.specs.State.{StorageState}
 use Rattle.imago_storage.specs.declared.fault.Fault.{Fault}
 use Rattle.qcow2_types.specs.Counts.{counters_of_block}
@@ -7,7 +7,8 @@ use Rattle.qcow2_types.specs.Pending.{FreeEntry}
 use Rattle.qcow2_types.specs.Words.{block_offset}
 use Rattle.qcow2_alloc.specs.declared.allocation.handing_out.Readiness.{Readiness}
 use Rattle.qcow2_alloc.specs.declared.allocation.handing_out.Readiness.TheVariants.{Ready, NoPlace}
-use Rattle.qcow2_alloc.specs.Allocating.{Allocating, CountsRun, WhyNotAllocated}
+use Rattle.qcow2_alloc.specs.Allocating.{Allocating, CountsRun, allocating_causes}
+use Rattle.qcow2_alloc.specs.Causes.{FailsFor}
 use Rattle.qcow2_alloc.specs.Freeing.{IsLoose, IsMarked}
 use Rattle.qcow2_alloc.specs.Going.{WasNotCutOff}
 use Rattle.qcow2_alloc.specs.GrowingTables.{IsLengthenedByTable, IsTakenFor, Leaks}
@@ -28,8 +29,8 @@ pub record HandsOut {S T : Type 0} (state : S → StorageState) (handed : Result
   pub leaks : Leaks (IsGuarded state s) (IsLoose s.table s.caches) result leaked
   pub step : Allocating state (WasNotCutOff result) (handed result leaked) s s'
   pub list : IsLengthenedByTable s.file.header.fields s.table s'.table s.pending s'.pending
-  pub cause : MatchResult result (λ _. (state s'.file.image).faults ≡ (state s.file.image).faults)
-      (WhyNotAllocated (IsGuarded state s) (IsLoose s.table s.caches) (λ _. ⊥) (state s.file.image).faults (state s'.file.image).faults)
+  pub cause : FailsFor (allocating_causes (IsGuarded state s) (IsLoose s.table s.caches) (λ _. ⊥) (state s.file.image).faults
+      (state s'.file.image).faults) result
 
 -- The refcount table has a word for a cluster, or there is no place for one that has;
 pub record ReadiesWord {S : Type 0} (state : S → StorageState) (mark cluster : ℕ) (s : ImageState S) (result : Result Readiness Fault)

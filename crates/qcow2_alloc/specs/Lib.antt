@@ -1,3 +1,4 @@
+pub mod Causes
 pub mod Cache
 pub mod Backends
 pub mod Memory

@@ -1,5 +1,5 @@
 -- How a refcount table that has grown takes its room, and becomes the image's.
-use Rattle.std.specs.Prelude.{◌≡◌, ◌≢◌, ⊤, true, ℕ, ◌+◌, ◌-◌, ◌*◌, ◌/◌, ◌%◌, ◌^◌, ◌<◌, ◌≤◌, ◌++◌, false, IsTrue, List, Some, None, Result, Ok, Err, OnOk, OnErr, IfErr, MatchResult, length, slice_index, nat_eq, Bool}
+use Rattle.std.specs.Prelude.{◌≡◌, ◌≢◌, ⊤, true, ℕ, ◌+◌, ◌-◌, ◌*◌, ◌/◌, ◌%◌, ◌^◌, ◌<◌, ◌≤◌, ◌++◌, false, IsTrue, List, Some, None, Result, Ok, Err, OnOk, OnErr, IfErr, length, slice_index, nat_eq, Bool}
 use Rattle.std.specs.Map.{lookup}
 use Rattle.imago_storage.specs.State.{StorageState}
 use Rattle.imago_storage.specs.Calls.{Later, IsFaultless}
@@ -23,9 +23,10 @@ use Rattle.qcow2_alloc.specs.declared.cache.MetadataCaches.{MetadataCaches}
 use Rattle.qcow2_alloc.specs.declared.file.ImageFile.{ImageFile}
 use Rattle.qcow2_alloc.specs.Allocating.{CountsNamed, MovedTable, OnlyRaised}
 use Rattle.qcow2_alloc.specs.Caches.{cached_in, order_of, KeepsTables}
+use Rattle.qcow2_alloc.specs.Causes.{FailsFor}
 use Rattle.qcow2_alloc.specs.Finding.{pinned_among}
 use Rattle.qcow2_alloc.specs.FreeList.{covers}
-use Rattle.qcow2_alloc.specs.Freeing.{IsLoose, WhyNotCounted}
+use Rattle.qcow2_alloc.specs.Freeing.{IsLoose, counting_causes}
 use Rattle.qcow2_alloc.specs.Going.{WasNotCutOff, IsMild}
 use Rattle.qcow2_alloc.specs.Growing.{lacks, lacking}
 use Rattle.qcow2_alloc.specs.GrowingTables.{Leaks, table_run}
@@ -198,9 +199,8 @@ module _ {S : Type 0} (state : S → StorageState) where
     pub room : KeepsTables s.caches s'.caches
     pub table_is : OnOk result (s'.table ≡ record copy { modified = false })
     pub stays : IfErr result (λ fault. IsMild fault → (s'.table ≡ s.table) × (s'.file.header ≡ s.file.header))
-    pub cause : MatchResult result (λ _. (state s'.file.image).faults ≡ (state s.file.image).faults)
-        (WhyNotCounted (known × IsTrue (state s.file.image).shape.keeps × IsSound (metadata state s)) (IsLoose s.table s.caches)
-        (state s.file.image).faults (state s'.file.image).faults)
+    pub cause : FailsFor (counting_causes (known × IsTrue (state s.file.image).shape.keeps × IsSound (metadata state s))
+        (IsLoose s.table s.caches) (state s.file.image).faults (state s'.file.image).faults) result
 
   -- blocks are written first, and the run isn't counted
   abbrev pub IsFreeIn : Run → ImageState S → Type 0

@@ -15,7 +15,8 @@ use Rattle.qcow2_alloc.specs.declared.cache.CacheDependency.TheVariants.{L2Depen
 use Rattle.qcow2_alloc.specs.Backends.{TableFlushed, BlockFlushed}
 use Rattle.qcow2_alloc.specs.Cache.{hit, victim}
 use Rattle.qcow2_alloc.specs.Caches.{CachedFile, cached_in, order_of, HasRoomOf}
-use Rattle.qcow2_alloc.specs.Finding.{with_room, LetsTableIn, LetsBlockIn, IsPinnedFull, PinsNothing, CountsSearch}
+use Rattle.qcow2_alloc.specs.Causes.{FailsFor}
+use Rattle.qcow2_alloc.specs.Finding.{with_room, LetsTableIn, LetsBlockIn, IsPinnedFull, PinsNothing, search_causes}
 use Rattle.qcow2_alloc.specs.Going.{Going, CachedStep, WasNotCutOff, AreTablesInReach, AreBlocksInReach, WritesTables, WritesBlocks, BehindBlocks, BehindTables}
 use Rattle.qcow2_alloc.specs.Memory.{Cached, written_table, written_block}
 use Rattle.qcow2_alloc.specs.Safety.{IsCachedTable, IsCachedBlock}
@@ -94,8 +95,8 @@ pub record TableInserted {S : Type 0} (state : S → StorageState) (cluster : �
       (state new.file.image) (cached_in new.caches)
   pub others : (new.caches.order ≡ old.caches.order) × (new.file.header ≡ old.file.header)
   pub room : HasRoomOf old.caches new.caches
-  pub cause : CountsSearch (AreTablesInReach (cached_in old.caches) × AreBlocksInReach (cached_in old.caches))
-      (IsPinnedFull old.caches.l2.slots.cap (cached_in old.caches).tables) (state old.file.image).faults (state new.file.image).faults
+  pub cause : FailsFor (search_causes (AreTablesInReach (cached_in old.caches) × AreBlocksInReach (cached_in old.caches))
+      (IsPinnedFull old.caches.l2.slots.cap (cached_in old.caches).tables) (state old.file.image).faults (state new.file.image).faults)
       (refusal_of result)
 
 -- The same of a refcount block.
@@ -119,6 +120,6 @@ pub record BlockInserted {S : Type 0} (state : S → StorageState) (cluster : �
       (state new.file.image) (cached_in new.caches)
   pub others : (new.caches.order ≡ old.caches.order) × (new.file.header ≡ old.file.header)
   pub room : HasRoomOf old.caches new.caches
-  pub cause : CountsSearch (AreTablesInReach (cached_in old.caches) × AreBlocksInReach (cached_in old.caches))
-      (IsPinnedFull old.caches.rb.slots.cap (cached_in old.caches).blocks) (state old.file.image).faults (state new.file.image).faults
+  pub cause : FailsFor (search_causes (AreTablesInReach (cached_in old.caches) × AreBlocksInReach (cached_in old.caches))
+      (IsPinnedFull old.caches.rb.slots.cap (cached_in old.caches).blocks) (state old.file.image).faults (state new.file.image).faults)
       (refusal_of result)

@@ -1,5 +1,5 @@
 -- What a run of clusters needs before it can be counted.
-use Rattle.std.specs.Prelude.{◌≡◌, ◌≢◌, ◌⊎◌, ℕ, min, ◌+◌, ◌-◌, ◌*◌, ◌/◌, ◌^◌, ◌<◌, ◌≤◌, ◌++◌, Result, Err, IfOk, OnOk, OnErr, MatchResult, length, slice_index}
+use Rattle.std.specs.Prelude.{◌≡◌, ◌≢◌, ◌⊎◌, ℕ, min, ◌+◌, ◌-◌, ◌*◌, ◌/◌, ◌^◌, ◌<◌, ◌≤◌, ◌++◌, Result, Err, IfOk, OnOk, OnErr, length, slice_index}
 use Rattle.imago_storage.specs.State.{StorageState}
 use Rattle.imago_storage.specs.declared.fault.Fault.{Fault}
 use Rattle.imago_storage.specs.declared.fault.Fault.TheVariants.{DamagedTable, Limit}
@@ -10,7 +10,8 @@ use Rattle.qcow2_metadata.specs.Places.{IsInReach}
 use Rattle.qcow2_metadata.specs.Tables.{TableValue}
 use Rattle.qcow2_alloc.specs.declared.allocation.readying_runs.Provision.{Provision}
 use Rattle.qcow2_alloc.specs.declared.allocation.readying_runs.Provision.TheVariants.{Complete, Extended}
-use Rattle.qcow2_alloc.specs.Allocating.{Allocating, WhyNotAllocated, missing}
+use Rattle.qcow2_alloc.specs.Allocating.{Allocating, missing, allocating_causes}
+use Rattle.qcow2_alloc.specs.Causes.{FailsFor}
 use Rattle.qcow2_alloc.specs.FillingBlocks.{FillsFrom}
 use Rattle.qcow2_alloc.specs.Freeing.{IsLoose}
 use Rattle.qcow2_alloc.specs.Going.{WasNotCutOff}
@@ -75,7 +76,6 @@ pub record ReadiesBlocks {S : Type 0} (state : S → StorageState) (mark at firs
   pub kept : length s.table.words ≤ last → OnErr result (s'.pending ≡ s.pending)
   pub barred : length s.table.words ≤ last
       → WhereGuarded state s ((number : ℕ) → result ≡ Err (Limit number) → CountsAsBefore (metadata state s) (metadata state s'))
-  pub cause : MatchResult result (λ _. (state s'.file.image).faults ≡ (state s.file.image).faults)
-      (WhyNotAllocated (IsGuarded state s) (IsLoose s.table s.caches)
+  pub cause : FailsFor (allocating_causes (IsGuarded state s) (IsLoose s.table s.caches)
       (λ number. WhereGuarded state s (NoneCanBeMade mark at first last number (metadata state s)))
-      (state s.file.image).faults (state s'.file.image).faults)
+      (state s.file.image).faults (state s'.file.image).faults) result

@@ -1,5 +1,5 @@
 -- How a run of free clusters is found and made ready to be counted, and handed out.
-use Rattle.std.specs.Prelude.{◌≡◌, ◌≢◌, ◌⊎◌, ◌==◌, ℕ, ◌+◌, ◌-◌, ◌/◌, ◌<◌, ◌≤◌, if◌then◌else◌, Bool, false, Result, OnErr, IfOk, Ok, Err, MatchResult, length, slice_index}
+use Rattle.std.specs.Prelude.{◌≡◌, ◌≢◌, ◌⊎◌, ◌==◌, ℕ, ◌+◌, ◌-◌, ◌/◌, ◌<◌, ◌≤◌, if◌then◌else◌, Bool, false, Result, OnErr, IfOk, Ok, Err, length, slice_index}
 use Rattle.imago_storage.specs.State.{StorageState}
 use Rattle.imago_storage.specs.declared.fault.Fault.{Fault}
 use Rattle.qcow2_types.specs.Words.{block_offset}
@@ -7,8 +7,9 @@ use Rattle.qcow2_types.specs.Counts.{counters_of_block}
 use Rattle.qcow2_types.specs.Pending.{FreeEntry}
 use Rattle.qcow2_metadata.specs.Places.{IsInReach}
 use Rattle.qcow2_alloc.specs.declared.allocation.Allocator.{Allocator}
-use Rattle.qcow2_alloc.specs.Allocating.{Allocating, WhyNotAllocated}
+use Rattle.qcow2_alloc.specs.Allocating.{Allocating, allocating_causes}
 use Rattle.qcow2_alloc.specs.Caches.{cached_file}
+use Rattle.qcow2_alloc.specs.Causes.{FailsFor}
 use Rattle.qcow2_alloc.specs.Crowding.{IsCrowded, IsRoomy, TakesLittle, room_for}
 use Rattle.qcow2_alloc.specs.FreeList.{covers}
 use Rattle.qcow2_alloc.specs.Freeing.{IsLoose, IsMarked}
@@ -51,10 +52,9 @@ pub record ReadiesRun {S : Type 0} (state : S → StorageState) (mark n : ℕ) (
   pub reach : IfOk result (λ first. IsInReach s.file.header.fields.cluster_bits (first + (n - 1)))
   pub some : IfOk result (λ first. first ≢ 0)
   pub list : IsLengthenedByTable s.file.header.fields s.table s'.table s.pending s'.pending
-  pub cause : MatchResult result (λ _. (state s'.file.image).faults ≡ (state s.file.image).faults)
-      (WhyNotAllocated (IsGuarded state s) (IsLoose s.table s.caches)
+  pub cause : FailsFor (allocating_causes (IsGuarded state s) (IsLoose s.table s.caches)
       (λ number. WhereGuarded state s (IsCrowded (metadata state s) mark n × IsRunTold (metadata state s') mark n number))
-      (state s.file.image).faults (state s'.file.image).faults)
+      (state s.file.image).faults (state s'.file.image).faults) result
 
 -- where the search begins once a run is counted: each cluster before is counted
 abbrev pub mark_behind : ℕ → ℕ → ℕ → ℕ
@@ -89,7 +89,6 @@ pub record Allocates {S : Type 0} (state : S → StorageState) (mark n : ℕ) (i
   pub marked : WhereGuarded state s (WasNotCutOff result
       → IsMarked (metadata state s) mark → IsMarked (metadata state s') mark')
   pub list : IsLengthenedByTable s.file.header.fields s.table s'.table s.pending s'.pending
-  pub cause : MatchResult result (λ _. (state s'.file.image).faults ≡ (state s.file.image).faults)
-      (WhyNotAllocated (IsGuarded state s) (IsLoose s.table s.caches)
+  pub cause : FailsFor (allocating_causes (IsGuarded state s) (IsLoose s.table s.caches)
       (λ number. WhereGuarded state s (IsCrowded (metadata state s) mark n × IsRunTold (metadata state s') mark n number))
-      (state s.file.image).faults (state s'.file.image).faults)
+      (state s.file.image).faults (state s'.file.image).faults) result

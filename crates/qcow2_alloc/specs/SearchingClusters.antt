@@ -1,5 +1,5 @@
 -- How free clusters are searched for: blocks are loaded, and nothing else changes.
-use Rattle.std.specs.Prelude.{max, length, ◌*◌, ◌≡◌, ◌≢◌, ℕ, ◌+◌, ◌/◌, ◌<◌, ◌≤◌, IsTrue, Result, IfOk, MatchResult, Option, MatchOption, Bool, true}
+use Rattle.std.specs.Prelude.{max, length, ◌*◌, ◌≡◌, ◌≢◌, ℕ, ◌+◌, ◌/◌, ◌<◌, ◌≤◌, IsTrue, Result, IfOk, Option, MatchOption, Bool, true}
 use Rattle.imago_storage.specs.State.{StorageState}
 use Rattle.imago_storage.specs.Calls.{Kept}
 use Rattle.imago_storage.specs.declared.fault.Fault.{Fault}
@@ -10,7 +10,8 @@ use Rattle.qcow2_metadata.specs.Tables.{TableValue}
 use Rattle.qcow2_alloc.specs.declared.cache.MetadataCaches.{MetadataCaches}
 use Rattle.qcow2_alloc.specs.declared.file.ImageFile.{ImageFile}
 use Rattle.qcow2_alloc.specs.Caches.{CachedFile, cached_in, order_of, KeepsTables}
-use Rattle.qcow2_alloc.specs.Freeing.{IsLoose, WhyNotFreed}
+use Rattle.qcow2_alloc.specs.Causes.{FailsFor}
+use Rattle.qcow2_alloc.specs.Freeing.{IsLoose, freeing_causes}
 use Rattle.qcow2_alloc.specs.Going.{Going, Always, WasNotCutOff}
 use Rattle.qcow2_alloc.specs.Memory.{memory}
 use Rattle.qcow2_alloc.specs.Quiet.{IsTableOf}
@@ -68,9 +69,8 @@ module _ {S : Type 0} (state : S → StorageState) where
     pub loose : (any : Bool) → IsLoose table old.caches any → IsLoose table new.caches any
     pub room : KeepsTables old.caches new.caches
     pub clean : KeepsClean old new
-    pub cause : MatchResult result (λ _. (state new.file.image).faults ≡ (state old.file.image).faults)
-        (WhyNotFreed (IsSafeWith table old.caches old.file) (IsLoose table old.caches true) (state old.file.image).faults
-        (state new.file.image).faults)
+    pub cause : FailsFor (freeing_causes (IsSafeWith table old.caches old.file) (IsLoose table old.caches true)
+        (state old.file.image).faults (state new.file.image).faults) result
 
   -- The first run of n clusters that aren't counted, from one on, is searched for;
   pub record LooksForRun (table : TableValue) (from n : ℕ) (old : CachedFile S) (result : Result ℕ Fault)

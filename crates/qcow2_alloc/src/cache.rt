@@ -148,7 +148,8 @@ pub struct MetadataCaches<S: Storage> {
 
 impl<S: Storage> MetadataCaches<S> {
     ghost use Rattle.imago_storage.specs.Calls.{IsFaultless, Kept};
-    ghost use Rattle.qcow2_alloc.specs.Going.{Going, ReadyTables, ReadyBlocks, Always, AreTablesInReach, AreBlocksInReach, CountsWrites, WasNotCutOff, WritesTables, WritesBlocks, InTurn};
+    ghost use Rattle.qcow2_alloc.specs.Causes.{FailsFor};
+    ghost use Rattle.qcow2_alloc.specs.Going.{Going, ReadyTables, ReadyBlocks, Always, AreTablesInReach, AreBlocksInReach, WasNotCutOff, WritesTables, WritesBlocks, InTurn, writing_causes};
     ghost use Rattle.qcow2_alloc.specs.Safety.{Safe, AreTablesClean, AreBlocksClean};
     ghost use Rattle.qcow2_types.specs.Bytes.{Bytes};
     ghost use Rattle.qcow2_types.specs.Header.{Header};
@@ -193,8 +194,8 @@ impl<S: Storage> MetadataCaches<S> {
         ensures clean { OnOk result (AreTablesClean (cached_in self.new)) }
         ensures others { (self.new.rb ≡ self.old.rb) × (self.new.order ≡ self.old.order) × (file.new.header ≡ file.old.header) }
         ensures room { HasRoomOf self.old self.new }
-        ensures cause { CountsWrites (AreTablesInReach (cached_in self.old)) (S.state file.old.image).faults
-            (S.state file.new.image).faults result }
+        ensures cause { FailsFor (writing_causes (AreTablesInReach (cached_in self.old)) (S.state file.old.image).faults
+            (S.state file.new.image).faults) result }
         ensures faults { WasNotCutOff result → IsFaultless (S.state file.old.image) (S.state file.new.image) }
         ensures written { WritesTables (S.state file.old.image) (cached_in self.old) result (S.state file.new.image) (cached_in self.new) }
     {
@@ -209,8 +210,8 @@ impl<S: Storage> MetadataCaches<S> {
         ensures clean { OnOk result (AreBlocksClean (cached_in self.new)) }
         ensures others { (self.new.l2 ≡ self.old.l2) × (self.new.order ≡ self.old.order) × (file.new.header ≡ file.old.header) }
         ensures room { HasRoomOf self.old self.new }
-        ensures cause { CountsWrites (AreBlocksInReach (cached_in self.old)) (S.state file.old.image).faults
-            (S.state file.new.image).faults result }
+        ensures cause { FailsFor (writing_causes (AreBlocksInReach (cached_in self.old)) (S.state file.old.image).faults
+            (S.state file.new.image).faults) result }
         ensures faults { WasNotCutOff result → IsFaultless (S.state file.old.image) (S.state file.new.image) }
         ensures written { WritesBlocks (S.state file.old.image) (cached_in self.old) result (S.state file.new.image) (cached_in self.new) }
     {
@@ -226,8 +227,8 @@ impl<S: Storage> MetadataCaches<S> {
         ensures idle { (order_of self.old ≡ L2DependsOnRb → ⊥) → (result ≡ Ok tt) × (self.new ≡ self.old) × (file.new ≡ file.old) }
         ensures others { (self.new.l2 ≡ self.old.l2) × (self.new.order ≡ self.old.order) × (file.new.header ≡ file.old.header) }
         ensures room { HasRoomOf self.old self.new }
-        ensures cause { CountsWrites (AreBlocksInReach (cached_in self.old)) (S.state file.old.image).faults
-            (S.state file.new.image).faults result }
+        ensures cause { FailsFor (writing_causes (AreBlocksInReach (cached_in self.old)) (S.state file.old.image).faults
+            (S.state file.new.image).faults) result }
         ensures faults { WasNotCutOff result → IsFaultless (S.state file.old.image) (S.state file.new.image) }
         ensures written { order_of self.old ≡ L2DependsOnRb
             → WritesBlocks (S.state file.old.image) (cached_in self.old) result (S.state file.new.image) (cached_in self.new) }
@@ -247,8 +248,8 @@ impl<S: Storage> MetadataCaches<S> {
         ensures idle { (order_of self.old ≡ RbDependsOnL2 → ⊥) → (result ≡ Ok tt) × (self.new ≡ self.old) × (file.new ≡ file.old) }
         ensures others { (self.new.rb ≡ self.old.rb) × (self.new.order ≡ self.old.order) × (file.new.header ≡ file.old.header) }
         ensures room { HasRoomOf self.old self.new }
-        ensures cause { CountsWrites (AreTablesInReach (cached_in self.old)) (S.state file.old.image).faults
-            (S.state file.new.image).faults result }
+        ensures cause { FailsFor (writing_causes (AreTablesInReach (cached_in self.old)) (S.state file.old.image).faults
+            (S.state file.new.image).faults) result }
         ensures faults { WasNotCutOff result → IsFaultless (S.state file.old.image) (S.state file.new.image) }
         ensures written { order_of self.old ≡ RbDependsOnL2
             → WritesTables (S.state file.old.image) (cached_in self.old) result (S.state file.new.image) (cached_in self.new) }
@@ -272,8 +273,8 @@ impl<S: Storage> MetadataCaches<S> {
         ensures others { (self.new.order ≡ self.old.order) × (file.new.header ≡ file.old.header) }
         ensures tables { (order_of self.old ≡ RbDependsOnL2 → ⊥) → self.new.l2 ≡ self.old.l2 }
         ensures room { HasRoomOf self.old self.new }
-        ensures cause { CountsWrites (AreTablesInReach (cached_in self.old) × AreBlocksInReach (cached_in self.old))
-            (S.state file.old.image).faults (S.state file.new.image).faults result }
+        ensures cause { FailsFor (writing_causes (AreTablesInReach (cached_in self.old) × AreBlocksInReach (cached_in self.old))
+            (S.state file.old.image).faults (S.state file.new.image).faults) result }
         ensures faults { WasNotCutOff result → IsFaultless (S.state file.old.image) (S.state file.new.image) }
         ensures alone { (order_of self.old ≡ RbDependsOnL2 → ⊥)
             → WritesBlocks (S.state file.old.image) (cached_in self.old) result (S.state file.new.image) (cached_in self.new) }
@@ -294,8 +295,8 @@ impl<S: Storage> MetadataCaches<S> {
         ensures others { (self.new.order ≡ self.old.order) × (file.new.header ≡ file.old.header) }
         ensures blocks { (order_of self.old ≡ L2DependsOnRb → ⊥) → self.new.rb ≡ self.old.rb }
         ensures room { HasRoomOf self.old self.new }
-        ensures cause { CountsWrites (AreTablesInReach (cached_in self.old) × AreBlocksInReach (cached_in self.old))
-            (S.state file.old.image).faults (S.state file.new.image).faults result }
+        ensures cause { FailsFor (writing_causes (AreTablesInReach (cached_in self.old) × AreBlocksInReach (cached_in self.old))
+            (S.state file.old.image).faults (S.state file.new.image).faults) result }
         ensures faults { WasNotCutOff result → IsFaultless (S.state file.old.image) (S.state file.new.image) }
         ensures alone { (order_of self.old ≡ L2DependsOnRb → ⊥)
             → WritesTables (S.state file.old.image) (cached_in self.old) result (S.state file.new.image) (cached_in self.new) }
@@ -320,8 +321,8 @@ impl<S: Storage> MetadataCaches<S> {
         ensures blocks { OnOk result (AreBlocksClean (cached_in self.new)) }
         ensures others { (self.new.order ≡ self.old.order) × (file.new.header ≡ file.old.header) }
         ensures room { HasRoomOf self.old self.new }
-        ensures cause { CountsWrites (AreTablesInReach (cached_in self.old) × AreBlocksInReach (cached_in self.old))
-            (S.state file.old.image).faults (S.state file.new.image).faults result }
+        ensures cause { FailsFor (writing_causes (AreTablesInReach (cached_in self.old) × AreBlocksInReach (cached_in self.old))
+            (S.state file.old.image).faults (S.state file.new.image).faults) result }
         ensures faults { WasNotCutOff result → IsFaultless (S.state file.old.image) (S.state file.new.image) }
         ensures blocks_first { order_of self.old ≡ L2DependsOnRb
             → InTurn WritesBlocks WritesTables (S.state file.old.image) (cached_in self.old) result (S.state file.new.image)
@@ -356,8 +357,8 @@ impl<S: Storage> MetadataCaches<S> {
         ensures stays { OnErr result (order_of self.new ≡ order_of self.old) }
         ensures header { file.new.header ≡ file.old.header }
         ensures room { HasRoomOf self.old self.new }
-        ensures cause { CountsWrites (AreTablesInReach (cached_in self.old)) (S.state file.old.image).faults
-            (S.state file.new.image).faults result }
+        ensures cause { FailsFor (writing_causes (AreTablesInReach (cached_in self.old)) (S.state file.old.image).faults
+            (S.state file.new.image).faults) result }
         ensures faults { WasNotCutOff result → IsFaultless (S.state file.old.image) (S.state file.new.image) }
         ensures written { order_of self.old ≡ RbDependsOnL2
             → WritesTables (S.state file.old.image) (cached_in self.old) result (S.state file.new.image) (cached_in self.new) }
@@ -387,8 +388,8 @@ impl<S: Storage> MetadataCaches<S> {
         ensures stays { OnErr result (order_of self.new ≡ order_of self.old) }
         ensures header { file.new.header ≡ file.old.header }
         ensures room { HasRoomOf self.old self.new }
-        ensures cause { CountsWrites (AreBlocksInReach (cached_in self.old)) (S.state file.old.image).faults
-            (S.state file.new.image).faults result }
+        ensures cause { FailsFor (writing_causes (AreBlocksInReach (cached_in self.old)) (S.state file.old.image).faults
+            (S.state file.new.image).faults) result }
         ensures faults { WasNotCutOff result → IsFaultless (S.state file.old.image) (S.state file.new.image) }
         ensures written { order_of self.old ≡ L2DependsOnRb
             → WritesBlocks (S.state file.old.image) (cached_in self.old) result (S.state file.new.image) (cached_in self.new) }

@@ -30,12 +30,13 @@ ghost use Rattle.qcow2_alloc.specs.declared.cache.CacheDependency.TheVariants.{L
 ghost use Rattle.qcow2_alloc.specs.declared.allocation.Allocator.{Allocator};
 ghost use Rattle.qcow2_alloc.specs.Allocators.{LoadsAllocator, table_of};
 ghost use Rattle.qcow2_alloc.specs.Cache.{hit};
+ghost use Rattle.qcow2_alloc.specs.Causes.{FailsFor};
 ghost use Rattle.qcow2_alloc.specs.Crowding.{space, IsRoomy};
 ghost use Rattle.qcow2_alloc.specs.HandingOut.{IsFreed};
 ghost use Rattle.qcow2_alloc.specs.Changes.{StaysAsItIs, CachesBlock, SetsCounter, CounterChanged, IsStillCovered, CachesTable, SetsWord, NamesNoMore, NamesDropped, ClusterNamed, zeroed, file_with};
 ghost use Rattle.qcow2_alloc.specs.Memory.{Cached, memory};
 ghost use Rattle.qcow2_alloc.specs.Safety.{Safe, IsLeft, IsCalm, AreTablesClean, AreBlocksClean, IsSettled};
-ghost use Rattle.qcow2_alloc.specs.Going.{Going, Always, CountsWrites, WasNotCutOff, AreTablesInReach, AreBlocksInReach};
+ghost use Rattle.qcow2_alloc.specs.Going.{Going, Always, WasNotCutOff, AreTablesInReach, AreBlocksInReach, writing_causes};
 ghost use Rattle.qcow2_alloc.specs.Opening.{IsL1Of, opened};
 ghost use Rattle.qcow2_alloc.specs.Quiet.{IsTableOf, Metadata, metadata_in, covers_metadata, in_memory, counted, referenced, named_at_all, waiting, waiting_metadata, one_at, IsUsed, IsSound, ShowsEither, IsQuiet, IsIn, Quietly};
 ghost use Rattle.qcow2_alloc.specs.MakingRoom.{CountsTheSame, IsReadyBlock, BlockNamed, with_block, formerly, newly_counted, IsReadyTable, TableSwitched, with_table, newly, run_of, rank, IsGrownTable};
@@ -223,7 +224,7 @@ pub fn what_is_done_quietly()
         → OnOk result ((f : Bytes) (H : Header) → Safe f H cached' m.order → Safe f H cached' order')
         → Quietly (result ≡ Ok tt) (λ _. 0) (λ _. 0) old m new (record m { file = bytes_of new.bytes; cached = cached'; order = order' }) }
     ensures whole { (m : Metadata) (before after : ℕ) (result : Result Unit Fault) (handed taken : ℕ → ℕ) (old new : StorageState)
-        (m' : Metadata) → CountsWrites (AreTablesInReach m.cached × AreBlocksInReach m.cached) before after result
+        (m' : Metadata) → FailsFor (writing_causes (AreTablesInReach m.cached × AreBlocksInReach m.cached) before after) result
         → Quietly (result ≡ Ok tt) handed taken old m new m' → Quietly (WasNotCutOff result) handed taken old m new m' }
     ensures memory { (handed taken : ℕ → ℕ) (s : StorageState) (m m' : Metadata) → (IsSound m → IsSound m' × IsQuiet handed taken m m')
         → Quietly ⊤ handed taken s m s m' }

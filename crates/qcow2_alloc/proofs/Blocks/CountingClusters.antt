@@ -1,13 +1,13 @@
 -- Clusters that aren't counted are counted, while blocks are written before tables.
 use Rattle.std.proofs.Common.{◌≡◌, ◌≢◌, ℕ, ◌+◌, ◌/◌, ◌%◌, ◌^◌, ◌<◌, ◌≤◌, refl, arith, ap, sym, subst, ◌∙◌, List, length, Option, None, Some, Result, Ok, Err, inl, inr}
-use Rattle.std.specs.Prelude.{⊤, IsTrue, nat_eq, slice_index, MatchOption, MatchResult, OnOk, ◌==◌, if◌then◌else◌}
+use Rattle.std.specs.Prelude.{⊤, IsTrue, nat_eq, slice_index, MatchOption, OnOk, ◌==◌, if◌then◌else◌}
 use Rattle.std.specs.Map.{lookup}
 use Rattle.std.specs.Option.{option_map}
 use Rattle.std.proofs.lemmas.Bool.{cases_eq, cases_lt, ne_eqb}
 use Rattle.std.proofs.lemmas.Nat.{mod_below, pow_pos}
 use Rattle.imago_storage.specs.State.{StorageState}
 use Rattle.imago_storage.specs.declared.fault.Fault.{Fault}
-use Rattle.imago_storage.specs.declared.fault.Fault.TheVariants.{Memory, Storage, DamagedTable, CacheFull, Counter}
+use Rattle.imago_storage.specs.declared.fault.Fault.TheVariants.{DamagedTable, Counter}
 use Rattle.imago_storage.proofs.Composing.{later_same}
 use Rattle.qcow2_types.specs.Bytes.{bytes_of}
 use Rattle.qcow2_types.specs.Header.{Header, cluster_size}
@@ -27,9 +27,10 @@ use Rattle.qcow2_alloc.specs.Allocators.{metadata_of, named_block, UsesBlock, Bl
 use Rattle.qcow2_alloc.specs.Cache.{hit}
 use Rattle.qcow2_alloc.specs.Caches.{cached_in, order_of, cached_file}
 use Rattle.qcow2_alloc.specs.CachesLending.{with_blocks}
+use Rattle.qcow2_alloc.specs.Causes.{FailsFor}
 use Rattle.qcow2_alloc.specs.Changes.{CachesBlock, SetsCounter}
-use Rattle.qcow2_alloc.specs.Finding.{BlockFound, IsPinnedFull, WhyNotFound}
-use Rattle.qcow2_alloc.specs.Freeing.{IsLoose, WhyNotCounted}
+use Rattle.qcow2_alloc.specs.Finding.{BlockFound, IsPinnedFull, search_causes}
+use Rattle.qcow2_alloc.specs.Freeing.{IsLoose, counting_causes}
 use Rattle.qcow2_alloc.specs.FreeList.{covers}
 use Rattle.qcow2_alloc.specs.Going.{WasNotCutOff, AreTablesInReach, AreBlocksInReach}
 use Rattle.qcow2_alloc.specs.MakingRoom.{run_of}
@@ -37,6 +38,7 @@ use Rattle.qcow2_alloc.specs.Memory.{memory}
 use Rattle.qcow2_alloc.specs.Quiet.{Metadata, IsSound, IsQuiet, Quietly, counted, one_at}
 use Rattle.qcow2_alloc.specs.Safety.{Safe, IsCachedBlock}
 use Rattle.qcow2_alloc.specs.State.{lent}
+use Rattle.qcow2_alloc.proofs.Causes.{Implies, cause-weaker}
 use Rattle.qcow2_alloc.proofs.Memory.ChangingCounters.{cached-count, counter-raised}
 use Rattle.qcow2_alloc.proofs.Blocks.CountedBlocks.{block-named}
 use Rattle.qcow2_alloc.proofs.Freeing.FreeingClusters.{named-there, search-quietly}
@@ -172,7 +174,7 @@ module _ {S : Type 0} (state : S → StorageState) (table : TableValue) (pending
     here each = each c (omega arith) (omega arith)
 
     abbrev Counts : Result Unit Fault → Type 0
-    Counts q = MatchResult q (λ _. (state after.image).faults ≡ (state before.image).faults) (WhyNotCounted Holds (IsLoose table old) (state before.image).faults (state after.image).faults)
+    Counts q = FailsFor (counting_causes Holds (IsLoose table old) (state before.image).faults (state after.image).faults) q
 
     -- The counts are what they were behind a search that wasn't cut off.
     found-counts : (key : ℕ) (answer : Result Unit Fault) (mid : MetadataCaches S) → BlockFound state key old before answer mid after → Keeps → IsSound Old → WasNotCutOff answer → (d : ℕ) → counted (At mid after) d ≡ counted Old d
@@ -180,20 +182,23 @@ module _ {S : Type 0} (state : S → StorageState) (table : TableValue) (pending
         let settled = found.going.holds keeps sound.safe tt (inl whole) in
         subst (λ (h : Header). count (memory (bytes_of (state after.image).bytes) h.fields (cached_in mid)) h.fields d ≡ counted Old d) (sym found.others.1) (ap (λ g. count g before.header.fields d) settled.memory_same)
 
-    search-refused : (key : ℕ) → named_block table i ≡ Some key → (fault : Fault)
-        → WhyNotFound (IsInReach before.header.fields.cluster_bits key × AreTablesInReach (cached_in old) × AreBlocksInReach (cached_in old)) (IsPinnedFull old.rb.slots.cap (cached_in old).blocks) (state before.image).faults (state after.image).faults fault
-        → WhyNotCounted Holds (IsLoose table old) (state before.image).faults (state after.image).faults fault
-    search-refused key named Memory why = tt
-    search-refused key named Storage why = why
-    search-refused key named DamagedTable why = λ holds.
-        let sound = holds.2 in
-        let place = named-there Old i key sound named in
-        let there = block-named Old sound c (λ none. place-there (cluster_size before.header.fields) key (pow_pos before.header.fields.cluster_bits) place.1 (sym place.0 ∙ none)) in
-        let same : there.key ≡ key = (let e = sym there.names ∙ named in cc) in
-        let reach = safe-reach Old.file Old.header Old.cached Old.order sound.safe in
-        why (subst (λ n. IsInReach before.header.fields.cluster_bits n) same there.reach, reach.0, reach.1)
-    search-refused key named CacheFull why = λ u. loose-never table old u.0 u.2 why
-    search-refused key named other why = absurd why
+    search-counts : (key : ℕ) → named_block table i ≡ Some key
+        → Implies (search_causes (IsInReach before.header.fields.cluster_bits key × AreTablesInReach (cached_in old) × AreBlocksInReach (cached_in old)) (IsPinnedFull old.rb.slots.cap (cached_in old).blocks) (state before.image).faults (state after.image).faults)
+        (counting_causes Holds (IsLoose table old) (state before.image).faults (state after.image).faults)
+    search-counts key named = record {
+      before = omega arith;
+      after = omega arith;
+      damaged = λ wrong holds.
+          let sound = holds.2 in
+          let place = named-there Old i key sound named in
+          let there = block-named Old sound c (λ none. place-there (cluster_size before.header.fields) key (pow_pos before.header.fields.cluster_bits) place.1 (sym place.0 ∙ none)) in
+          let same : there.key ≡ key = (let e = sym there.names ∙ named in cc) in
+          let reach = safe-reach Old.file Old.header Old.cached Old.order sound.safe in
+          wrong (subst (λ n. IsInReach before.header.fields.cluster_bits n) same there.reach, reach.0, reach.1);
+      counter = absurd;
+      full = λ full u. loose-never table old u.0 u.2 full;
+      limit = λ number. absurd;
+    }
 
     -- Where nothing is counted, that is quiet.
     none-given : (fault : Fault) (new' : MetadataCaches S) (after' : ImageFile S) → Quietly (WasNotCutOff (failed fault)) (λ _. 0) (λ _. 0) (state before.image) Old (state after'.image) (At new' after')
@@ -222,7 +227,7 @@ module _ {S : Type 0} (state : S → StorageState) (table : TableValue) (pending
             header = stays.header;
             loose = stays.loose;
             room = stays.room;
-            cause = search-refused key named fault found.cause;
+            cause = cause-weaker (search-counts key named) fault found.cause;
           },
           refl,
         )

@@ -1,6 +1,6 @@
 -- Clusters in a row are counted, one behind the other.
 use Rattle.std.proofs.Common.{◌≡◌, ◌≢◌, ℕ, ◌+◌, ◌/◌, ◌<◌, ◌≤◌, refl, arith, ap, sym, subst, ◌∙◌, List, Result, Ok, Err, Bool, true, false, inl, inr}
-use Rattle.std.specs.Prelude.{⊤, ◌==◌, if◌then◌else◌, IsTrue, slice_index, MatchResult, OnOk}
+use Rattle.std.specs.Prelude.{⊤, ◌==◌, if◌then◌else◌, IsTrue, slice_index, OnOk}
 use Rattle.std.proofs.lemmas.Bool.{cases_eq, ne_eqb}
 use Rattle.std.proofs.lemmas.Bool.Decides.{nat_tests}
 use Rattle.imago_storage.specs.State.{StorageState}
@@ -17,15 +17,15 @@ use Rattle.qcow2_alloc.specs.declared.file.ImageFile.{ImageFile}
 use Rattle.qcow2_alloc.specs.Allocating.{CountsPart, CountsRun, CountsNamed, named_part}
 use Rattle.qcow2_alloc.specs.Allocators.{metadata_of}
 use Rattle.qcow2_alloc.specs.Caches.{order_of}
-use Rattle.qcow2_alloc.specs.Freeing.{IsLoose, WhyNotCounted}
 use Rattle.qcow2_alloc.specs.FreeList.{covers}
 use Rattle.qcow2_alloc.specs.Going.{WasNotCutOff}
 use Rattle.qcow2_alloc.specs.MakingRoom.{run_of}
 use Rattle.qcow2_alloc.specs.Quiet.{Metadata, IsSound, counted}
 use Rattle.qcow2_alloc.specs.State.{lent}
+use Rattle.qcow2_alloc.proofs.Causes.{cause-weaker, fails-weaker}
 use Rattle.qcow2_alloc.proofs.Blocks.CountingClusters.{succeeded}
 use Rattle.qcow2_alloc.proofs.Flushing.Faultless.{faultless-then}
-use Rattle.qcow2_alloc.proofs.Freeing.FreeingEntries.{failed, why-counted-wider}
+use Rattle.qcow2_alloc.proofs.Freeing.FreeingEntries.{failed, counting-weaker}
 use Rattle.qcow2_alloc.proofs.Freeing.Listed.{covers-none}
 use Rattle.qcow2_alloc.proofs.Quiet.QuietFlushes.{memory-quietly, quiet-none}
 use Rattle.qcow2_alloc.proofs.Quiet.QuietGiven.{quietly-then-given}
@@ -149,7 +149,7 @@ module _ {S : Type 0} (state : S → StorageState) (table : TableValue) (pending
         header = two.header ∙ one.header;
         loose = λ any loose. two.loose any (one.loose any loose);
         room = record { tables = two.room.tables ∙ one.room.tables; blocks = two.room.blocks ∙ one.room.blocks; entries = two.room.entries ∙ one.room.entries };
-        cause = caused result two.cause;
+        cause = fails-weaker _ _ (counting-weaker from one.loose one.cause) (λ same. same ∙ one.cause) result two.cause;
       }
     where
       ended : (r : Result Unit Fault) (k : ℕ) → OnOk r (k ≡ 1) → OnOk r (n + k ≡ n + 1)
@@ -173,11 +173,6 @@ module _ {S : Type 0} (state : S → StorageState) (table : TableValue) (pending
                 ),
           )
 
-      caused : (r : Result Unit Fault) → MatchResult r (λ _. (state fC.image).faults ≡ (state fB.image).faults) (WhyNotCounted (Holds (first + n) 1 B fB) (IsLoose table B) (state fB.image).faults (state fC.image).faults)
-          → MatchResult r (λ _. (state fC.image).faults ≡ (state fA.image).faults) (WhyNotCounted (Holds first (n + 1) A fA) (IsLoose table A) (state fA.image).faults (state fC.image).faults)
-      caused (Ok done) same = same ∙ one.cause
-      caused (Err fault) why = why-counted-wider _ _ _ _ _ _ _ from one.loose one.cause fault why
-
   -- and as part of a longer run, where that was refused.
   parts-within : (n N : ℕ) → n ≤ N → (A : MetadataCaches S) (fA : ImageFile S) (fault : Fault) (B : MetadataCaches S) (fB : ImageFile S) → Counts first n A fA (failed fault) B fB → Counts first N A fA (failed fault) B fB
   parts-within n N le A fA fault B fB part =
@@ -196,7 +191,7 @@ module _ {S : Type 0} (state : S → StorageState) (table : TableValue) (pending
         header = part.header;
         loose = part.loose;
         room = part.room;
-        cause = why-counted-wider _ _ _ _ _ _ _ (λ holds. (holds.0, holds.1, holds.2, λ d above below. holds.3 d above (omega (arith, below, le)))) (λ any loose. loose) refl fault part.cause;
+        cause = cause-weaker (counting-weaker (λ holds. (holds.0, holds.1, holds.2, λ d above below. holds.3 d above (omega (arith, below, le)))) (λ any loose. loose) refl) fault part.cause;
       }
 
 -- Where all are counted,
@@ -279,10 +274,5 @@ module _ {S : Type 0} (state : S → StorageState) (table : TableValue) (pending
           header = run.header;
           loose = run.loose;
           room = run.room;
-          cause = caused result run.cause;
+          cause = fails-weaker _ _ (counting-weaker (named-ready some) (λ any loose. loose) refl) (λ same. same) result run.cause;
         }
-      where
-        caused : (r : Result Unit Fault) → MatchResult r (λ _. (state after.image).faults ≡ (state before.image).faults) (WhyNotCounted (Could Named) (IsLoose table old) (state before.image).faults (state after.image).faults)
-            → MatchResult r (λ _. (state after.image).faults ≡ (state before.image).faults) (WhyNotCounted (Could (λ d. ⊤)) (IsLoose table old) (state before.image).faults (state after.image).faults)
-        caused (Ok done) same = same
-        caused (Err fault) why = why-counted-wider _ _ _ _ _ _ _ (named-ready some) (λ any loose. loose) refl fault why

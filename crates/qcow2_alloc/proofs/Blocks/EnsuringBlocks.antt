@@ -1,13 +1,12 @@
 -- Blocks are made one behind the other.
-use Rattle.std.proofs.Common.{◌≡◌, ◌≢◌, ℕ, ◌+◌, ◌*◌, ◌<◌, ◌≤◌, refl, arith, ap, sym, subst, ◌∙◌, List, length, Bool, Result, Ok, Err, inl, inr}
-use Rattle.std.specs.Prelude.{IsTrue, IfOk, OnOk, MatchResult, slice_index, slice_set, ◌==◌, if◌then◌else◌}
+use Rattle.std.proofs.Common.{◌≡◌, ◌≢◌, ℕ, ◌+◌, ◌*◌, ◌<◌, ◌≤◌, refl, arith, ap, sym, subst, ◌∙◌, List, length, Result, Ok, Err, inl, inr}
+use Rattle.std.specs.Prelude.{IsTrue, IfOk, OnOk, slice_index, slice_set, ◌==◌, if◌then◌else◌}
 use Rattle.std.specs.List.{sum_by}
 use Rattle.std.proofs.lemmas.Bool.{cases_eq, ne_eqb}
 use Rattle.std.proofs.lemmas.List.{ext_get_or, get_or-set_same, get_or-set_other, length-set}
 use Rattle.std.proofs.lemmas.List.Sums.{sum_by-set}
 use Rattle.imago_storage.specs.State.{StorageState}
 use Rattle.imago_storage.specs.declared.fault.Fault.{Fault}
-use Rattle.imago_storage.specs.declared.fault.Fault.TheVariants.{Memory, Storage, DamagedTable, CacheFull, Counter, Limit}
 use Rattle.imago_storage.proofs.Composing.{keeps_on}
 use Rattle.qcow2_types.specs.Words.{block_offset}
 use Rattle.qcow2_types.specs.Header.{Header}
@@ -20,15 +19,17 @@ use Rattle.qcow2_alloc.specs.declared.allocation.readying_runs.Provision.TheVari
 use Rattle.qcow2_alloc.specs.declared.cache.CacheDependency.TheVariants.{L2DependsOnRb}
 use Rattle.qcow2_alloc.specs.declared.cache.MetadataCaches.{MetadataCaches}
 use Rattle.qcow2_alloc.specs.declared.file.ImageFile.{ImageFile}
-use Rattle.qcow2_alloc.specs.Allocating.{Allocating, MakesBlock, MakesBlocks, WhyNotAllocated, missing}
+use Rattle.qcow2_alloc.specs.Allocating.{Allocating, MakesBlock, MakesBlocks, missing, allocating_causes}
 use Rattle.qcow2_alloc.specs.Allocators.{metadata_of}
 use Rattle.qcow2_alloc.specs.Caches.{order_of}
+use Rattle.qcow2_alloc.specs.Causes.{FailsFor}
 use Rattle.qcow2_alloc.specs.Freeing.{IsLoose}
 use Rattle.qcow2_alloc.specs.Going.{WasNotCutOff}
 use Rattle.qcow2_alloc.specs.Quiet.{IsSound}
 use Rattle.qcow2_alloc.specs.State.{lent}
+use Rattle.qcow2_alloc.proofs.Causes.{cause-weaker}
+use Rattle.qcow2_alloc.proofs.Blocks.MadeBlocks.{allocating-weaker}
 use Rattle.qcow2_alloc.proofs.Handing.Allocating.{allocating-none, allocating-then, allocating-as, block-allocates}
-use Rattle.qcow2_alloc.proofs.Freeing.FreeingEntries.{why-counted-wider}
 
 -- the answer of a call that succeeded
 abbrev pub so : Provision → Result Provision Fault
@@ -42,19 +43,6 @@ refused fault = Err fault
 abbrev pub made_by : Result Unit Fault → Result Provision Fault
 made_by (Ok done) = Ok Extended
 made_by (Err fault) = Err fault
-
--- A cause stays one over more calls, as its number tells.
-pub why-allocated-as : (sound sound' : Type 0) (loose loose' : Bool → Type 0) (full full' : ℕ → Type 0) (a b c : ℕ) → (sound' → sound) → ((any : Bool) → loose' any → loose any) → b ≡ a → (fault : Fault) → ((n : ℕ) → fault ≡ Limit n → full n → full' n) → WhyNotAllocated sound loose full b c fault → WhyNotAllocated sound' loose' full' a c fault
-why-allocated-as sound sound' loose loose' full full' a b c from from' same (Limit number) on why = (on number refl why.0, why.1 ∙ same)
-why-allocated-as sound sound' loose loose' full full' a b c from from' same Memory on why = why-counted-wider sound sound' loose loose' a b c from from' same Memory why
-why-allocated-as sound sound' loose loose' full full' a b c from from' same Storage on why = why-counted-wider sound sound' loose loose' a b c from from' same Storage why
-why-allocated-as sound sound' loose loose' full full' a b c from from' same DamagedTable on why = why-counted-wider sound sound' loose loose' a b c from from' same DamagedTable why
-why-allocated-as sound sound' loose loose' full full' a b c from from' same Counter on why = why-counted-wider sound sound' loose loose' a b c from from' same Counter why
-why-allocated-as sound sound' loose loose' full full' a b c from from' same CacheFull on why = why-counted-wider sound sound' loose loose' a b c from from' same CacheFull why
-why-allocated-as sound sound' loose loose' full full' a b c from from' same fault on why = absurd why
-
-pub why-allocated-wider : (sound sound' : Type 0) (loose loose' : Bool → Type 0) (full full' : ℕ → Type 0) (a b c : ℕ) → (sound' → sound) → ((any : Bool) → loose' any → loose any) → ((n : ℕ) → full n → full' n) → b ≡ a → (fault : Fault) → WhyNotAllocated sound loose full b c fault → WhyNotAllocated sound' loose' full' a c fault
-why-allocated-wider sound sound' loose loose' full full' a b c from from' on same fault why = why-allocated-as sound sound' loose loose' full full' a b c from from' same fault (λ n is. on n) why
 
 -- One word of a refcount table comes to name a block, and no other changes.
 fewer-missing : (table table' : TableValue) (index : ℕ) → index < length table.words → length table'.words ≡ length table.words → block_offset (slice_index table.words index) ≡ 0 → block_offset (slice_index table'.words index) ≢ 0
@@ -161,15 +149,11 @@ module _ {S : Type 0} (state : S → StorageState) (pending : List FreeEntry) (f
         fewer (Err fault) there = tt
 
         caused : (r : Result Unit Fault)
-            → MatchResult r (λ _. (state fC.image).faults ≡ (state fB.image).faults)
-            (WhyNotAllocated (IsTrue (state fB.image).shape.keeps × (order_of B ≡ L2DependsOnRb) × IsSound (metadata_of state fB B tB pending)) (IsLoose tB B) (λ number. (number ≤ c * counters_of_block fB.header.fields) × (IsInReach fB.header.fields.cluster_bits number → ⊥)) (state fB.image).faults (state fC.image).faults)
-            → MatchResult (made_by r) (λ _. (state fC.image).faults ≡ (state fA.image).faults)
-            (WhyNotAllocated (IsTrue (state fA.image).shape.keeps × (order_of A ≡ L2DependsOnRb) × IsSound (metadata_of state fA A tA pending)) (IsLoose tA A)
-            (λ number. (i : ℕ) × (first ≤ i) × (i < c + 1) × (number ≤ i * counters_of_block fA.header.fields) × (IsInReach fA.header.fields.cluster_bits number → ⊥)) (state fA.image).faults (state fC.image).faults)
+            → FailsFor (allocating_causes (IsTrue (state fB.image).shape.keeps × (order_of B ≡ L2DependsOnRb) × IsSound (metadata_of state fB B tB pending)) (IsLoose tB B) (λ number. (number ≤ c * counters_of_block fB.header.fields) × (IsInReach fB.header.fields.cluster_bits number → ⊥)) (state fB.image).faults (state fC.image).faults) r
+            → FailsFor (allocating_causes (IsTrue (state fA.image).shape.keeps × (order_of A ≡ L2DependsOnRb) × IsSound (metadata_of state fA A tA pending)) (IsLoose tA A)
+            (λ number. (i : ℕ) × (first ≤ i) × (i < c + 1) × (number ≤ i * counters_of_block fA.header.fields) × (IsInReach fA.header.fields.cluster_bits number → ⊥)) (state fA.image).faults (state fC.image).faults) (made_by r)
         caused (Ok done) same = same ∙ one.cause
-        caused (Err fault) why = why-allocated-wider _ _ _ _ _ _ _ _ _
-            (λ holds. let quiet = one.step.quiet holds.1 in (keeps_on (state fA.image) (state fB.image) quiet.shape holds.0, one.step.order ∙ holds.1, (quiet.holds holds.0 holds.2 tt).0))
-            one.step.loose (λ number far. let at = subst (λ (h : Header). (number ≤ c * counters_of_block h.fields) × (IsInReach h.fields.cluster_bits number → ⊥)) one.header far in (c, above, omega arith, at.0, at.1)) one.cause fault why
+        caused (Err fault) why = cause-weaker (allocating-weaker (λ holds. let quiet = one.step.quiet holds.1 in (keeps_on (state fA.image) (state fB.image) quiet.shape holds.0, one.step.order ∙ holds.1, (quiet.holds holds.0 holds.2 tt).0)) one.step.loose (λ number far. let at = subst (λ (h : Header). (number ≤ c * counters_of_block h.fields) × (IsInReach h.fields.cluster_bits number → ⊥)) one.header far in (c, above, omega arith, at.0, at.1)) one.cause) fault why
 
   -- They are part of more, where that was refused.
   pub blocks-within : (end more : ℕ) → end ≤ more → (tA : TableValue) (A : MetadataCaches S) (fA : ImageFile S) (fault : Fault) (tB : TableValue) (B : MetadataCaches S) (fB : ImageFile S)
@@ -184,5 +168,5 @@ module _ {S : Type 0} (state : S → StorageState) (pending : List FreeEntry) (f
     layout = part.layout;
     placed = part.placed;
     header = part.header;
-    cause = why-allocated-wider _ _ _ _ _ _ _ _ _ (λ holds. holds) (λ any loose. loose) (λ number far. let below = far.2 in (far.0, far.1, omega (arith, below, le), far.3, far.4)) refl fault part.cause;
+    cause = cause-weaker (allocating-weaker (λ holds. holds) (λ any loose. loose) (λ number far. let below = far.2 in (far.0, far.1, omega (arith, below, le), far.3, far.4)) refl) fault part.cause;
   }

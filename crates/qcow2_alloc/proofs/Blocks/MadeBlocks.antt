@@ -5,11 +5,11 @@ use Rattle.std.specs.Int.{w64, to_be_bytes}
 use Rattle.std.specs.Map.{lookup}
 use Rattle.std.proofs.lemmas.List.{length-set, get_or-set_same, get_or-set_other}
 use Rattle.std.proofs.lemmas.Nat.{pow_pos}
-use Rattle.imago_storage.specs.State.{StorageState, Rose}
+use Rattle.imago_storage.specs.State.{StorageState}
 use Rattle.imago_storage.specs.Calls.{Cause, Later, IsFaultless}
 use Rattle.imago_storage.specs.Through.{Put, PutAtOnce}
 use Rattle.imago_storage.specs.declared.fault.Fault.{Fault}
-use Rattle.imago_storage.specs.declared.fault.Fault.TheVariants.{Memory, Storage, DamagedTable, CacheFull, Counter, Limit}
+use Rattle.imago_storage.specs.declared.fault.Fault.TheVariants.{Memory, DamagedTable, CacheFull, Limit}
 use Rattle.imago_storage.proofs.Composing.{keeps_on, later_both, later_same}
 use Rattle.qcow2_types.specs.Bytes.{bytes_of}
 use Rattle.qcow2_types.specs.Counts.{counters_of_block}
@@ -28,20 +28,22 @@ use Rattle.qcow2_metadata.proofs.TableSteps.{block_named}
 use Rattle.qcow2_alloc.specs.declared.cache.CacheDependency.TheVariants.{L2DependsOnRb}
 use Rattle.qcow2_alloc.specs.declared.cache.MetadataCaches.{MetadataCaches}
 use Rattle.qcow2_alloc.specs.declared.file.ImageFile.{ImageFile}
-use Rattle.qcow2_alloc.specs.Allocating.{MakesBlock, OnlyRaised, WhyNotAllocated}
+use Rattle.qcow2_alloc.specs.Allocating.{MakesBlock, OnlyRaised, allocating_causes}
 use Rattle.qcow2_alloc.specs.Allocators.{metadata_of, named_block}
 use Rattle.qcow2_alloc.specs.Caches.{cached_in, order_of}
-use Rattle.qcow2_alloc.specs.Freeing.{IsUnbarred, IsLoose, WhyNotCounted, WhyNotFreed}
-use Rattle.qcow2_alloc.specs.Going.{WasNotCutOff, WhyNotWritten}
+use Rattle.qcow2_alloc.specs.Causes.{HasCause}
+use Rattle.qcow2_alloc.specs.Freeing.{IsUnbarred, IsLoose, freeing_causes, counting_causes}
+use Rattle.qcow2_alloc.specs.Going.{WasNotCutOff}
 use Rattle.qcow2_alloc.specs.MakingBlocks.{Begins, CanName, WhyNotNamed, NamesWritten}
 use Rattle.qcow2_alloc.specs.MakingRoom.{with_block}
 use Rattle.qcow2_alloc.specs.Quiet.{Metadata, in_memory, counted, IsUsed, IsSound, Quietly, named_at_all}
 use Rattle.qcow2_alloc.specs.State.{ImageState, lent, metadata, IsGuarded}
+use Rattle.qcow2_alloc.proofs.Causes.{Implies, fails-weaker, storage-fails}
 use Rattle.qcow2_alloc.proofs.Handing.Allocating.{raised-then}
 use Rattle.qcow2_alloc.proofs.Quiet.AtOnce.{put-done}
 use Rattle.qcow2_alloc.proofs.Flushing.Faultless.{never-mild, faultless-then, put-faultless}
 use Rattle.qcow2_alloc.proofs.Caching.Forgetting.{never-unnamed}
-use Rattle.qcow2_alloc.proofs.Freeing.FreeingEntries.{failed}
+use Rattle.qcow2_alloc.proofs.Freeing.FreeingEntries.{failed, unbarred-still}
 use Rattle.qcow2_alloc.proofs.Caching.Loose.{StaysLoose, loose-named, name-kept}
 use Rattle.qcow2_alloc.proofs.Memory.Patches.{place-there}
 use Rattle.qcow2_alloc.proofs.Quiet.QuietFlushes.{memory-quietly, quiet-none, quietly-weaker}
@@ -88,11 +90,6 @@ put-cause old new at bytes (Err other) put fault is = subst (λ (f : Fault). Cau
 put-faults : (old new : StorageState) (at : ℕ) (bytes : List ℕ) (done : Result Unit Fault) → Put old new at bytes done → done ≡ Ok tt → new.faults ≡ old.faults
 put-faults old new at bytes (Ok done) put is = put.answer.faults
 put-faults old new at bytes (Err fault) put is = absurd (cc is)
-
-caused : (holds : Type 0) (loose : Bool → Type 0) (full : ℕ → Type 0) (a b c : ℕ) → b ≡ a → (fault : Fault) → Cause b c fault → WhyNotAllocated holds loose full a c fault
-caused holds loose full a b c same Memory cause = tt
-caused holds loose full a b c same Storage cause = subst (λ n. Rose n c) same cause
-caused holds loose full a b c same other cause = absurd cause
 
 -- A table is as it was, or names this cluster at an index.
 pub record NamedAt (table : TableValue) (i d : ℕ) (result : Result Unit Fault) (table' : TableValue) : Type 0 where
@@ -188,45 +185,16 @@ module _ {S : Type 0} (state : S → StorageState) (i d : ℕ) (counters : List 
             let all = n.named is in
             subst (λ (t : TableValue). Ends ready taken result t after) (sym all.1.1) (named-end all.1.0 n.mid after n.done is n.put result all.0)
 
-allocated-by : (sound sound' loose : Type 0) (loose' : Bool → Type 0) (full : ℕ → Type 0) (a b c : ℕ) → (sound' → sound) → (IsUnbarred sound' loose' → loose) → b ≡ a → (fault : Fault) → WhyNotFreed sound loose b c fault → WhyNotAllocated sound' loose' full a c fault
-allocated-by sound sound' loose loose' full a b c from from' same Memory why = tt
-allocated-by sound sound' loose loose' full a b c from from' same Storage why = subst (λ n. Rose n c) same why
-allocated-by sound sound' loose loose' full a b c from from' same DamagedTable why = λ s. why (from s)
-allocated-by sound sound' loose loose' full a b c from from' same Counter why = λ s. why (from s)
-allocated-by sound sound' loose loose' full a b c from from' same CacheFull why = λ u. why (from' u)
-allocated-by sound sound' loose loose' full a b c from from' same (Limit number) why = absurd why
-allocated-by sound sound' loose loose' full a b c from from' same other why = absurd why
+-- What allocates is refused for what refused a part of it that frees or searches, that counts, or that allocates.
+pub freeing-allocates : {sound sound' loose : Type 0} {loose' : Bool → Type 0} {full : ℕ → Type 0} {a b c : ℕ} → (sound' → sound) → (IsUnbarred sound' loose' → loose) → b ≡ a → Implies (freeing_causes sound loose b c) (allocating_causes sound' loose' full a c)
+freeing-allocates from from' same = record { before = omega (arith, same); after = omega arith; damaged = λ wrong s. wrong (from s); counter = λ wrong s. wrong (from s); full = λ none u. none (from' u); limit = λ number. absurd }
 
--- A cause of what frees or searches is one of what allocates, as is one of what counts,
-pub allocated-wider : (sound sound' loose : Type 0) (loose' : Bool → Type 0) (full : ℕ → Type 0) (a b c : ℕ) → (sound' → sound) → ((any : Bool) → loose' any → loose) → b ≡ a → (fault : Fault) → WhyNotFreed sound loose b c fault → WhyNotAllocated sound' loose' full a c fault
-allocated-wider sound sound' loose loose' full a b c from from' same fault why = allocated-by sound sound' loose loose' full a b c from (λ u. from' u.0 u.2) same fault why
+pub counting-allocates : {sound sound' : Type 0} {loose loose' : Bool → Type 0} {full : ℕ → Type 0} {a b c : ℕ} → (sound' → sound) → ((any : Bool) → loose' any → loose any) → b ≡ a → Implies (counting_causes sound loose b c) (allocating_causes sound' loose' full a c)
+counting-allocates from from' same = freeing-allocates from (unbarred-still from from') same
 
-pub counted-wider : (sound sound' : Type 0) (loose loose' : Bool → Type 0) (full : ℕ → Type 0) (a b c : ℕ) → (sound' → sound) → ((any : Bool) → loose' any → loose any) → b ≡ a → (fault : Fault) → WhyNotCounted sound loose b c fault → WhyNotAllocated sound' loose' full a c fault
-counted-wider sound sound' loose loose' full a b c from from' same fault why = allocated-by sound sound' (IsUnbarred sound loose) loose' full a b c from (λ u. (u.0, λ is. from (u.1 is), from' u.0 u.2)) same fault why
-
--- and so is one of writes.
-pub allocated-written : (sound reach : Type 0) (loose : Bool → Type 0) (full : ℕ → Type 0) (a b c : ℕ) → (sound → reach) → b ≡ a → (fault : Fault) → WhyNotWritten reach b c fault → WhyNotAllocated sound loose full a c fault
-allocated-written sound reach loose full a b c from same Memory why = tt
-allocated-written sound reach loose full a b c from same Storage why = subst (λ n. Rose n c) same why
-allocated-written sound reach loose full a b c from same DamagedTable why = λ s. why (from s)
-allocated-written sound reach loose full a b c from same other why = absurd why
-
-caused-all : (holds : Type 0) (loose : Bool → Type 0) (full : ℕ → Type 0) (a b c : ℕ) → b ≡ a → (result : Result Unit Fault) → MatchResult result (λ _. c ≡ b) (Cause b c) → MatchResult result (λ _. c ≡ a) (WhyNotAllocated holds loose full a c)
-caused-all holds loose full a b c same (Ok done) counts = counts ∙ same
-caused-all holds loose full a b c same (Err fault) cause = caused holds loose full a b c same fault cause
-
-allocated-then : (sound sound' : Type 0) (loose loose' : Bool → Type 0) (full full' : ℕ → Type 0) (a b c : ℕ) → (sound' → sound) → ((any : Bool) → loose' any → loose any) → ((n : ℕ) → full n → full' n) → b ≡ a → (fault : Fault) → WhyNotAllocated sound loose full b c fault → WhyNotAllocated sound' loose' full' a c fault
-allocated-then sound sound' loose loose' full full' a b c from from' to same Memory why = tt
-allocated-then sound sound' loose loose' full full' a b c from from' to same Storage why = subst (λ n. Rose n c) same why
-allocated-then sound sound' loose loose' full full' a b c from from' to same DamagedTable why = λ s. why (from s)
-allocated-then sound sound' loose loose' full full' a b c from from' to same Counter why = λ s. why (from s)
-allocated-then sound sound' loose loose' full full' a b c from from' to same CacheFull why = λ u. why (u.0, λ is. from (u.1 is), from' u.0 u.2)
-allocated-then sound sound' loose loose' full full' a b c from from' to same (Limit number) why = (to number why.0, why.1 ∙ same)
-allocated-then sound sound' loose loose' full full' a b c from from' to same other why = absurd why
-
-cause-then : (sound sound' : Type 0) (loose loose' : Bool → Type 0) (full full' : ℕ → Type 0) (a b c : ℕ) → (sound' → sound) → ((any : Bool) → loose' any → loose any) → ((n : ℕ) → full n → full' n) → b ≡ a → (result : Result Unit Fault) → MatchResult result (λ _. c ≡ b) (WhyNotAllocated sound loose full b c) → MatchResult result (λ _. c ≡ a) (WhyNotAllocated sound' loose' full' a c)
-cause-then sound sound' loose loose' full full' a b c from from' to same (Ok done) counts = counts ∙ same
-cause-then sound sound' loose loose' full full' a b c from from' to same (Err fault) why = allocated-then sound sound' loose loose' full full' a b c from from' to same fault why
+pub allocating-weaker : {sound sound' : Type 0} {loose loose' : Bool → Type 0} {full full' : ℕ → Type 0} {a b c : ℕ} → (sound' → sound) → ((any : Bool) → loose' any → loose any) → ((number : ℕ) → full number → full' number) → b ≡ a
+    → Implies (allocating_causes sound loose full b c) (allocating_causes sound' loose' full' a c)
+allocating-weaker from from' on same = record { before = omega (arith, same); after = omega arith; damaged = λ wrong s. wrong (from s); counter = λ wrong s. wrong (from s); full = λ none u. none (unbarred-still from from' u); limit = λ number why. (on number why.0, why.1 ∙ same) }
 
 module _ {S : Type 0} (state : S → StorageState) (i : ℕ) (image : ImageState S) where
   abbrev m0 : Metadata
@@ -295,7 +263,7 @@ module _ {S : Type 0} (state : S → StorageState) (i : ℕ) (image : ImageState
     -- It is refused, and wasn't cut off only where nothing was handed out.
     pub begins-refused : (fault : Fault) → Follows (WasNotCutOff (failed fault)) more C fC D fD
         → (order_of image.caches ≡ L2DependsOnRb → IsTrue (state image.file.image).shape.keeps → IsSound m0 → WasNotCutOff (failed fault) → (c : ℕ) → handed c + more c ≡ 0)
-        → WhyNotAllocated Holds (IsLoose image.table image.caches) Full (state image.file.image).faults (state fD.image).faults fault → MakesBlock state i image (Err fault) (lent image.table D fD image.pending)
+        → HasCause (allocating_causes Holds (IsLoose image.table image.caches) Full (state image.file.image).faults (state fD.image).faults) fault → MakesBlock state i image (Err fault) (lent image.table D fD image.pending)
     begins-refused fault follows none why = record {
       faults = λ whole. faultless-then begins.faults (follows.faults whole);
       quiet = λ order.
@@ -326,7 +294,7 @@ module _ {S : Type 0} (state : S → StorageState) (i : ℕ) (image : ImageState
     abbrev mU : Metadata
     mU = metadata_of state fC C image.table image.pending
 
-    pub unmade : (fault : Fault) → WhyNotAllocated Holds (IsLoose image.table image.caches) Full (state image.file.image).faults (state image.file.image).faults fault → MakesBlock state i image (Err fault) (lent image.table C fC image.pending)
+    pub unmade : (fault : Fault) → HasCause (allocating_causes Holds (IsLoose image.table image.caches) Full (state image.file.image).faults (state image.file.image).faults) fault → MakesBlock state i image (Err fault) (lent image.table C fC image.pending)
     unmade fault why =
         begins-refused (λ _. 0) (λ _. 0) C fC C fC begins fault
         (record {
@@ -338,17 +306,17 @@ module _ {S : Type 0} (state : S → StorageState) (i : ℕ) (image : ImageState
           stays = record { header = refl; order = refl; loose = λ any loose. loose; room = record { tables = refl; blocks = refl; entries = refl } };
         })
         (λ order keeps sound whole c. omega arith)
-        (subst (λ n. WhyNotAllocated Holds (IsLoose image.table image.caches) Full (state image.file.image).faults n fault) (sym begins.faults.0) why)
+        (subst (λ n. HasCause (allocating_causes Holds (IsLoose image.table image.caches) Full (state image.file.image).faults n) fault) (sym begins.faults.0) why)
 
     -- for want of memory,
     pub unmade-memory : (fault : Fault) → fault ≡ Memory → MakesBlock state i image (Err fault) (lent image.table C fC image.pending)
-    unmade-memory fault is = unmade fault (subst (λ (f : Fault). WhyNotAllocated Holds (IsLoose image.table image.caches) Full (state image.file.image).faults (state image.file.image).faults f) (sym is) tt)
+    unmade-memory fault is = unmade fault (subst (λ (f : Fault). HasCause (allocating_causes Holds (IsLoose image.table image.caches) Full (state image.file.image).faults (state image.file.image).faults) f) (sym is) tt)
 
     -- for a cluster that no word can name,
     pub unmade-place : (d : ℕ) (fault : Fault) → d ≤ i * counters_of_block fC.header.fields → (Holds → d ≢ 0) → WhyNotNamed image.table fC.header.fields.cluster_bits d fault → MakesBlock state i image (Err fault) (lent image.table C fC image.pending)
     unmade-place d fault low some why = unmade fault (by-fault fault why)
       where
-        by-fault : (fault : Fault) → WhyNotNamed image.table fC.header.fields.cluster_bits d fault → WhyNotAllocated Holds (IsLoose image.table image.caches) Full (state image.file.image).faults (state image.file.image).faults fault
+        by-fault : (fault : Fault) → WhyNotNamed image.table fC.header.fields.cluster_bits d fault → HasCause (allocating_causes Holds (IsLoose image.table image.caches) Full (state image.file.image).faults (state image.file.image).faults) fault
         by-fault DamagedTable why = λ holds. why (can-name mU ((begins.quiet holds.1).holds holds.0 holds.2 tt).0 d (some holds))
         by-fault (Limit number) why = (
           subst (λ (h : Header). (number ≤ i * counters_of_block h.fields) × (IsInReach h.fields.cluster_bits number → ⊥)) begins.header
@@ -361,7 +329,7 @@ module _ {S : Type 0} (state : S → StorageState) (i : ℕ) (image : ImageState
     pub unforgotten : (d : ℕ) (fault : Fault) (new : MetadataCaches S) → (Holds → named_at_all mU d ≡ 0) → (fault ≡ CacheFull) × IsSomeAnd (lookup (nat_eq d) (cached_in C).blocks) (λ s. 0 < s.pins) × (new ≡ C) → MakesBlock state i image (Err fault) (lent image.table new fC image.pending)
     unforgotten d fault new unnamed (is, pinned, same) =
         subst (λ (c : MetadataCaches S). MakesBlock state i image (Err fault) (lent image.table c fC image.pending)) (sym same)
-        (unmade fault (subst (λ (f : Fault). WhyNotAllocated Holds (IsLoose image.table image.caches) Full (state image.file.image).faults (state image.file.image).faults f) (sym is)
+        (unmade fault (subst (λ (f : Fault). HasCause (allocating_causes Holds (IsLoose image.table image.caches) Full (state image.file.image).faults (state image.file.image).faults) f) (sym is)
         (λ u. let there = (begins.loose u.0 u.2).named d (pinned-there d (cached_in C).blocks pinned) in let holds = u.1 there.0 in
         never-unnamed mU ((begins.quiet holds.1).holds holds.0 holds.2 tt).0 d (unnamed holds) there.1)))
 
@@ -383,8 +351,8 @@ module _ {S : Type 0} (state : S → StorageState) (i : ℕ) (image : ImageState
     header = makes.header ∙ begins.header;
     loose = λ any loose. makes.loose any (begins.loose any loose);
     room = record { tables = makes.room.tables ∙ begins.room.tables; blocks = makes.room.blocks ∙ begins.room.blocks; entries = makes.room.entries ∙ begins.room.entries };
-    cause = cause-then _ _ _ _ _ _ _ _ _ (λ holds. (on holds.0, begins.order ∙ holds.1, ((begins.quiet holds.1).holds holds.0 holds.2 tt).0)) begins.loose
-        (λ number full. subst (λ (h : Header). (number ≤ i * counters_of_block h.fields) × (IsInReach h.fields.cluster_bits number → ⊥)) begins.header full) begins.faults.0 result makes.cause;
+    cause = fails-weaker _ _ (allocating-weaker (λ holds. (on holds.0, begins.order ∙ holds.1, ((begins.quiet holds.1).holds holds.0 holds.2 tt).0)) begins.loose
+        (λ number full. subst (λ (h : Header). (number ≤ i * counters_of_block h.fields) × (IsInReach h.fields.cluster_bits number → ⊥)) begins.header full) begins.faults.0) (λ same. same ∙ begins.faults.0) result makes.cause;
   }
     where
       on : IsTrue (state image.file.image).shape.keeps → IsTrue (state fC.image).shape.keeps
@@ -420,7 +388,7 @@ module _ {S : Type 0} (state : S → StorageState) (i : ℕ) (image : ImageState
       header = header ∙ begins.header;
       loose = λ any loose. loose-named image.table table' C kept any (begins.loose any loose);
       room = begins.room;
-      cause = caused-all Holds (IsLoose image.table image.caches) Full (state image.file.image).faults (state fC.image).faults (state after.image).faults begins.faults.0 result ends.cause;
+      cause = let same = begins.faults.0 in storage-fails _ _ _ (omega (arith, same)) (omega arith) (λ still. still ∙ same) result ends.cause;
     }
       where
         kept : (k key : ℕ) → named_block image.table k ≡ Some key → named_block table' k ≡ Some key

@@ -1,6 +1,6 @@
 -- What a run of clusters needs is made, or the refcount table grows.
 use Rattle.std.proofs.Common.{◌≡◌, ◌≢◌, ℕ, ◌+◌, ◌<◌, ◌≤◌, refl, arith, ap, sym, subst, length, Bool, true, Result, Ok, Err, inl, inr}
-use Rattle.std.specs.Prelude.{IsTrue, IfOk, OnOk, MatchResult, slice_index, ◌*◌, ◌^◌}
+use Rattle.std.specs.Prelude.{IsTrue, IfOk, OnOk, slice_index, ◌*◌, ◌^◌}
 use Rattle.std.proofs.Math.Nat.{mul-le-mul_right}
 use Rattle.imago_storage.specs.State.{StorageState}
 use Rattle.imago_storage.specs.declared.fault.Fault.{Fault}
@@ -14,17 +14,18 @@ use Rattle.qcow2_alloc.specs.declared.allocation.readying_runs.Provision.TheVari
 use Rattle.qcow2_alloc.specs.declared.cache.CacheDependency.TheVariants.{L2DependsOnRb}
 use Rattle.qcow2_alloc.specs.declared.cache.MetadataCaches.{MetadataCaches}
 use Rattle.qcow2_alloc.specs.declared.file.ImageFile.{ImageFile}
-use Rattle.qcow2_alloc.specs.Allocating.{MakesBlocks, WhyNotAllocated, missing}
+use Rattle.qcow2_alloc.specs.Allocating.{MakesBlocks, missing}
 use Rattle.qcow2_alloc.specs.Allocators.{metadata_of}
 use Rattle.qcow2_alloc.specs.Caches.{order_of}
 use Rattle.qcow2_alloc.specs.FillingBlocks.{FillsFrom}
-use Rattle.qcow2_alloc.specs.Freeing.{IsLoose}
 use Rattle.qcow2_alloc.specs.Going.{IsMild}
 use Rattle.qcow2_alloc.specs.GrowingTables.{Leaks, GrowsTable}
 use Rattle.qcow2_alloc.specs.Quiet.{Metadata, IsSound}
 use Rattle.qcow2_alloc.specs.ReadyingBlocks.{HasMade, HasMore, NoneCanBeMade, ReadiesBlocks}
-use Rattle.qcow2_alloc.specs.State.{ImageState, lent, metadata, IsGuarded}
-use Rattle.qcow2_alloc.proofs.Blocks.EnsuringBlocks.{refused, so, why-allocated-wider}
+use Rattle.qcow2_alloc.specs.State.{ImageState, lent, metadata}
+use Rattle.qcow2_alloc.proofs.Causes.{cause-weaker, fails-weaker}
+use Rattle.qcow2_alloc.proofs.Blocks.MadeBlocks.{allocating-weaker}
+use Rattle.qcow2_alloc.proofs.Blocks.EnsuringBlocks.{refused, so}
 
 -- An answer that refuses with a number is that of its fault.
 limit-of : (fault : Fault) (number : ℕ) → refused fault ≡ Err (Limit number) → fault ≡ Limit number
@@ -67,7 +68,7 @@ module _ {S : Type 0} (state : S → StorageState) (mark at first last : ℕ) (s
     grew = λ past. absurd (omega (arith, past, inside));
     kept = λ past. absurd (omega (arith, past, inside));
     barred = λ past. absurd (omega (arith, past, inside));
-    cause = caused result makes.cause;
+    cause = fails-weaker _ _ (allocating-weaker (λ holds. holds) (λ any loose. loose) far-all refl) (λ same. same) result makes.cause;
   }
     where
       filled : (r : Result Provision Fault) → OnOk r (FillsFrom mark first (last + 1) Start (metadata_of state after new table' s.pending)) → IfOk r (λ made. made ≡ Extended → HasMade mark at first last Start (metadata_of state after new table' s.pending))
@@ -87,15 +88,6 @@ module _ {S : Type 0} (state : S → StorageState) (mark at first last : ℕ) (s
           let near : IsInReach s.file.header.fields.cluster_bits (i * counters_of_block s.file.header.fields) = all i above (omega (arith, below)) in
           let more = mul-le-mul_right (2 ^ s.file.header.fields.cluster_bits) le in
           far (omega (arith, near, more)))
-
-      caused : (r : Result Provision Fault)
-          → MatchResult r (λ _. (state after.image).faults ≡ (state s.file.image).faults)
-          (WhyNotAllocated (IsGuarded state s) (IsLoose s.table s.caches)
-          (λ number. (i : ℕ) × (first ≤ i) × (i < last + 1) × (number ≤ i * counters_of_block s.file.header.fields) × (IsInReach s.file.header.fields.cluster_bits number → ⊥)) (state s.file.image).faults (state after.image).faults)
-          → MatchResult r (λ _. (state after.image).faults ≡ (state s.file.image).faults)
-          (WhyNotAllocated (IsGuarded state s) (IsLoose s.table s.caches) (λ number. Knows (NoneCanBeMade mark at first last number Start)) (state s.file.image).faults (state after.image).faults)
-      caused (Ok made) same = same
-      caused (Err fault) why = why-allocated-wider _ _ _ _ _ _ _ _ _ (λ holds. holds) (λ any loose. loose) far-all refl fault why
 
   module _ (past : length s.table.words ≤ last) (s' : ImageState S) where
     -- It hasn't: it grows,
@@ -132,5 +124,5 @@ module _ {S : Type 0} (state : S → StorageState) (mark at first last : ℕ) (s
           let mild : IsMild fault = subst (λ (f : Fault). IsMild f) (sym (limit-of fault number is)) tt in
           let still = grows.stays mild in
           record { header = still.1; table = still.0; counts = grows.barred order keeps sound number (ap (λ (f : Fault). Err f) (limit-of fault number is)) };
-      cause = why-allocated-wider _ _ _ _ _ _ _ _ _ (λ holds. holds) (λ any loose. loose) (λ number none order keeps sound. inr (past, none order keeps sound)) refl fault grows.cause;
+      cause = cause-weaker (allocating-weaker (λ holds. holds) (λ any loose. loose) (λ number none order keeps sound. inr (past, none order keeps sound)) refl) fault grows.cause;
     }

@@ -7,7 +7,7 @@ use Rattle.std.proofs.Math.Nat.{mul-le-mul_right}
 use Rattle.imago_storage.specs.State.{StorageState}
 use Rattle.imago_storage.specs.Fault.{number_of}
 use Rattle.imago_storage.specs.declared.fault.Fault.{Fault}
-use Rattle.imago_storage.specs.declared.fault.Fault.TheVariants.{Memory, Storage, DamagedTable, CacheFull, Counter, Limit}
+use Rattle.imago_storage.specs.declared.fault.Fault.TheVariants.{CacheFull, Limit}
 use Rattle.imago_storage.proofs.Composing.{keeps_on}
 use Rattle.qcow2_types.specs.Counts.{counters_of_block}
 use Rattle.qcow2_types.specs.Header.{Header, words_of_cluster}
@@ -21,9 +21,10 @@ use Rattle.qcow2_alloc.specs.declared.allocation.handing_out.Readiness.TheVarian
 use Rattle.qcow2_alloc.specs.declared.cache.CacheDependency.TheVariants.{L2DependsOnRb}
 use Rattle.qcow2_alloc.specs.declared.cache.MetadataCaches.{MetadataCaches}
 use Rattle.qcow2_alloc.specs.declared.file.ImageFile.{ImageFile}
-use Rattle.qcow2_alloc.specs.Allocating.{Allocating, MakesBlocks, MovedTable, WhyNotAllocated}
+use Rattle.qcow2_alloc.specs.Allocating.{Allocating, MakesBlocks, MovedTable, allocating_causes}
 use Rattle.qcow2_alloc.specs.Allocators.{metadata_of}
 use Rattle.qcow2_alloc.specs.Caches.{order_of}
+use Rattle.qcow2_alloc.specs.Causes.{HasCause, FailsFor}
 use Rattle.qcow2_alloc.specs.FillingBlocks.{FillsFrom}
 use Rattle.qcow2_alloc.specs.Freeing.{IsLoose}
 use Rattle.qcow2_alloc.specs.Going.{WasNotCutOff}
@@ -31,9 +32,11 @@ use Rattle.qcow2_alloc.specs.GrowingTables.{GrowsTable, IsInRoomToGrow, IsLength
 use Rattle.qcow2_alloc.specs.HandingOutOne.{HandsOut, ReadiesCounter, ReadiesWord, leaked_by}
 use Rattle.qcow2_alloc.specs.Quiet.{IsSound, counted}
 use Rattle.qcow2_alloc.specs.State.{ImageState, lent, metadata, IsGuarded}
+use Rattle.qcow2_alloc.proofs.Causes.{cause-weaker, cause-told}
+use Rattle.qcow2_alloc.proofs.Blocks.MadeBlocks.{allocating-weaker}
 use Rattle.qcow2_alloc.proofs.Handing.Allocating.{allocating-none, allocating-as, allocating-then}
 use Rattle.qcow2_alloc.proofs.Blocks.ReadyingBlocks.{leaks-none}
-use Rattle.qcow2_alloc.proofs.Blocks.EnsuringBlocks.{so, refused, why-allocated-wider}
+use Rattle.qcow2_alloc.proofs.Blocks.EnsuringBlocks.{so, refused}
 use Rattle.qcow2_alloc.proofs.Space.KeepingRoom.{covered-inside}
 
 -- the answer of a call that readies a counter
@@ -45,14 +48,8 @@ abbrev pub not_ready : Fault → Result Readiness Fault
 not_ready fault = Err fault
 
 -- What isn't refused for want of a place is refused for another cause.
-pub never-limit : (sound : Type 0) (loose : Bool → Type 0) (full full' : ℕ → Type 0) (before after : ℕ) (fault : Fault) → ((number : ℕ) → fault ≢ Limit number) → WhyNotAllocated sound loose full before after fault → WhyNotAllocated sound loose full' before after fault
-never-limit sound loose full full' before after (Limit number) other why = absurd (other number refl)
-never-limit sound loose full full' before after Memory other why = why
-never-limit sound loose full full' before after Storage other why = why
-never-limit sound loose full full' before after DamagedTable other why = why
-never-limit sound loose full full' before after Counter other why = why
-never-limit sound loose full full' before after CacheFull other why = why
-never-limit sound loose full full' before after fault other why = absurd why
+pub never-limit : (sound : Type 0) (loose : Bool → Type 0) (full full' : ℕ → Type 0) (before after : ℕ) (fault : Fault) → ((number : ℕ) → fault ≢ Limit number) → HasCause (allocating_causes sound loose full before after) fault → HasCause (allocating_causes sound loose full' before after) fault
+never-limit sound loose full full' before after fault other why = cause-weaker (record { before = omega arith; after = omega arith; damaged = λ wrong. wrong; counter = λ wrong. wrong; full = λ none. none; limit = λ number told. absurd (other number told.0) }) fault (cause-told _ fault why)
 
 -- The fault with this number is that of a limit.
 pub limit-numbered : (fault : Fault) → number_of fault ≡ 12 → (number : ℕ) × (fault ≡ Limit number)
@@ -139,10 +136,9 @@ module _ {S : Type 0} (state : S → StorageState) (mark cluster : ℕ) (s : Ima
     }
       where
         cause : (order_of s.caches ≡ L2DependsOnRb → IsTrue (state s.file.image).shape.keeps → IsSound (metadata state s) → NoPlaceToGrow (metadata state s) mark (cluster / k) number) × ((state s'.file.image).faults ≡ (state s.file.image).faults)
-        cause = subst (λ (r : Result Unit Fault). MatchResult r (λ _. (state s'.file.image).faults ≡ (state s.file.image).faults)
-            (WhyNotAllocated (IsGuarded state s) (IsLoose s.table s.caches)
+        cause = subst (λ (r : Result Unit Fault). FailsFor (allocating_causes (IsGuarded state s) (IsLoose s.table s.caches)
             (λ n. order_of s.caches ≡ L2DependsOnRb → IsTrue (state s.file.image).shape.keeps → IsSound (metadata state s) → NoPlaceToGrow (metadata state s) mark (cluster / k) n)
-            (state s.file.image).faults (state s'.file.image).faults)) limit grows.cause
+            (state s.file.image).faults (state s'.file.image).faults) r) limit grows.cause
 
     -- or was refused.
     pub word-refused : (fault : Fault) → result ≡ Err fault → ((number : ℕ) → fault ≢ Limit number) → ReadiesWord state mark cluster s (not_ready fault) s'
@@ -152,10 +148,9 @@ module _ {S : Type 0} (state : S → StorageState) (mark cluster : ℕ) (s : Ima
         leaks = record { none = λ full. grows.leaks.none (λ at. full (let e = sym is ∙ at in cc)); pinned = grows.leaks.pinned };
         step = allocating-as state (WasNotCutOff result) (WasNotCutOff (not_ready fault)) grows.leaked grows.leaked s s' (λ whole. subst (λ (r : Result Unit Fault). WasNotCutOff r) (sym is) whole) (λ c. refl) grows.step;
         list = grown-list result grows.enough grows.waits grows.kept;
-        cause = never-limit _ _ _ _ _ _ fault other (subst (λ (r : Result Unit Fault). MatchResult r (λ _. (state s'.file.image).faults ≡ (state s.file.image).faults)
-            (WhyNotAllocated (IsGuarded state s) (IsLoose s.table s.caches)
+        cause = never-limit _ _ _ _ _ _ fault other (subst (λ (r : Result Unit Fault). FailsFor (allocating_causes (IsGuarded state s) (IsLoose s.table s.caches)
             (λ n. order_of s.caches ≡ L2DependsOnRb → IsTrue (state s.file.image).shape.keeps → IsSound (metadata state s) → NoPlaceToGrow (metadata state s) mark (cluster / k) n)
-            (state s.file.image).faults (state s'.file.image).faults)) is grows.cause);
+            (state s.file.image).faults (state s'.file.image).faults) r) is grows.cause);
       };
       there = tt;
       barred = λ order keeps sound. tt;
@@ -231,7 +226,7 @@ module _ {S : Type 0} (state : S → StorageState) (mark cluster : ℕ) (s : Ima
           leaks = leaks-none _ _ (not_ready fault);
           step = both (WasNotCutOff (not_ready fault)) blocks.step;
           list = blocks-behind word.did.list blocks.long;
-          cause = why-allocated-wider _ _ _ _ _ _ _ _ _ holds-still word.did.step.loose never-far word.did.cause fault blocks.cause;
+          cause = cause-weaker (allocating-weaker holds-still word.did.step.loose never-far word.did.cause) fault blocks.cause;
         };
         there = tt;
         barred = λ order keeps sound. tt;

@@ -24,14 +24,17 @@ use Rattle.qcow2_alloc.specs.declared.file.ImageFile.{ImageFile}
 use Rattle.qcow2_alloc.specs.Allocating.{MakesBlock, OnlyRaised, RaisesCluster, CountsRun}
 use Rattle.qcow2_alloc.specs.Allocators.{metadata_of}
 use Rattle.qcow2_alloc.specs.Caches.{cached_in, order_of, HasRoomOf, cached_file}
+use Rattle.qcow2_alloc.specs.Causes.{FailsFor}
 use Rattle.qcow2_alloc.specs.FreeList.{covers}
-use Rattle.qcow2_alloc.specs.Going.{Going, Always, WasNotCutOff, CountsWrites, AreTablesInReach, AreBlocksInReach, IsMild}
+use Rattle.qcow2_alloc.specs.Going.{Going, Always, WasNotCutOff, AreTablesInReach, AreBlocksInReach, IsMild, writing_causes}
 use Rattle.qcow2_alloc.specs.MakingBlocks.{Begins, NamesWritten, IsFreePlace}
 use Rattle.qcow2_alloc.specs.MakingRoom.{run_of}
 use Rattle.qcow2_alloc.specs.Memory.{Cached, written, written_block}
 use Rattle.qcow2_alloc.specs.Quiet.{Metadata, counted, named_at_all, waiting, one_at, IsUsed, IsSound, Quietly}
 use Rattle.qcow2_alloc.specs.Safety.{AreBlocksClean}
 use Rattle.qcow2_alloc.specs.State.{ImageState, lent, metadata}
+use Rattle.qcow2_alloc.proofs.Flushing.Counting.{writing-implies}
+use Rattle.qcow2_alloc.proofs.Causes.{cause-weaker}
 use Rattle.qcow2_alloc.proofs.Blocks.CountedApart.{counted-apart}
 use Rattle.qcow2_alloc.proofs.Blocks.CountingClusters.{succeeded, done_of, one-counted}
 use Rattle.qcow2_alloc.proofs.Caching.Forgetting.{forgotten-counts, forgotten-quiet, removed-apart}
@@ -40,7 +43,7 @@ use Rattle.qcow2_alloc.proofs.Freeing.FreeingEntries.{failed}
 use Rattle.qcow2_alloc.proofs.Memory.FreeRuns.{block-quietly}
 use Rattle.qcow2_alloc.proofs.Freeing.Listed.{covers-none, covers-one}
 use Rattle.qcow2_alloc.proofs.Caching.Loose.{kept-tables, loose-on}
-use Rattle.qcow2_alloc.proofs.Blocks.MadeBlocks.{counted-wider, allocated-written, Follows, B, begins-then, begins-refused, ends, made}
+use Rattle.qcow2_alloc.proofs.Blocks.MadeBlocks.{Follows, B, begins-then, begins-refused, ends, made, counting-allocates}
 use Rattle.qcow2_alloc.proofs.Blocks.MakingBlocks.{other-block-made, other-block-raises}
 use Rattle.qcow2_alloc.proofs.Blocks.OwnBlocks.{without}
 use Rattle.qcow2_alloc.proofs.Quiet.QuietThen.{used-then}
@@ -164,13 +167,12 @@ module _ {S : Type 0} (state : S → StorageState) (image : ImageState S) (i d :
   uncounted-made fault C fC raises =
       begins-refused state i image (λ _. 0) (more (Err fault) C fC raises) C1 fA C fC begin fault (counting (Err fault) C fC raises)
       (λ order keeps sound whole c. let none = more-none (Err fault) C fC raises (part-is (Err fault) C fC raises) c in omega (arith, none))
-      (counted-wider _ _ _ _ _ _ _ _ (λ holds. (
+      (cause-weaker (counting-allocates (λ holds. (
         on holds.0,
         begin.order ∙ holds.1,
         ((begin.quiet holds.1).holds holds.0 holds.2 tt).0,
         λ c ge lt. (all-zero (Err fault) C fC raises holds.1 holds.0 holds.2 c ge lt, subst (λ n. block_offset (slice_index image.table.words (n / counters_of_block fA.header.fields)) ≢ 0) (let same : d ≡ c = omega (arith, ge, lt) in same) (free holds.1 holds.0 holds.2).there),
-      ))
-      begin.loose begin.faults.0 fault (run (Err fault) C fC raises).cause)
+      )) begin.loose begin.faults.0) fault (run (Err fault) C fC raises).cause)
 
   module _ (C : MetadataCaches S) (fC : ImageFile S) (raises : RaisesCluster state image.table d (cached_file C1 fA) succeeded (cached_file C fC)) where
     abbrev m2 : Metadata
@@ -182,7 +184,7 @@ module _ {S : Type 0} (state : S → StorageState) (image : ImageState S) (i d :
 
     -- and the block that counts it is written.
     module _ (result : Result Unit Fault) (D : MetadataCaches S) (fD : ImageFile S) (going : Going fC.header (order_of C) Always (result ≡ Ok tt) (state fC.image) (cached_in C) (state fD.image) (cached_in D)) (kept : written (cached_in D) ≡ written (cached_in C))
-        (others : (D.order ≡ C.order) × (fD.header ≡ fC.header)) (room : HasRoomOf C D) (cause : CountsWrites (AreTablesInReach (cached_in C) × AreBlocksInReach (cached_in C)) (state fC.image).faults (state fD.image).faults result) where
+        (others : (D.order ≡ C.order) × (fD.header ≡ fC.header)) (room : HasRoomOf C D) (cause : FailsFor (writing_causes (AreTablesInReach (cached_in C) × AreBlocksInReach (cached_in C)) (state fC.image).faults (state fD.image).faults) result) where
       abbrev m3 : Metadata
       m3 = At D fD
 
@@ -220,12 +222,12 @@ module _ {S : Type 0} (state : S → StorageState) (image : ImageState S) (i d :
       }
 
     pub unwritten-made : (fault : Fault) (D : MetadataCaches S) (fD : ImageFile S) → Going fC.header (order_of C) Always (failed fault ≡ Ok tt) (state fC.image) (cached_in C) (state fD.image) (cached_in D) → written (cached_in D) ≡ written (cached_in C)
-        → (D.order ≡ C.order) × (fD.header ≡ fC.header) → HasRoomOf C D → CountsWrites (AreTablesInReach (cached_in C) × AreBlocksInReach (cached_in C)) (state fC.image).faults (state fD.image).faults (failed fault) → (IsMild fault → IsFaultless (state fC.image) (state fD.image))
+        → (D.order ≡ C.order) × (fD.header ≡ fC.header) → HasRoomOf C D → FailsFor (writing_causes (AreTablesInReach (cached_in C) × AreBlocksInReach (cached_in C)) (state fC.image).faults (state fD.image).faults) (failed fault) → (IsMild fault → IsFaultless (state fC.image) (state fD.image))
         → MakesBlock state i image (Err fault) (lent image.table D fD image.pending)
     unwritten-made fault D fD going kept others room cause faultless =
         begins-refused state i image (one_at d) (λ _. 0) C fC D fD taken fault (flushing (failed fault) D fD going kept others room cause faultless)
         (λ order keeps sound whole c. absurd (let no = done-so (failed fault) D fD going kept others room cause (sound2 (failed fault) D fD going kept others room cause order keeps sound) whole in cc no))
-        (allocated-written _ _ _ _ _ _ _ (λ holds. let s = sound2 (failed fault) D fD going kept others room cause holds.1 holds.0 holds.2 in safe-reach m2.file m2.header m2.cached m2.order s.safe) taken.faults.0 fault cause)
+        (let same = taken.faults.0 in cause-weaker (writing-implies _ (omega (arith, same)) (omega arith) (λ far holds. let s = sound2 (failed fault) D fD going kept others room cause holds.1 holds.0 holds.2 in far (safe-reach m2.file m2.header m2.cached m2.order s.safe))) fault cause)
 
     -- Then the new block is written and named.
     module _ (D : MetadataCaches S) (fD : ImageFile S) (going : Going fC.header (order_of C) Always (succeeded ≡ Ok tt) (state fC.image) (cached_in C) (state fD.image) (cached_in D)) (kept : written (cached_in D) ≡ written (cached_in C))

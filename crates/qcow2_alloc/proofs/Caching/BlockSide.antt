@@ -2,11 +2,11 @@
 use Rattle.std.proofs.Common.{◌≡◌, ℕ, ◌*◌, ◌^◌, ◌≤◌, refl, arith, ap, sym, subst, ◌∙◌, inl, inr, length, Result, Ok, Err}
 use Rattle.std.proofs.lemmas.Bool.{cases_lt}
 use Rattle.std.proofs.lemmas.List.FromFn.{length-map-range_with_len}
-use Rattle.std.specs.Prelude.{MatchResult, OnOk}
+use Rattle.std.specs.Prelude.{OnOk}
 use Rattle.imago_storage.specs.State.{StorageState}
-use Rattle.imago_storage.specs.Calls.{Cause, IsFaultless}
+use Rattle.imago_storage.specs.Calls.{IsFaultless}
 use Rattle.imago_storage.specs.declared.fault.Fault.{Fault}
-use Rattle.imago_storage.specs.declared.fault.Fault.TheVariants.{DamagedTable, Memory, Storage}
+use Rattle.imago_storage.specs.declared.fault.Fault.TheVariants.{DamagedTable}
 use Rattle.qcow2_types.specs.Bytes.{bytes_of}
 use Rattle.qcow2_types.specs.Counts.{counters_of_block}
 use Rattle.qcow2_types.specs.Words.{max_offset}
@@ -21,11 +21,13 @@ use Rattle.qcow2_alloc.specs.declared.cache.RefBlockCacheBackend.{RefBlockCacheB
 use Rattle.qcow2_alloc.specs.declared.file.ImageFile.{ImageFile}
 use Rattle.qcow2_alloc.specs.Backends.{BlockLoaded}
 use Rattle.qcow2_alloc.specs.Caches.{HasRoomOf, cached_file, cached_in, order_of}
-use Rattle.qcow2_alloc.specs.Finding.{LetsBlockIn, BlockFound, WhyNotFound}
-use Rattle.qcow2_alloc.specs.Going.{Going, Always, ReadyBlocks, WasNotCutOff, AreTablesInReach, CountsWrites, WritesTables}
+use Rattle.qcow2_alloc.specs.Causes.{HasCause, FailsFor}
+use Rattle.qcow2_alloc.specs.Finding.{LetsBlockIn, BlockFound, search_causes}
+use Rattle.qcow2_alloc.specs.Going.{Going, Always, ReadyBlocks, WasNotCutOff, AreTablesInReach, WritesTables, writing_causes}
 use Rattle.qcow2_alloc.specs.Memory.{Cached, written, written_table, written_block}
 use Rattle.qcow2_alloc.specs.Putting.{BlockInserted, refusal_of}
 use Rattle.qcow2_alloc.specs.Safety.{IsCachedBlock, AreTablesClean}
+use Rattle.qcow2_alloc.proofs.Causes.{storage-cause}
 use Rattle.qcow2_alloc.proofs.Caching.CachedEntries.{block-kind-laws}
 use Rattle.qcow2_alloc.proofs.Caching.Finding.{Found}
 use Rattle.qcow2_alloc.proofs.Caching.LettingIn.{tables-idle}
@@ -50,7 +52,7 @@ block-load-counted h key old (Err fault) new loaded mild = elim (cases_lt max_of
 
 -- what is known of a load's answer
 block-loading : (h : Fields) (key : ℕ) (old : StorageState) (answer : Result Block Fault) (new : StorageState) → BlockLoaded h key old answer new
-    → (old.faults ≤ new.faults) × MatchResult answer (λ _. new.faults ≡ old.faults) (WhyNotFound (IsInReach h.cluster_bits key) ⊥ old.faults new.faults)
+    → (old.faults ≤ new.faults) × FailsFor (search_causes (IsInReach h.cluster_bits key) ⊥ old.faults new.faults) answer
 block-loading h key old (Ok block) new loaded = (loaded.later, loaded.faults)
 block-loading h key old (Err fault) new loaded = (
   loaded.later,
@@ -58,15 +60,10 @@ block-loading h key old (Err fault) new loaded = (
     | inl far ↦
         let out = loaded.out (λ reach. omega (arith, far, reach)) in
         let is : fault ≡ DamagedTable = (let e = out.0 in cc) in
-        subst (λ (q : Fault). WhyNotFound (IsInReach h.cluster_bits key) ⊥ old.faults new.faults q) (sym is) (λ reach. omega (arith, far, reach))
-    | inr reach ↦ by-fault fault (loaded.err reach)
+        subst (λ (q : Fault). HasCause (search_causes (IsInReach h.cluster_bits key) ⊥ old.faults new.faults) q) (sym is) (λ reach. omega (arith, far, reach))
+    | inr reach ↦ storage-cause _ _ _ (omega arith) (omega arith) fault (loaded.err reach)
   ],
 )
-  where
-    by-fault : (fault : Fault) → Cause old.faults new.faults fault → WhyNotFound (IsInReach h.cluster_bits key) ⊥ old.faults new.faults fault
-    by-fault Memory why = tt
-    by-fault Storage why = why
-    by-fault other why = absurd why
 
 -- A block of the file fits.
 loaded-fits : (h : Fields) (key : ℕ) (old : StorageState) (value : Block) (new : StorageState) → BlockLoaded h key old (Ok value) new → IsCachedBlock (bytes_of old.bytes) h key value
@@ -129,7 +126,7 @@ module _ {S : Type 0} (state : S → StorageState) where
     pub tables-first : Going before.header (order_of old) Always (answer ≡ Ok tt) (state before.image) (cached_in old) (state between.image) (cached_in mid) → written (cached_in mid) ≡ written (cached_in old)
         → OnOk answer (ReadyBlocks (order_of mid) (cached_in mid)) → ((order_of old ≡ RbDependsOnL2 → ⊥) → (answer ≡ Ok tt) × (mid ≡ old) × (between ≡ before))
         → (mid.rb ≡ old.rb) × (mid.order ≡ old.order) × (between.header ≡ before.header) → HasRoomOf old mid
-        → CountsWrites (AreTablesInReach (cached_in old)) (state before.image).faults (state between.image).faults answer → (WasNotCutOff answer → IsFaultless (state before.image) (state between.image))
+        → FailsFor (writing_causes (AreTablesInReach (cached_in old)) (state before.image).faults (state between.image).faults) answer → (WasNotCutOff answer → IsFaultless (state before.image) (state between.image))
         → (order_of old ≡ RbDependsOnL2 → WritesTables (state before.image) (cached_in old) answer (state between.image) (cached_in mid)) → WrittenFirst blocks (rb_side old) before answer (rb_side mid) between
     tables-first going kept ready idle others room cause faults did = record {
       going = going;

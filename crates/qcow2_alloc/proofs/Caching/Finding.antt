@@ -1,6 +1,6 @@
 -- The search of an entry, in one of the two caches.
 use Rattle.std.proofs.Common.{◌≡◌, ℕ, ◌<◌, ◌≤◌, refl, arith, ap, sym, subst, ◌∙◌, List, length, Option, None, Result, Ok, Err, Bool, true, false, inl}
-use Rattle.std.specs.Prelude.{nat_eq, map, IsSome, OnOk, MatchResult}
+use Rattle.std.specs.Prelude.{nat_eq, map, IsSome, OnOk}
 use Rattle.std.specs.Map.{lookup}
 use Rattle.imago_storage.specs.State.{StorageState}
 use Rattle.imago_storage.specs.Calls.{Kept}
@@ -14,13 +14,16 @@ use Rattle.qcow2_alloc.specs.declared.async_lru_cache.Slot.{Slot}
 use Rattle.qcow2_alloc.specs.declared.file.ImageFile.{ImageFile}
 use Rattle.qcow2_alloc.specs.Backends.{Flushed}
 use Rattle.qcow2_alloc.specs.Cache.{cache_kind, Readied, with_entries}
-use Rattle.qcow2_alloc.specs.Finding.{Sought, IsPinnedFull, WhyNotFound, CountsSearch}
+use Rattle.qcow2_alloc.specs.Causes.{FailsFor}
+use Rattle.qcow2_alloc.specs.Finding.{Sought, IsPinnedFull, search_causes}
 use Rattle.qcow2_alloc.specs.Going.{Going, Always, WasNotCutOff, Behind}
+use Rattle.qcow2_alloc.proofs.Flushing.Counting.{writing-implies, never-refused}
+use Rattle.qcow2_alloc.proofs.Causes.{cause-weaker}
 use Rattle.qcow2_alloc.proofs.Flushing.Going.{kept-same, going-weaker, going-ready, going-safely}
 use Rattle.qcow2_alloc.proofs.Caching.LettingIn.{never-now, lets-in, readied-still, behind-done, behind-refused}
 use Rattle.qcow2_alloc.proofs.Caching.Pins.{pins-none}
 use Rattle.qcow2_alloc.proofs.Caching.Readying.{readied, readied-quietly, never-full}
-use Rattle.qcow2_alloc.proofs.Caching.Searching.{done_of, sought, readied-related, readied-counted, full-stays, roomy-kept, counts-wider, found-written, never-refused, whole-done, found-there}
+use Rattle.qcow2_alloc.proofs.Caching.Searching.{done_of, sought, readied-related, readied-counted, full-stays, roomy-kept, counts-wider, whole-done, found-there}
 use Rattle.qcow2_alloc.proofs.Caching.Sides.{Beside, Side, SideLaws, WrittenFirst, cached_of, loads_of, flushes_of, Reach, AreInReach, AreClean, Ready as Before, first-idle, first-some}
 
 -- What the search does.
@@ -38,8 +41,8 @@ pub record Found {S V W A B : Type 0} (side : Side S V W) (cluster : ℕ) (old :
       → Kept (side.state before.image) (side.state after.image) × AreClean side new.own.slots.entries × side.OtherClean (cached_of side new)
   pub others : (new.order ≡ old.order) × (after.header ≡ before.header)
   pub room : (new.own.slots.cap ≡ old.own.slots.cap) × (new.other.slots.cap ≡ old.other.slots.cap)
-  pub cause : CountsSearch (side.Fine (bytes_of (side.state after.image).bytes) before.header.fields cluster × AreInReach side old.own.slots.entries × side.OtherReach (cached_of side old))
-      (IsPinnedFull old.own.slots.cap old.own.slots.entries) (side.state before.image).faults (side.state after.image).faults result
+  pub cause : FailsFor (search_causes (side.Fine (bytes_of (side.state after.image).bytes) before.header.fields cluster × AreInReach side old.own.slots.entries × side.OtherReach (cached_of side old))
+      (IsPinnedFull old.own.slots.cap old.own.slots.entries) (side.state before.image).faults (side.state after.image).faults) result
 
 module _ {S V W : Type 0} (side : Side S V W) (laws : SideLaws side) (cluster : ℕ) where
   module _ (may_flush : Bool) (cap : ℕ) (before : ImageFile S) (es : List (ℕ × Slot V)) (result : Result Admission Fault) (after : ImageFile S) (es' : List (ℕ × Slot V))
@@ -61,14 +64,14 @@ module _ {S V W : Type 0} (side : Side S V W) (laws : SideLaws side) (cluster : 
           not r)
 
       side-counts : (faults : ℕ) → (side.state before.image).faults ≡ faults → (other : Type 0)
-          → CountsSearch (side.Fine (bytes_of (side.state after.image).bytes) H.fields cluster × AreInReach side es × other) (IsPinnedFull cap es) faults (side.state after.image).faults (done_of result)
+          → FailsFor (search_causes (side.Fine (bytes_of (side.state after.image).bytes) H.fields cluster × AreInReach side es × other) (IsPinnedFull cap es) faults (side.state after.image).faults) (done_of result)
       side-counts faults is other =
           counts-wider _ _ _ _ faults _ (done_of result) (λ f. (subst (λ (h : Header). side.Fine (bytes_of (side.state after.image).bytes) h.fields cluster) (sym header) f.0, f.1)) is
           (readied-counted (λ (d : ImageFile S). side.state d.image) (loads_of side) (flushes_of side) (Reach side)
           (λ old key value answer new value' flush. laws.counted key value (side.state old.image) (side.state new.image) answer value' flush.1)
           (λ d key. side.Fine (bytes_of (side.state d.image).bytes) d.header.fields key)
           (λ old key answer new load. subst (λ (h : Header). ((side.state old.image).faults ≤ (side.state new.image).faults)
-          × MatchResult answer (λ _. (side.state new.image).faults ≡ (side.state old.image).faults) (WhyNotFound (side.Fine (bytes_of (side.state new.image).bytes) h.fields key) ⊥ (side.state old.image).faults (side.state new.image).faults)) (sym load.0)
+          × FailsFor (search_causes (side.Fine (bytes_of (side.state new.image).bytes) h.fields key) ⊥ (side.state old.image).faults (side.state new.image).faults) answer) (sym load.0)
           (laws.counts old.header.fields key (side.state old.image) answer (side.state new.image) load.1))
           cap may_flush cluster before es result after es' r).1
 
@@ -197,5 +200,5 @@ module _ {S V W : Type 0} (side : Side S V W) (laws : SideLaws side) (cluster : 
             still = λ clean rest. absurd (let n = (first-idle side laws old before mid between (Err fault) w rest).0 in cc);
             others = (ap (λ (c : Beside S V W A B). c.order) w.same, w.header);
             room = (ap (λ (c : Beside S V W A B). c.own.slots.cap) w.same, w.room);
-            cause = found-written (side.OtherReach (cached_of side old)) _ _ _ _ fault (λ f. f.2) w.cause;
+            cause = cause-weaker (writing-implies _ (omega arith) (omega arith) (λ far f. far f.2)) fault w.cause;
           }

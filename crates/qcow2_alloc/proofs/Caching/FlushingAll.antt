@@ -8,7 +8,8 @@ use Rattle.qcow2_alloc.specs.declared.async_lru_cache.Slot.{Slot}
 use Rattle.qcow2_alloc.specs.declared.file.ImageFile.{ImageFile}
 use Rattle.qcow2_alloc.specs.Backends.{Flushed}
 use Rattle.qcow2_alloc.specs.Cache.{FlushedEach, fault_of}
-use Rattle.qcow2_alloc.specs.Going.{Going, CountsWrites, WasNotCutOff}
+use Rattle.qcow2_alloc.specs.Causes.{FailsFor}
+use Rattle.qcow2_alloc.specs.Going.{Going, WasNotCutOff, writing_causes}
 use Rattle.qcow2_alloc.proofs.Caching.Sides.{Beside, Side, SideLaws, cached_of, flushes_of, Reach, AreInReach, AreClean, Ready}
 use Rattle.qcow2_alloc.proofs.Flushing.Counting.{Counted, each-counted, each-faultless}
 use Rattle.qcow2_alloc.proofs.Flushing.Going.{going-weaker, each-flushed}
@@ -20,7 +21,7 @@ pub record AllFlushed {S V W A B : Type 0} (side : Side S V W) (old : Beside S V
   pub going : Going before.header old.order (Ready side old.order) (result ≡ Ok tt) (side.state before.image) (cached_of side old) (side.state after.image) (side.kind.put old.other.slots.entries es')
   pub clean : OnOk result (AreClean side es')
   pub header : after.header ≡ before.header
-  pub cause : CountsWrites (AreInReach side old.own.slots.entries) (side.state before.image).faults (side.state after.image).faults result
+  pub cause : FailsFor (writing_causes (AreInReach side old.own.slots.entries) (side.state before.image).faults (side.state after.image).faults) result
   pub faults : WasNotCutOff result → IsFaultless (side.state before.image) (side.state after.image)
   pub kept : map side.written es' ≡ map side.written old.own.slots.entries
   pub told : FlushedEach (Flushed side.kind.writes) (side.state before.image) old.own.slots.entries (fault_of result) (side.state after.image) es'

@@ -1,5 +1,5 @@
 -- What a put leaves of a cache, and why it is refused.
-use Rattle.std.proofs.Common.{◌≡◌, ℕ, ◌≤◌, refl, ap, sym, subst, ◌∙◌, List, [], ◌∷◌, ◌++◌, length, Option, Some, None, Result, Ok, Err, Bool, true, false, inl, inr}
+use Rattle.std.proofs.Common.{◌≡◌, ℕ, ◌≤◌, refl, ap, sym, subst, ◌∙◌, List, [], ◌∷◌, ◌++◌, length, Option, Some, None, Result, Ok, Err, Bool, true, false, inl, inr, arith}
 use Rattle.std.specs.Prelude.{◌⊎◌, map, nat_eq, ⊤, IsSome, OnOk, MatchResult}
 use Rattle.std.specs.List.{AllByRecursion}
 use Rattle.std.specs.Map.{lookup, set_value}
@@ -12,16 +12,18 @@ use Rattle.qcow2_alloc.specs.declared.async_lru_cache.Admission.{Admission}
 use Rattle.qcow2_alloc.specs.declared.async_lru_cache.Admission.TheVariants.{Granted, Denied}
 use Rattle.qcow2_alloc.specs.declared.async_lru_cache.Slot.{Slot}
 use Rattle.qcow2_alloc.specs.Cache.{cache_kind, FlushedAt, Evicted, MadeRoom, PutAfter, Overwritten, Inserted, hit, victim}
-use Rattle.qcow2_alloc.specs.Finding.{IsPinnedFull, PinsNothing, with_room, CountsSearch, LetsIn}
+use Rattle.qcow2_alloc.specs.Causes.{FailsFor}
+use Rattle.qcow2_alloc.specs.Finding.{IsPinnedFull, PinsNothing, with_room, LetsIn, search_causes}
 use Rattle.qcow2_alloc.specs.Putting.{refusal_of, PutInto, MakesWay}
-use Rattle.qcow2_alloc.proofs.Flushing.Counting.{Counted}
+use Rattle.qcow2_alloc.proofs.Causes.{cause-weaker}
+use Rattle.qcow2_alloc.proofs.Flushing.Counting.{Counted, writing-implies}
 use Rattle.qcow2_alloc.proofs.Caching.Entries.{remove_written}
 use Rattle.qcow2_alloc.proofs.Flushing.Going.{kept-same}
 use Rattle.qcow2_alloc.proofs.Caching.Pins.{pins-hit, pins-new, pins-set, pins-then}
 use Rattle.qcow2_alloc.proofs.Caching.Places.{Place, place-of-key, place-hit}
 use Rattle.qcow2_alloc.proofs.Caching.Readying.{is-there}
 use Rattle.qcow2_alloc.proofs.Caching.Rooms.{room-related, never-denied}
-use Rattle.qcow2_alloc.proofs.Caching.Searching.{all-at, found-written, mapped-same, pins-room, room-counted, room-list, room-refused, done_of}
+use Rattle.qcow2_alloc.proofs.Caching.Searching.{all-at, mapped-same, pins-room, room-counted, room-list, room-refused, done_of}
 
 -- the answer of a put that had leave to flush
 abbrev pub put_of : {V : Type 0} → Result (Option V) (Fault × V) → Result Unit (Fault × V)
@@ -123,14 +125,14 @@ module _ {V D : Type 0} (state : D → StorageState) (loads : D → ℕ → Resu
     (step : (old : D) (key : ℕ) (value : V) (result : Result Unit Fault) (new : D) (value' : V) → flushes old key value result new value' → Counted (Reach key value) (state old) (state new) result)
     (cap : ℕ) (may_flush : Bool) (key : ℕ) (value : V) (before : D) (es : List (ℕ × Slot V)) (after : D) (es' : List (ℕ × Slot V)) where
   abbrev Counts : Result (Option V) (Fault × V) → Type 0
-  Counts result = CountsSearch (AllByRecursion (λ (e : ℕ × Slot V). Reach e.0 e.1.value) es) (IsPinnedFull cap es) (state before).faults (state after).faults (refusal_of (put_of result))
+  Counts result = FailsFor (search_causes (AllByRecursion (λ (e : ℕ × Slot V). Reach e.0 e.1.value) es) (IsPinnedFull cap es) (state before).faults (state after).faults) (refusal_of (put_of result))
 
   over-counted : (result : Result (Option V) (Fault × V)) → Overwritten nat_eq flushes (key, value) before es result after es' → Counts result
   over-counted (Ok back) (none, mid, at, list) = (step before key at.slot.value (Ok tt) after at.value at.flush).counts
   over-counted (Err refused) (back, at) =
-      found-written (Reach key at.slot.value) _ _ _ _ refused.0 (λ all. all-at (λ (e : ℕ × Slot V). Reach e.0 e.1.value) key es at.slot at.there all) (step before key at.slot.value (Err refused.0) after at.value at.flush).counts
+      cause-weaker (writing-implies _ (omega arith) (omega arith) (λ far all. far (all-at (λ (e : ℕ × Slot V). Reach e.0 e.1.value) key es at.slot at.there all))) refused.0 (step before key at.slot.value (Err refused.0) after at.value at.flush).counts
 
-  added-counted : (room : Result Admission Fault) (entries : List (ℕ × Slot V)) → CountsSearch (AllByRecursion (λ (e : ℕ × Slot V). Reach e.0 e.1.value) es) (IsPinnedFull cap es) (state before).faults (state after).faults (done_of room)
+  added-counted : (room : Result Admission Fault) (entries : List (ℕ × Slot V)) → FailsFor (search_causes (AllByRecursion (λ (e : ℕ × Slot V). Reach e.0 e.1.value) es) (IsPinnedFull cap es) (state before).faults (state after).faults) (done_of room)
       → (result : Result (Option V) (Fault × V)) → PutAfter (key, value) entries room result es' → Counts result
   added-counted (Ok Granted) entries same result (inl put) = subst (λ (q : Result (Option V) (Fault × V)). Counts q) (sym put.0) same
   added-counted (Ok Granted) entries same result (inr short) = subst (λ (q : Result (Option V) (Fault × V)). Counts q) (sym short.0) tt

@@ -11,17 +11,20 @@ use Rattle.qcow2_alloc.specs.declared.async_lru_cache.Slot.{Slot}
 use Rattle.qcow2_alloc.specs.declared.file.ImageFile.{ImageFile}
 use Rattle.qcow2_alloc.specs.Backends.{Flushed}
 use Rattle.qcow2_alloc.specs.Cache.{cache_kind, Inserted, with_entries}
-use Rattle.qcow2_alloc.specs.Finding.{IsPinnedFull, CountsSearch}
+use Rattle.qcow2_alloc.specs.Causes.{FailsFor}
+use Rattle.qcow2_alloc.specs.Finding.{IsPinnedFull, search_causes}
 use Rattle.qcow2_alloc.specs.Putting.{refusal_of, IsNew, PutInto, MakesWay, MadeWay}
 use Rattle.qcow2_alloc.specs.Going.{Going, Always, WasNotCutOff, IsMild, Behind}
 use Rattle.qcow2_alloc.specs.Memory.{memory}
 use Rattle.qcow2_alloc.specs.Safety.{Safe, IsLeft}
+use Rattle.qcow2_alloc.proofs.Flushing.Counting.{writing-implies, never-refused}
+use Rattle.qcow2_alloc.proofs.Causes.{cause-weaker}
 use Rattle.qcow2_alloc.proofs.Flushing.Going.{kept-same, going-none, going-under, going-safely}
 use Rattle.qcow2_alloc.proofs.Caching.Inserting.{put_of, IsBarred, inserted-put, inserted-counted, inserted-related, never-barred, put-then, way-flushed, way-barred, inserted-lets-in, inserted-barred, quiet, put-back}
 use Rattle.qcow2_alloc.proofs.Caching.PuttingEntries.{put-going, put-quietly}
 use Rattle.qcow2_alloc.proofs.Caching.LettingIn.{behind-done, behind-refused}
 use Rattle.qcow2_alloc.proofs.Caching.Pins.{pins-none}
-use Rattle.qcow2_alloc.proofs.Caching.Searching.{counts-wider, found-written, never-refused}
+use Rattle.qcow2_alloc.proofs.Caching.Searching.{counts-wider}
 use Rattle.qcow2_alloc.proofs.Caching.Sides.{Beside, Side, SideLaws, WrittenFirst, cached_of, loads_of, flushes_of, Reach, AreInReach, FitsIn, first-some}
 
 -- a value that is new there
@@ -41,7 +44,7 @@ pub record PutSo {S V W A B : Type 0} (side : Side S V W) (cluster : ℕ) (value
       → Behind (old.order ≡ side.first) side.Writes side.Lets (side.state before.image) (cached_of side old) (refusal_of result) (side.state after.image) (cached_of side new)
   pub others : (new.order ≡ old.order) × (after.header ≡ before.header)
   pub room : (new.own.slots.cap ≡ old.own.slots.cap) × (new.other.slots.cap ≡ old.other.slots.cap)
-  pub cause : CountsSearch (AreInReach side old.own.slots.entries × side.OtherReach (cached_of side old)) (IsPinnedFull old.own.slots.cap old.own.slots.entries) (side.state before.image).faults (side.state after.image).faults (refusal_of result)
+  pub cause : FailsFor (search_causes (AreInReach side old.own.slots.entries × side.OtherReach (cached_of side old)) (IsPinnedFull old.own.slots.cap old.own.slots.entries) (side.state before.image).faults (side.state after.image).faults) (refusal_of result)
 
 module _ {S V W A B : Type 0} (side : Side S V W) (laws : SideLaws side) (cluster : ℕ) (value : V) (old : Beside S V W A B) (before : ImageFile S) where
   abbrev Puts : Bool → ImageFile S → Result (Option V) (Fault × V) → ImageFile S → List (ℕ × Slot V) → Type 0
@@ -51,7 +54,7 @@ module _ {S V W A B : Type 0} (side : Side S V W) (laws : SideLaws side) (cluste
   kept-by key slot a b answer v flush = laws.keeps key slot (side.state a.image) answer (side.state b.image) v flush.1
 
   put-counts : (may_flush : Bool) (between : ImageFile S) (result : Result (Option V) (Fault × V)) (after : ImageFile S) (es' : List (ℕ × Slot V)) (faults : ℕ) → (side.state between.image).faults ≡ faults → Puts may_flush between result after es'
-      → CountsSearch (AreInReach side old.own.slots.entries × side.OtherReach (cached_of side old)) (IsPinnedFull old.own.slots.cap old.own.slots.entries) faults (side.state after.image).faults (refusal_of (put_of result))
+      → FailsFor (search_causes (AreInReach side old.own.slots.entries × side.OtherReach (cached_of side old)) (IsPinnedFull old.own.slots.cap old.own.slots.entries) faults (side.state after.image).faults) (refusal_of (put_of result))
   put-counts may_flush between result after es' faults is i =
       counts-wider _ _ _ _ faults _ (refusal_of (put_of result)) (λ f. f.0) is
       (inserted-counted (λ (d : ImageFile S). side.state d.image) (loads_of side) (flushes_of side) (Reach side)
@@ -168,5 +171,5 @@ module _ {S V W A B : Type 0} (side : Side S V W) (laws : SideLaws side) (cluste
           behind = λ none room. behind-refused (old.order ≡ side.first) side.Writes side.Lets (side.state before.image) (side.state between.image) (cached_of side old) (cached_of side mid) fault some w.did;
           others = (ap (λ (c : Beside S V W A B). c.order) w.same, w.header);
           room = (ap (λ (c : Beside S V W A B). c.own.slots.cap) w.same, w.room);
-          cause = found-written (side.OtherReach (cached_of side old)) _ _ _ _ fault (λ f. f.1) w.cause;
+          cause = cause-weaker (writing-implies _ (omega arith) (omega arith) (λ far f. far f.1)) fault w.cause;
         }

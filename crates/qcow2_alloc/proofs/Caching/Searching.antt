@@ -1,6 +1,6 @@
 -- What the search of an entry leaves of a cache, and why it is refused.
 use Rattle.std.proofs.Common.{◌≡◌, ℕ, ◌<◌, ◌≤◌, refl, arith, ap, sym, subst, ◌∙◌, List, [], ◌∷◌, ◌++◌, length, Option, Some, None, Result, Ok, Err, Bool, true, false, inl, inr}
-use Rattle.std.specs.Prelude.{◌⊎◌, map, nat_eq, MatchResult, OnOk, OnErr}
+use Rattle.std.specs.Prelude.{◌⊎◌, map, nat_eq, OnOk, OnErr}
 use Rattle.std.specs.Option.{option_map_or}
 use Rattle.std.specs.List.{AllByRecursion}
 use Rattle.std.specs.Map.{lookup, remove_entry, set_value}
@@ -8,15 +8,16 @@ use Rattle.std.proofs.lemmas.Bool.{cases_Bool, cases_lt, eqb-true, lt-ltb, le-lt
 use Rattle.imago_storage.specs.State.{StorageState}
 use Rattle.imago_storage.specs.Calls.{Kept}
 use Rattle.imago_storage.specs.declared.fault.Fault.{Fault}
-use Rattle.imago_storage.specs.declared.fault.Fault.TheVariants.{Memory, Storage, DamagedTable, CacheFull}
-use Rattle.imago_storage.proofs.Composing.{rose_before, rose_behind}
+use Rattle.imago_storage.specs.declared.fault.Fault.TheVariants.{CacheFull}
 use Rattle.qcow2_alloc.specs.declared.async_lru_cache.Admission.{Admission}
 use Rattle.qcow2_alloc.specs.declared.async_lru_cache.Admission.TheVariants.{Granted, Denied}
 use Rattle.qcow2_alloc.specs.declared.async_lru_cache.Slot.{Slot}
 use Rattle.qcow2_alloc.specs.Cache.{cache_kind, Evicted, MadeRoom, Loaded, LoadedAfter, Readied, victim}
-use Rattle.qcow2_alloc.specs.Finding.{with_room, IsPinnedFull, PinsNothing, Sought, WhyNotFound, CountsSearch}
-use Rattle.qcow2_alloc.specs.Going.{IsMild, WhyNotWritten, WasNotCutOff}
-use Rattle.qcow2_alloc.proofs.Flushing.Counting.{Counted}
+use Rattle.qcow2_alloc.specs.Causes.{HasCause, FailsFor}
+use Rattle.qcow2_alloc.specs.Finding.{with_room, IsPinnedFull, PinsNothing, Sought, search_causes}
+use Rattle.qcow2_alloc.specs.Going.{WasNotCutOff}
+use Rattle.qcow2_alloc.proofs.Causes.{Implies, cause-weaker, fails-weaker}
+use Rattle.qcow2_alloc.proofs.Flushing.Counting.{Counted, writing-implies}
 use Rattle.qcow2_alloc.proofs.Caching.Pins.{pins-none, pins-then, pins-removed, pins-set, pins-new}
 use Rattle.qcow2_alloc.proofs.Caching.Places.{place-of-key}
 use Rattle.qcow2_alloc.proofs.Caching.Readying.{is-there}
@@ -74,32 +75,13 @@ pub mapped-same : {X Y : Type 0} (f : X → Y) (front : List X) (a b : X) (back 
 mapped-same f [] a b back same = ap (λ y. y ∷ map f back) same
 mapped-same f (x ∷ front) a b back same = ap (λ l. f x ∷ l) (mapped-same f front a b back same)
 
--- A cause stays one over more calls.
-pub found-wider : (fine fine' full full' : Type 0) (a b c d : ℕ) → (fine' → fine) → (full → full') → a ≤ b → c ≤ d → (fault : Fault) → WhyNotFound fine full b c fault → WhyNotFound fine' full' a d fault
-found-wider fine fine' full full' a b c d from to le le' Memory why = tt
-found-wider fine fine' full full' a b c d from to le le' Storage why = rose_behind a b d le (rose_before b c d why le')
-found-wider fine fine' full full' a b c d from to le le' DamagedTable why = λ f. why (from f)
-found-wider fine fine' full full' a b c d from to le le' CacheFull why = to why
-found-wider fine fine' full full' a b c d from to le le' fault why = absurd why
+-- A search is refused for what refused a part of it.
+pub search-wider : {fine fine' full full' : Type 0} {a b c d : ℕ} → (fine' → fine) → (full → full') → a ≤ b → c ≤ d → Implies (search_causes fine full b c) (search_causes fine' full' a d)
+search-wider from to le le' = record { before = le; after = le'; damaged = λ wrong fine. wrong (from fine); counter = absurd; full = to; limit = λ number. absurd }
 
--- So is the whole answer, also where less is known to be fine.
-pub counts-wider : (fine fine' full : Type 0) (a b c : ℕ) (result : Result Unit Fault) → (fine' → fine) → a ≡ b → CountsSearch fine full a c result → CountsSearch fine' full b c result
-counts-wider fine fine' full a b c (Ok done) from is same = same ∙ is
-counts-wider fine fine' full a b c (Err fault) from is why = found-wider fine fine' full full b a c c from (λ f. f) (omega (arith, is)) (omega arith) fault why
-
--- That of a write is one.
-pub found-written : (reach fine full : Type 0) (a b : ℕ) (fault : Fault) → (fine → reach) → WhyNotWritten reach a b fault → WhyNotFound fine full a b fault
-found-written reach fine full a b Memory from why = tt
-found-written reach fine full a b Storage from why = why
-found-written reach fine full a b DamagedTable from why = λ f. why (from f)
-found-written reach fine full a b fault from why = absurd why
-
--- Where all that is written is in reach, a write that wasn't cut off is not refused.
-pub never-refused : (reach : Type 0) (a b : ℕ) (fault : Fault) → reach → IsMild fault → WhyNotWritten reach a b fault → ⊥
-never-refused reach a b Memory near mild why = mild
-never-refused reach a b Storage near mild why = mild
-never-refused reach a b DamagedTable near mild why = why near
-never-refused reach a b fault near mild why = why
+-- So it is with the whole answer, also where less is known to be fine.
+pub counts-wider : (fine fine' full : Type 0) (a b c : ℕ) (result : Result Unit Fault) → (fine' → fine) → a ≡ b → FailsFor (search_causes fine full a c) result → FailsFor (search_causes fine' full b c) result
+counts-wider fine fine' full a b c result from is why = fails-weaker _ _ (search-wider from (λ f. f) (omega (arith, is)) (omega arith)) (λ same. same ∙ is) result why
 
 module _ {V D : Type 0} (loads : D → ℕ → Result V Fault → D → Type 0) (flushes : D → ℕ → V → Result Unit Fault → D → V → Type 0) where
   -- Without leave to flush, what says that there is no room has changed nothing.
@@ -254,10 +236,10 @@ module _ {V D : Type 0} (loads : D → ℕ → Result V Fault → D → Type 0) 
 module _ {V D : Type 0} (state : D → StorageState) (loads : D → ℕ → Result V Fault → D → Type 0) (flushes : D → ℕ → V → Result Unit Fault → D → V → Type 0) (Reach : ℕ → V → Type 0)
     (step : (old : D) (key : ℕ) (value : V) (result : Result Unit Fault) (new : D) (value' : V) → flushes old key value result new value' → Counted (Reach key value) (state old) (state new) result) where
   abbrev RoomCounts : ℕ → D → List (ℕ × Slot V) → D → Result Admission Fault → Type 0
-  RoomCounts cap before es after r = CountsSearch (AllByRecursion (λ (e : ℕ × Slot V). Reach e.0 e.1.value) es) (IsPinnedFull cap es) (state before).faults (state after).faults (done_of r)
+  RoomCounts cap before es after r = FailsFor (search_causes (AllByRecursion (λ (e : ℕ × Slot V). Reach e.0 e.1.value) es) (IsPinnedFull cap es) (state before).faults (state after).faults) (done_of r)
 
   pub room-counted : (cap : ℕ) (may_flush : Bool) (before : D) (es : List (ℕ × Slot V)) (result : Result Admission Fault) (after : D) (es' : List (ℕ × Slot V)) → MadeRoom (cache_kind nat_eq loads flushes cap) may_flush before es result after es'
-      → ((state before).faults ≤ (state after).faults) × CountsSearch (AllByRecursion (λ (e : ℕ × Slot V). Reach e.0 e.1.value) es) (IsPinnedFull cap es) (state before).faults (state after).faults (done_of result)
+      → ((state before).faults ≤ (state after).faults) × FailsFor (search_causes (AllByRecursion (λ (e : ℕ × Slot V). Reach e.0 e.1.value) es) (IsPinnedFull cap es) (state before).faults (state after).faults) (done_of result)
   room-counted cap may_flush before es result after es' made = elim (room-way (cache_kind nat_eq loads flushes cap) may_flush before es result after es' made) [
     | inl same ↦ let n = ap (λ (d : D). (state d).faults) same.device in (omega (arith, n), by-answer n same.answer)
     | inr gone ↦ by-eviction gone.key result gone.evicted
@@ -272,41 +254,40 @@ module _ {V D : Type 0} (state : D → StorageState) (loads : D → ℕ → Resu
       by-eviction key (Err fault) at =
           let c = step before key at.slot.value (Err fault) after at.value at.flush in (
             c.rising,
-            found-written (Reach key at.slot.value) _ _ _ _ fault (λ all. all-at (λ (e : ℕ × Slot V). Reach e.0 e.1.value) key es at.slot at.there all) c.counts,
+            cause-weaker (writing-implies _ (omega arith) (omega arith) (λ far all. far (all-at (λ (e : ℕ × Slot V). Reach e.0 e.1.value) key es at.slot at.there all))) fault c.counts,
           )
 
   -- how the load of the key counts
   module _ (fine : D → ℕ → Type 0)
-      (loading : (old : D) (key : ℕ) (answer : Result V Fault) (new : D) → loads old key answer new → ((state old).faults ≤ (state new).faults) × MatchResult answer (λ _. (state new).faults ≡ (state old).faults) (WhyNotFound (fine new key) ⊥ (state old).faults (state new).faults)) where
+      (loading : (old : D) (key : ℕ) (answer : Result V Fault) (new : D) → loads old key answer new → ((state old).faults ≤ (state new).faults) × FailsFor (search_causes (fine new key) ⊥ (state old).faults (state new).faults) answer) where
     load-counted : (full : Type 0) (key : ℕ) (before : D) (es : List (ℕ × Slot V)) (result : Result Admission Fault) (after : D) (es' : List (ℕ × Slot V)) → Loaded loads key before es result after es'
-        → ((state before).faults ≤ (state after).faults) × CountsSearch (fine after key) full (state before).faults (state after).faults (done_of result)
+        → ((state before).faults ≤ (state after).faults) × FailsFor (search_causes (fine after key) full (state before).faults (state after).faults) (done_of result)
     load-counted full key before es (Ok made) after es' (is, value, load, list) = loading before key (Ok value) after load
     load-counted full key before es (Err fault) after es' (same, why) = elim why [
-      | inl load ↦ let l = loading before key (Err fault) after load in (l.0, found-wider (fine after key) (fine after key) ⊥ full _ _ _ _ (λ f. f) (λ no. absurd no) (omega arith) (omega arith) fault l.1)
-      | inr short ↦ let l = loading before key (Ok short.1) after short.2 in (l.0, subst (λ (q : Fault). WhyNotFound (fine after key) full (state before).faults (state after).faults q) (sym short.0) tt)
+      | inl load ↦ let l = loading before key (Err fault) after load in (l.0, cause-weaker (search-wider (λ f. f) absurd (omega arith) (omega arith)) fault l.1)
+      | inr short ↦ let l = loading before key (Ok short.1) after short.2 in (l.0, subst (λ (q : Fault). HasCause (search_causes (fine after key) full (state before).faults (state after).faults) q) (sym short.0) tt)
     ]
 
     pub readied-counted : (cap : ℕ) (may_flush : Bool) (key : ℕ) (before : D) (es : List (ℕ × Slot V)) (result : Result Admission Fault) (after : D) (es' : List (ℕ × Slot V)) → Readied (cache_kind nat_eq loads flushes cap) may_flush key before es result after es'
-        → ((state before).faults ≤ (state after).faults) × CountsSearch (fine after key × AllByRecursion (λ (e : ℕ × Slot V). Reach e.0 e.1.value) es) (IsPinnedFull cap es) (state before).faults (state after).faults (done_of result)
+        → ((state before).faults ≤ (state after).faults) × FailsFor (search_causes (fine after key × AllByRecursion (λ (e : ℕ × Slot V). Reach e.0 e.1.value) es) (IsPinnedFull cap es) (state before).faults (state after).faults) (done_of result)
     readied-counted cap may_flush key before es result after es' r = elim (is-there (lookup (nat_eq key) es)) [
       | inl there ↦
           let f = r.found there in
           let n = ap (λ (d : D). (state d).faults) f.1 in (
             omega (arith, n),
-            subst (λ (q : Result Admission Fault). CountsSearch (fine after key × AllByRecursion (λ (e : ℕ × Slot V). Reach e.0 e.1.value) es) (IsPinnedFull cap es) (state before).faults (state after).faults (done_of q)) (sym f.0) n,
+            subst (λ (q : Result Admission Fault). FailsFor (search_causes (fine after key × AllByRecursion (λ (e : ℕ × Slot V). Reach e.0 e.1.value) es) (IsPinnedFull cap es) (state before).faults (state after).faults) (done_of q)) (sym f.0) n,
           )
       | inr none ↦ let m = r.missed none in by-room m.room m.mid m.entries (room-counted cap may_flush before es m.room m.mid m.entries m.made) m.loaded
     ]
       where
-        by-load : (mid : D) (result : Result Admission Fault) → (state mid).faults ≡ (state before).faults → CountsSearch (fine after key) (IsPinnedFull cap es) (state mid).faults (state after).faults (done_of result)
-            → CountsSearch (fine after key × AllByRecursion (λ (e : ℕ × Slot V). Reach e.0 e.1.value) es) (IsPinnedFull cap es) (state before).faults (state after).faults (done_of result)
-        by-load mid (Ok found) same counts = counts ∙ same
-        by-load mid (Err fault) same why = found-wider (fine after key) _ _ _ _ _ _ _ (λ f. f.0) (λ f. f) (omega (arith, same)) (omega arith) fault why
+        by-load : (mid : D) (result : Result Admission Fault) → (state mid).faults ≡ (state before).faults → FailsFor (search_causes (fine after key) (IsPinnedFull cap es) (state mid).faults (state after).faults) (done_of result)
+            → FailsFor (search_causes (fine after key × AllByRecursion (λ (e : ℕ × Slot V). Reach e.0 e.1.value) es) (IsPinnedFull cap es) (state before).faults (state after).faults) (done_of result)
+        by-load mid result same counts = fails-weaker _ _ (search-wider (λ f. f.0) (λ f. f) (omega (arith, same)) (omega arith)) (λ still. still ∙ same) (done_of result) counts
 
         by-room : (room : Result Admission Fault) (mid : D) (entries : List (ℕ × Slot V))
-            → ((state before).faults ≤ (state mid).faults) × CountsSearch (AllByRecursion (λ (e : ℕ × Slot V). Reach e.0 e.1.value) es) (IsPinnedFull cap es) (state before).faults (state mid).faults (done_of room)
+            → ((state before).faults ≤ (state mid).faults) × FailsFor (search_causes (AllByRecursion (λ (e : ℕ × Slot V). Reach e.0 e.1.value) es) (IsPinnedFull cap es) (state before).faults (state mid).faults) (done_of room)
             → LoadedAfter loads key mid entries room result after es'
-            → ((state before).faults ≤ (state after).faults) × CountsSearch (fine after key × AllByRecursion (λ (e : ℕ × Slot V). Reach e.0 e.1.value) es) (IsPinnedFull cap es) (state before).faults (state after).faults (done_of result)
+            → ((state before).faults ≤ (state after).faults) × FailsFor (search_causes (fine after key × AllByRecursion (λ (e : ℕ × Slot V). Reach e.0 e.1.value) es) (IsPinnedFull cap es) (state before).faults (state after).faults) (done_of result)
         by-room (Ok Granted) mid entries counted later =
             let l = load-counted (IsPinnedFull cap es) key mid entries result after es' later in
             let same : (state mid).faults ≡ (state before).faults = counted.1 in
@@ -315,12 +296,12 @@ module _ {V D : Type 0} (state : D → StorageState) (loads : D → ℕ → Resu
             let n = ap (λ (d : D). (state d).faults) later.1 in
             let same : (state mid).faults ≡ (state before).faults = counted.1 in (
               omega (arith, n, same),
-              subst (λ (q : Result Admission Fault). CountsSearch (fine after key × AllByRecursion (λ (e : ℕ × Slot V). Reach e.0 e.1.value) es) (IsPinnedFull cap es) (state before).faults (state after).faults (done_of q)) (sym later.0) (n ∙ same),
+              subst (λ (q : Result Admission Fault). FailsFor (search_causes (fine after key × AllByRecursion (λ (e : ℕ × Slot V). Reach e.0 e.1.value) es) (IsPinnedFull cap es) (state before).faults (state after).faults) (done_of q)) (sym later.0) (n ∙ same),
             )
         by-room (Err fault) mid entries counted later =
             let n = ap (λ (d : D). (state d).faults) later.1 in
             let le = counted.0 in (
               omega (arith, n, le),
-              subst (λ (q : Result Admission Fault). CountsSearch (fine after key × AllByRecursion (λ (e : ℕ × Slot V). Reach e.0 e.1.value) es) (IsPinnedFull cap es) (state before).faults (state after).faults (done_of q)) (sym later.0)
-                  (found-wider (AllByRecursion (λ (e : ℕ × Slot V). Reach e.0 e.1.value) es) _ _ _ _ _ _ _ (λ f. f.1) (λ f. f) (omega arith) (omega (arith, n)) fault counted.1),
+              subst (λ (q : Result Admission Fault). FailsFor (search_causes (fine after key × AllByRecursion (λ (e : ℕ × Slot V). Reach e.0 e.1.value) es) (IsPinnedFull cap es) (state before).faults (state after).faults) (done_of q)) (sym later.0)
+                  (cause-weaker (search-wider (λ f. f.1) (λ f. f) (omega arith) (omega (arith, n))) fault counted.1),
             )

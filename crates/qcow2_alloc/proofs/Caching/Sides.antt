@@ -1,6 +1,6 @@
 -- One of the two caches beside the other: what is proved of the search and the put of an entry is said once, of L2 tables and refcount blocks alike.
 use Rattle.std.proofs.Common.{◌≡◌, ℕ, ◌≤◌, refl, arith, ap, sym, ◌∙◌, List, [], ◌∷◌, ◌++◌, None, Result, Ok, Err, false, true}
-use Rattle.std.specs.Prelude.{nat_eq, map, ⊤, MatchResult, OnOk}
+use Rattle.std.specs.Prelude.{nat_eq, map, ⊤, OnOk}
 use Rattle.std.specs.List.{AllByRecursion}
 use Rattle.std.specs.Map.{lookup, keys_of}
 use Rattle.imago_storage.specs.State.{StorageState}
@@ -14,8 +14,9 @@ use Rattle.qcow2_alloc.specs.declared.async_lru_cache.Slot.{Slot}
 use Rattle.qcow2_alloc.specs.declared.cache.CacheDependency.{CacheDependency}
 use Rattle.qcow2_alloc.specs.declared.file.ImageFile.{ImageFile}
 use Rattle.qcow2_alloc.specs.Backends.{Flushed}
-use Rattle.qcow2_alloc.specs.Finding.{LetsIn, WhyNotFound}
-use Rattle.qcow2_alloc.specs.Going.{Going, CachedStep, Always, WasNotCutOff, CountsWrites}
+use Rattle.qcow2_alloc.specs.Causes.{FailsFor}
+use Rattle.qcow2_alloc.specs.Finding.{LetsIn, search_causes}
+use Rattle.qcow2_alloc.specs.Going.{Going, CachedStep, Always, WasNotCutOff, writing_causes}
 use Rattle.qcow2_alloc.specs.Memory.{Cached, memory}
 use Rattle.qcow2_alloc.specs.Safety.{Safe, IsLeft}
 use Rattle.qcow2_alloc.proofs.Caching.CachedEntries.{EntryLaws, entry-leaves}
@@ -82,7 +83,7 @@ module _ {S V W : Type 0} (side : Side S V W) where
     pub clean : (f : Bytes) (h : Fields) (key : ℕ) → side.kind.writes.modified (side.read f h key) ≡ false
     pub fits : (h : Fields) (key : ℕ) (a : StorageState) (value : V) (b : StorageState) → side.Loads h key a (Ok value) b → Shaped h → side.kind.Fits (bytes_of a.bytes) h key value
     pub counts : (h : Fields) (key : ℕ) (a : StorageState) (answer : Result V Fault) (b : StorageState) → side.Loads h key a answer b
-        → (a.faults ≤ b.faults) × MatchResult answer (λ _. b.faults ≡ a.faults) (WhyNotFound (side.Fine (bytes_of b.bytes) h key) ⊥ a.faults b.faults)
+        → (a.faults ≤ b.faults) × FailsFor (search_causes (side.Fine (bytes_of b.bytes) h key) ⊥ a.faults b.faults) answer
     pub still : (h : Fields) (key : ℕ) (a : StorageState) (answer : Result V Fault) (b : StorageState) → side.Loads h key a answer b → WasNotCutOff answer → b.faults ≡ a.faults
     pub keeps : (key : ℕ) (slot : Slot V) (a : StorageState) (answer : Result Unit Fault) (b : StorageState) (value : V) → Flushed side.kind.writes a key slot.value answer b value
         → side.written (key, record slot { value = value }) ≡ side.written (key, slot)
@@ -171,7 +172,7 @@ pub record WrittenFirst {S V W A B : Type 0} (side : Side S V W) (old : Beside S
   pub same : mid ≡ record old { other = mid.other }
   pub header : between.header ≡ before.header
   pub room : mid.other.slots.cap ≡ old.other.slots.cap
-  pub cause : CountsWrites (side.OtherReach (cached_of side old)) (side.state before.image).faults (side.state between.image).faults answer
+  pub cause : FailsFor (writing_causes (side.OtherReach (cached_of side old)) (side.state before.image).faults (side.state between.image).faults) answer
   pub faults : WasNotCutOff answer → IsFaultless (side.state before.image) (side.state between.image)
   pub did : old.order ≡ side.first → side.Writes (side.state before.image) (cached_of side old) answer (side.state between.image) (cached_of side mid)
 

@@ -5,7 +5,7 @@ use Rattle.std.proofs.lemmas.Bool.Decides.{nat_tests}
 use Rattle.std.proofs.lemmas.List.FromFn.{length-map-range_with_len}
 use Rattle.std.proofs.lemmas.Nat.{le-div}
 use Rattle.std.proofs.Math.Nat.{pow-le-pow_right}
-use Rattle.std.specs.Prelude.{◌==◌, if◌then◌else◌, MatchResult, OnOk}
+use Rattle.std.specs.Prelude.{◌==◌, if◌then◌else◌, OnOk}
 use Rattle.imago_storage.specs.State.{StorageState}
 use Rattle.imago_storage.specs.Calls.{IsFaultless}
 use Rattle.imago_storage.specs.declared.fault.Fault.{Fault}
@@ -22,8 +22,9 @@ use Rattle.qcow2_alloc.specs.declared.cache.RefBlockCacheBackend.{RefBlockCacheB
 use Rattle.qcow2_alloc.specs.declared.file.ImageFile.{ImageFile}
 use Rattle.qcow2_alloc.specs.Backends.{TableLoaded, l2_words_in}
 use Rattle.qcow2_alloc.specs.Caches.{HasRoomOf, cached_file, cached_in, order_of}
-use Rattle.qcow2_alloc.specs.Finding.{IsTableFine, LetsTableIn, TableFound, WhyNotFound}
-use Rattle.qcow2_alloc.specs.Going.{Going, Always, ReadyTables, IsMild, WasNotCutOff, AreBlocksInReach, CountsWrites, WritesBlocks}
+use Rattle.qcow2_alloc.specs.Causes.{HasCause, FailsFor}
+use Rattle.qcow2_alloc.specs.Finding.{IsTableFine, LetsTableIn, TableFound, search_causes}
+use Rattle.qcow2_alloc.specs.Going.{Going, Always, ReadyTables, IsMild, WasNotCutOff, AreBlocksInReach, WritesBlocks, writing_causes}
 use Rattle.qcow2_alloc.specs.Memory.{Cached, written, written_table, written_block}
 use Rattle.qcow2_alloc.specs.Putting.{TableInserted}
 use Rattle.qcow2_alloc.specs.Safety.{IsCachedTable, AreBlocksClean}
@@ -56,7 +57,7 @@ table-load-counted h key old (Err fault) new loaded mild = elim (cases_lt max_of
 
 -- what is known of a load's answer
 table-loading : (h : Fields) (key : ℕ) (old : StorageState) (answer : Result TableValue Fault) (new : StorageState) → TableLoaded h key old answer new
-    → (old.faults ≤ new.faults) × MatchResult answer (λ _. new.faults ≡ old.faults) (WhyNotFound (IsTableFine (bytes_of new.bytes) h key) ⊥ old.faults new.faults)
+    → (old.faults ≤ new.faults) × FailsFor (search_causes (IsTableFine (bytes_of new.bytes) h key) ⊥ old.faults new.faults) answer
 table-loading h key old (Ok table) new loaded = (loaded.later, loaded.faults)
 table-loading h key old (Err fault) new loaded = (
   loaded.later,
@@ -64,13 +65,13 @@ table-loading h key old (Err fault) new loaded = (
     | inl far ↦
         let out = loaded.out (λ reach. omega (arith, far, reach)) in
         let is : fault ≡ DamagedTable = (let e = out.0 in cc) in
-        subst (λ (q : Fault). WhyNotFound (IsTableFine (bytes_of new.bytes) h key) ⊥ old.faults new.faults q) (sym is) (λ fine. let reach = fine.reach in omega (arith, far, reach))
+        subst (λ (q : Fault). HasCause (search_causes (IsTableFine (bytes_of new.bytes) h key) ⊥ old.faults new.faults) q) (sym is) (λ fine. let reach = fine.reach in omega (arith, far, reach))
     | inr reach ↦ by-fault fault (loaded.err reach)
   ],
 )
   where
     by-fault : (fault : Fault) → WhyNotLoaded l2_words (layout_of h) (words_in (bytes_of old.bytes) (key * cluster_size h) (words_of_cluster h)) old.faults new.faults fault
-        → WhyNotFound (IsTableFine (bytes_of new.bytes) h key) ⊥ old.faults new.faults fault
+        → HasCause (search_causes (IsTableFine (bytes_of new.bytes) h key) ⊥ old.faults new.faults) fault
     by-fault Memory why = tt
     by-fault Storage why = why
     by-fault DamagedTable why = λ fine. fine.sound (subst (λ (l : List ℕ). HasUnsound l2_words (layout_of h) (words_in (bytes_of l) (key * cluster_size h) (words_of_cluster h))) (sym loaded.kept.bytes) why.0)
@@ -147,7 +148,7 @@ module _ {S : Type 0} (state : S → StorageState) where
     pub blocks-first : Going before.header (order_of old) Always (answer ≡ Ok tt) (state before.image) (cached_in old) (state between.image) (cached_in mid) → written (cached_in mid) ≡ written (cached_in old)
         → OnOk answer (ReadyTables (order_of mid) (cached_in mid)) → ((order_of old ≡ L2DependsOnRb → ⊥) → (answer ≡ Ok tt) × (mid ≡ old) × (between ≡ before))
         → (mid.l2 ≡ old.l2) × (mid.order ≡ old.order) × (between.header ≡ before.header) → HasRoomOf old mid
-        → CountsWrites (AreBlocksInReach (cached_in old)) (state before.image).faults (state between.image).faults answer → (WasNotCutOff answer → IsFaultless (state before.image) (state between.image))
+        → FailsFor (writing_causes (AreBlocksInReach (cached_in old)) (state before.image).faults (state between.image).faults) answer → (WasNotCutOff answer → IsFaultless (state before.image) (state between.image))
         → (order_of old ≡ L2DependsOnRb → WritesBlocks (state before.image) (cached_in old) answer (state between.image) (cached_in mid)) → WrittenFirst tables (l2_side old) before answer (l2_side mid) between
     blocks-first going kept ready idle others room cause faults did = record {
       going = going;

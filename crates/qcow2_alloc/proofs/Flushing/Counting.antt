@@ -4,11 +4,10 @@ use Rattle.std.specs.Prelude.{IfSome, not, cond, ◌&&◌}
 use Rattle.std.specs.List.{AllByRecursion}
 use Rattle.std.proofs.lemmas.Bool.{cases_Bool, cases_lt}
 use Rattle.imago_storage.specs.State.{StorageState}
-use Rattle.imago_storage.specs.Calls.{Cause, IsFaultless}
+use Rattle.imago_storage.specs.Calls.{IsFaultless}
 use Rattle.imago_storage.specs.Through.{PutAtOnce}
 use Rattle.imago_storage.specs.declared.fault.Fault.{Fault}
-use Rattle.imago_storage.specs.declared.fault.Fault.TheVariants.{Memory, Storage, DamagedTable}
-use Rattle.imago_storage.proofs.Composing.{rose_before, rose_behind}
+use Rattle.imago_storage.specs.declared.fault.Fault.TheVariants.{DamagedTable, Memory, Storage}
 use Rattle.qcow2_types.specs.Words.{max_offset}
 use Rattle.qcow2_types.specs.TableBytes.{table_bytes}
 use Rattle.qcow2_metadata.specs.Places.{IsInReach}
@@ -17,43 +16,43 @@ use Rattle.qcow2_metadata.specs.Blocks.{Block}
 use Rattle.qcow2_alloc.specs.declared.async_lru_cache.Slot.{Slot}
 use Rattle.qcow2_alloc.specs.Cache.{FlushedEach, is_mild, latest, fault_of}
 use Rattle.qcow2_alloc.specs.Backends.{Flushed, WrittenKind, TableFlushed, BlockFlushed, written_tables, written_blocks}
-use Rattle.qcow2_alloc.specs.Going.{IsMild, WasNotCutOff, WhyNotWritten, CountsWrites}
+use Rattle.qcow2_alloc.specs.Causes.{HasCause, FailsFor, Causes}
+use Rattle.qcow2_alloc.specs.Going.{IsMild, WasNotCutOff, writing_causes}
+use Rattle.qcow2_alloc.proofs.Causes.{Implies, cause-weaker, storage-cause}
 use Rattle.qcow2_alloc.proofs.Flushing.Faultless.{faultless-same, faultless-then, mild-later, put-faultless}
 
--- A cause stays one over more calls.
-pub why-wider : (reach reach' : Type 0) (a b c d : ℕ) → (reach' → reach) → a ≤ b → c ≤ d → (fault : Fault) → WhyNotWritten reach b c fault → WhyNotWritten reach' a d fault
-why-wider reach reach' a b c d from le le' Memory why = tt
-why-wider reach reach' a b c d from le le' Storage why = rose_behind a b d le (rose_before b c d why le')
-why-wider reach reach' a b c d from le le' DamagedTable why = λ r. why (from r)
-why-wider reach reach' a b c d from le le' fault why = absurd why
+-- A cause of a write is one of each call that made it, where that says why something was out of reach.
+pub writing-implies : {reach : Type 0} {b c : ℕ} → (new : Causes) → new.before ≤ b → c ≤ new.after → ((reach → ⊥) → new.damaged) → Implies (writing_causes reach b c) new
+writing-implies new le le' far = record { before = le; after = le'; damaged = far; counter = absurd; full = absurd; limit = λ number. absurd }
 
--- That of a storage is one.
-storage-why : (reach : Type 0) (a b : ℕ) (fault : Fault) → Cause a b fault → WhyNotWritten reach a b fault
-storage-why reach a b Memory cause = tt
-storage-why reach a b Storage cause = cause
-storage-why reach a b fault cause = absurd cause
+-- Where all that is written is in reach, a write that wasn't cut off is not refused.
+pub never-refused : (reach : Type 0) (a b : ℕ) (fault : Fault) → reach → IsMild fault → HasCause (writing_causes reach a b) fault → ⊥
+never-refused reach a b Memory near mild why = mild
+never-refused reach a b Storage near mild why = mild
+never-refused reach a b DamagedTable near mild why = why near
+never-refused reach a b fault near mild why = why
 
-put-counted : (reach : Type 0) (old new : StorageState) (at : ℕ) (bytes : List ℕ) (result : Result Unit Fault) → PutAtOnce old new at bytes result → CountsWrites reach old.faults new.faults result
+put-counted : (reach : Type 0) (old new : StorageState) (at : ℕ) (bytes : List ℕ) (result : Result Unit Fault) → PutAtOnce old new at bytes result → FailsFor (writing_causes reach old.faults new.faults) result
 put-counted reach old new at bytes (Ok done) put = put.put.answer.faults
-put-counted reach old new at bytes (Err fault) put = storage-why reach old.faults new.faults fault put.put.answer.cause
+put-counted reach old new at bytes (Err fault) put = storage-cause _ _ _ (omega arith) (omega arith) fault put.put.answer.cause
 
 -- the same, with a count that hasn't fallen, and stays where the storage didn't cut it off
 pub record Counted (reach : Type 0) (old new : StorageState) (result : Result Unit Fault) : Type 0 where
-  pub counts : CountsWrites reach old.faults new.faults result
+  pub counts : FailsFor (writing_causes reach old.faults new.faults) result
   pub rising : old.faults ≤ new.faults
   pub faults : WasNotCutOff result → IsFaultless old new
 
 -- where nothing is written
 none-counted : (reach : Type 0) (old new : StorageState) (result : Result Unit Fault) → new ≡ old → result ≡ Ok tt → Counted reach old new result
 none-counted reach old new result same done = record {
-  counts = subst (λ (r : Result Unit Fault). CountsWrites reach old.faults new.faults r) (sym done) (ap (λ (s : StorageState). s.faults) same);
+  counts = subst (λ (r : Result Unit Fault). FailsFor (writing_causes reach old.faults new.faults) r) (sym done) (ap (λ (s : StorageState). s.faults) same);
   rising = let n = ap (λ (s : StorageState). s.faults) same in omega (arith, n);
   faults = λ whole. faultless-same old new same;
 }
 
 far-counted : (reach : Type 0) (old new : StorageState) (result : Result Unit Fault) → (reach → ⊥) → new ≡ old → result ≡ Err DamagedTable → Counted reach old new result
 far-counted reach old new result far same refused = record {
-  counts = subst (λ (r : Result Unit Fault). CountsWrites reach old.faults new.faults r) (sym refused) far;
+  counts = subst (λ (r : Result Unit Fault). FailsFor (writing_causes reach old.faults new.faults) r) (sym refused) far;
   rising = let n = ap (λ (s : StorageState). s.faults) same in omega (arith, n);
   faults = λ whole. faultless-same old new same;
 }
@@ -85,17 +84,17 @@ module _ {V D : Type 0} (state : D → StorageState) (flushes : D → ℕ → V 
   -- what is known of the fault that is reported
   abbrev Outcome : Type 0 → ℕ → ℕ → Option Fault → Type 0
   Outcome reach before after None = after ≡ before
-  Outcome reach before after (Some fault) = WhyNotWritten reach before after fault
+  Outcome reach before after (Some fault) = HasCause (writing_causes reach before after) fault
 
-  behind : (here rest : Type 0) (a b c : ℕ) → a ≤ b → b ≤ c → (first : Option Fault) (result : Result Unit Fault) → Outcome rest a b first → CountsWrites here b c result → Outcome (here × rest) a c (latest first result)
-  behind here rest a b c le le' None (Err fault) earlier why = why-wider here (here × rest) a b c c (λ r. r.0) le (omega arith) fault why
+  behind : (here rest : Type 0) (a b c : ℕ) → a ≤ b → b ≤ c → (first : Option Fault) (result : Result Unit Fault) → Outcome rest a b first → FailsFor (writing_causes here b c) result → Outcome (here × rest) a c (latest first result)
+  behind here rest a b c le le' None (Err fault) earlier why = cause-weaker (writing-implies _ le (omega arith) (λ far r. far r.0)) fault why
   behind here rest a b c le le' (Some first) (Err fault) earlier why =
-      by-choice (not (is_mild first) && is_mild fault) (why-wider rest (here × rest) a a b c (λ r. r.1) (omega arith) le' first earlier) (why-wider here (here × rest) a b c c (λ r. r.0) le (omega arith) fault why)
+      by-choice (not (is_mild first) && is_mild fault) (cause-weaker (writing-implies _ (omega arith) le' (λ far r. far r.1)) first earlier) (cause-weaker (writing-implies _ le (omega arith) (λ far r. far r.0)) fault why)
     where
-      by-choice : (choice : Bool) → WhyNotWritten (here × rest) a c first → WhyNotWritten (here × rest) a c fault → WhyNotWritten (here × rest) a c (cond choice first fault)
+      by-choice : (choice : Bool) → HasCause (writing_causes (here × rest) a c) first → HasCause (writing_causes (here × rest) a c) fault → HasCause (writing_causes (here × rest) a c) (cond choice first fault)
       by-choice true one two = one
       by-choice false one two = two
-  behind here rest a b c le le' (Some fault) (Ok done) earlier same = why-wider rest (here × rest) a a b c (λ r. r.1) (omega arith) le' fault earlier
+  behind here rest a b c le le' (Some fault) (Ok done) earlier same = cause-weaker (writing-implies _ (omega arith) le' (λ far r. far r.1)) fault earlier
   behind here rest a b c le le' None (Ok done) earlier same = same ∙ earlier
 
   each : (before : D) (es : List (ℕ × Slot V)) (outcome : Option Fault) (after : D) (es' : List (ℕ × Slot V)) → FlushedEach flushes before es outcome after es'
@@ -116,7 +115,7 @@ module _ {V D : Type 0} (state : D → StorageState) (flushes : D → ℕ → V 
       )
 
   pub each-counted : (before : D) (es : List (ℕ × Slot V)) (result : Result Unit Fault) (after : D) (es' : List (ℕ × Slot V)) → FlushedEach flushes before es (fault_of result) after es'
-      → CountsWrites (AllByRecursion (λ (e : ℕ × Slot V). Reach e.0 e.1.value) es) (state before).faults (state after).faults result
+      → FailsFor (writing_causes (AllByRecursion (λ (e : ℕ × Slot V). Reach e.0 e.1.value) es) (state before).faults (state after).faults) result
   each-counted before es (Ok done) after es' flushed = (each before es None after es' flushed).1
   each-counted before es (Err fault) after es' flushed = (each before es (Some fault) after es' flushed).1
 

@@ -7,7 +7,7 @@ use Rattle.std.proofs.lemmas.Nat.{mod_below}
 use Rattle.std.proofs.lemmas.Bool.{cases_eq, cases_lt}
 use Rattle.imago_storage.specs.State.{StorageState}
 use Rattle.imago_storage.specs.declared.fault.Fault.{Fault}
-use Rattle.imago_storage.specs.declared.fault.Fault.TheVariants.{Memory, Storage, DamagedTable, CacheFull, Counter}
+use Rattle.imago_storage.specs.declared.fault.Fault.TheVariants.{DamagedTable, Counter}
 use Rattle.qcow2_types.specs.Bytes.{bytes_of}
 use Rattle.qcow2_types.specs.Header.{Header, cluster_size}
 use Rattle.qcow2_types.specs.Counts.{block_at, count, counters_of_block}
@@ -23,14 +23,16 @@ use Rattle.qcow2_alloc.specs.Allocators.{metadata_of, named_block, Lowers, Lower
 use Rattle.qcow2_alloc.specs.Cache.{hit}
 use Rattle.qcow2_alloc.specs.Caches.{cached_in, order_of, cached_file}
 use Rattle.qcow2_alloc.specs.CachesLending.{with_blocks}
+use Rattle.qcow2_alloc.specs.Causes.{FailsFor}
 use Rattle.qcow2_alloc.specs.Changes.{CachesBlock, IsStillCovered}
-use Rattle.qcow2_alloc.specs.Finding.{BlockFound, IsPinnedFull, WhyNotFound}
-use Rattle.qcow2_alloc.specs.Freeing.{HasSpareRoom, WhyNotFreed, CountsFreeing, IsWholeOrCalm}
+use Rattle.qcow2_alloc.specs.Finding.{BlockFound, IsPinnedFull, search_causes}
+use Rattle.qcow2_alloc.specs.Freeing.{HasSpareRoom, IsWholeOrCalm, freeing_causes}
 use Rattle.qcow2_metadata.specs.Places.{IsInReach}
 use Rattle.qcow2_alloc.specs.FreeList.{listed}
 use Rattle.qcow2_alloc.specs.Going.{WasNotCutOff, AreTablesInReach, AreBlocksInReach}
 use Rattle.qcow2_alloc.specs.Memory.{memory}
 use Rattle.qcow2_alloc.specs.Quiet.{Metadata, IsSound, IsQuiet, Quietly, counted, in_memory, metadata_in, one_at}
+use Rattle.qcow2_alloc.proofs.Causes.{Implies, cause-weaker}
 use Rattle.qcow2_alloc.proofs.Blocks.NamedBlocks.{named-block}
 use Rattle.qcow2_alloc.proofs.Memory.ChangingCounters.{cached-count, counter-lowered}
 use Rattle.qcow2_alloc.proofs.Quiet.QuietCounters.{free-quiet, here-one, waiting-covered, metadata-covered}
@@ -217,21 +219,24 @@ module _ {S : Type 0} (state : S → StorageState) (table : TableValue) where
 
       -- Why it is refused, where the cluster waits.
       abbrev Counts : Result Unit Fault → Type 0
-      Counts q = CountsFreeing Holds (HasSpareRoom old) (state before.image).faults (state after.image).faults q
+      Counts q = FailsFor (freeing_causes Holds (HasSpareRoom old) (state before.image).faults (state after.image).faults) q
 
-      by-search : (key : ℕ) → named_block table (c / counters_of_block before.header.fields) ≡ Some key → 0 < listed pending c → (fault : Fault)
-          → WhyNotFound (IsInReach before.header.fields.cluster_bits key × AreTablesInReach (cached_in old) × AreBlocksInReach (cached_in old)) (IsPinnedFull old.rb.slots.cap (cached_in old).blocks) (state before.image).faults (state after.image).faults fault
-          → WhyNotFreed Holds (HasSpareRoom old) (state before.image).faults (state after.image).faults fault
-      by-search key named waits Memory why = tt
-      by-search key named waits Storage why = why
-      by-search key named waits DamagedTable why = λ holds.
-          let was = holds.1.covered c in
-          let there = counted-block Old holds.1 c (omega (arith, was, waits)) in
-          let same : there.key ≡ key = (let e = sym there.names ∙ named in cc) in
-          let reach = safe-reach Old.file Old.header Old.cached Old.order holds.1.safe in
-          why (subst (λ n. IsInReach before.header.fields.cluster_bits n) same there.reach, reach.0, reach.1)
-      by-search key named waits CacheFull why = λ spare. let full = full-pinned (cached_in old).blocks why in omega (arith, full, spare)
-      by-search key named waits other why = absurd why
+      search-frees : (key : ℕ) → named_block table (c / counters_of_block before.header.fields) ≡ Some key → 0 < listed pending c
+          → Implies (search_causes (IsInReach before.header.fields.cluster_bits key × AreTablesInReach (cached_in old) × AreBlocksInReach (cached_in old)) (IsPinnedFull old.rb.slots.cap (cached_in old).blocks) (state before.image).faults (state after.image).faults)
+          (freeing_causes Holds (HasSpareRoom old) (state before.image).faults (state after.image).faults)
+      search-frees key named waits = record {
+        before = omega arith;
+        after = omega arith;
+        damaged = λ wrong holds.
+            let was = holds.1.covered c in
+            let there = counted-block Old holds.1 c (omega (arith, was, waits)) in
+            let same : there.key ≡ key = (let e = sym there.names ∙ named in cc) in
+            let reach = safe-reach Old.file Old.header Old.cached Old.order holds.1.safe in
+            wrong (subst (λ n. IsInReach before.header.fields.cluster_bits n) same there.reach, reach.0, reach.1);
+        counter = absurd;
+        full = λ all spare. let full = full-pinned (cached_in old).blocks all in omega (arith, full, spare);
+        limit = λ number. absurd;
+      }
 
       used-caused : (key : ℕ) → named_block table (c / counters_of_block before.header.fields) ≡ Some key → BlockUsed state key (Lowers (c % counters_of_block before.header.fields)) (cached_file old before) result (cached_file new after) → 0 < listed pending c → Counts result
       used-caused key named u waits =
@@ -251,7 +256,7 @@ module _ {S : Type 0} (state : S → StorageState) (table : TableValue) where
       freeing-caused = by-name (named_block table (c / counters_of_block before.header.fields)) refl
         where
           by-uses : (key : ℕ) → named_block table (c / counters_of_block before.header.fields) ≡ Some key → UsesBlock state key (Lowers (c % counters_of_block before.header.fields)) (cached_file old before) result (cached_file new after) → 0 < listed pending c → Counts result
-          by-uses key named (inl (fault, is, found)) waits = subst (λ (q : Result Unit Fault). Counts q) (sym is) (by-search key named waits fault found.cause)
+          by-uses key named (inl (fault, is, found)) waits = subst (λ (q : Result Unit Fault). Counts q) (sym is) (cause-weaker (search-frees key named waits) fault found.cause)
           by-uses key named (inr u) waits = used-caused key named u waits
 
           by-name : (o : Option ℕ) → named_block table (c / counters_of_block before.header.fields) ≡ o → MatchOption o Nothing (λ key. UsesBlock state key (Lowers (c % counters_of_block before.header.fields)) (cached_file old before) result (cached_file new after)) → 0 < listed pending c → Counts result

@@ -4,9 +4,9 @@ use Rattle.std.specs.Prelude.{◌⊎◌, IsTrue, min}
 use Rattle.std.proofs.lemmas.List.{length-set}
 use Rattle.std.proofs.lemmas.Bool.{cases_eq, cases_lt}
 use Rattle.std.proofs.Math.Nat.{mul-le-mul, div-le_self}
-use Rattle.imago_storage.specs.State.{StorageState, Rose}
+use Rattle.imago_storage.specs.State.{StorageState}
 use Rattle.imago_storage.specs.declared.fault.Fault.{Fault}
-use Rattle.imago_storage.specs.declared.fault.Fault.TheVariants.{Memory, Storage, DamagedTable, CacheFull, Counter}
+use Rattle.imago_storage.specs.declared.fault.Fault.TheVariants.{DamagedTable}
 use Rattle.qcow2_types.specs.Header.{cluster_size, refcount_table_entries}
 use Rattle.qcow2_types.specs.Counts.{counter_bits, counters_of_block}
 use Rattle.qcow2_types.specs.Pending.{FreeEntry}
@@ -19,11 +19,12 @@ use Rattle.qcow2_alloc.specs.declared.cache.MetadataCaches.{MetadataCaches}
 use Rattle.qcow2_alloc.specs.declared.file.ImageFile.{ImageFile}
 use Rattle.qcow2_alloc.specs.Allocators.{metadata_of, LowersCluster, named_block, Lowers}
 use Rattle.qcow2_alloc.specs.Caches.{cached_in, order_of, cached_file}
-use Rattle.qcow2_alloc.specs.Freeing.{IsUnbarred, Frees, MayFree, WhyNotFreed, WhyNotCounted, CountsFreeing, IsWholeOrCalm}
+use Rattle.qcow2_alloc.specs.Freeing.{IsUnbarred, Frees, MayFree, IsWholeOrCalm, freeing_causes, counting_causes}
 use Rattle.qcow2_alloc.specs.FreeList.{entry_at, shorter, shortened, listed}
 use Rattle.qcow2_alloc.specs.Going.{WasNotCutOff}
 use Rattle.qcow2_alloc.specs.Quiet.{Metadata, IsSound, IsQuiet, counted, in_memory, waiting, waiting_metadata, metadata_in}
 use Rattle.qcow2_alloc.specs.State.{lent}
+use Rattle.qcow2_alloc.proofs.Causes.{Implies, fails-weaker}
 use Rattle.qcow2_alloc.proofs.Flushing.Faultless.{faultless-then, named-faultless}
 use Rattle.qcow2_alloc.proofs.Freeing.FreeingClusters.{LosesOne, left, cluster-freed, freeing-caused, counts-stay, freeing-stays}
 use Rattle.qcow2_alloc.proofs.Freeing.FreeingLists.{last, last-off, metadata-less, metadata-last, entry-shortened}
@@ -152,21 +153,16 @@ module _ {S : Type 0} (state : S → StorageState) (table : TableValue) (es : Li
         cause = λ holds. let none = far-uncounted m holds.1 c far in let was = holds.1.covered c in let w = waits in omega (arith, none, was, w);
       }
 
--- A cause stays one over more calls.
-pub why-freed-wider : (sound sound' loose loose' : Type 0) (a b c : ℕ) → (sound' → sound) → (loose' → loose) → b ≡ a → (fault : Fault) → WhyNotFreed sound loose b c fault → WhyNotFreed sound' loose' a c fault
-why-freed-wider sound sound' loose loose' a b c from from' same Memory why = tt
-why-freed-wider sound sound' loose loose' a b c from from' same Storage why = subst (λ n. Rose n c) same why
-why-freed-wider sound sound' loose loose' a b c from from' same DamagedTable why = λ s. why (from s)
-why-freed-wider sound sound' loose loose' a b c from from' same Counter why = λ s. why (from s)
-why-freed-wider sound sound' loose loose' a b c from from' same CacheFull why = λ l. why (from' l)
-why-freed-wider sound sound' loose loose' a b c from from' same other why = absurd why
+-- What frees is refused for what refused a part of it,
+pub freeing-weaker : {sound sound' loose loose' : Type 0} {a b c : ℕ} → (sound' → sound) → (loose' → loose) → b ≡ a → Implies (freeing_causes sound loose b c) (freeing_causes sound' loose' a c)
+freeing-weaker from from' same = record { before = omega (arith, same); after = omega arith; damaged = λ wrong s. wrong (from s); counter = λ wrong s. wrong (from s); full = λ none l. none (from' l); limit = λ number. absurd }
 
-pub why-counted-wider : (sound sound' : Type 0) (loose loose' : Bool → Type 0) (a b c : ℕ) → (sound' → sound) → ((any : Bool) → loose' any → loose any) → b ≡ a → (fault : Fault) → WhyNotCounted sound loose b c fault → WhyNotCounted sound' loose' a c fault
-why-counted-wider sound sound' loose loose' a b c from from' same fault why = why-freed-wider sound sound' (IsUnbarred sound loose) (IsUnbarred sound' loose') a b c from (λ u. (u.0, λ is. from (u.1 is), from' u.0 u.2)) same fault why
+-- and what counts.
+pub unbarred-still : {sound sound' : Type 0} {loose loose' : Bool → Type 0} → (sound' → sound) → ((any : Bool) → loose' any → loose any) → IsUnbarred sound' loose' → IsUnbarred sound loose
+unbarred-still from from' u = (u.0, λ is. from (u.1 is), from' u.0 u.2)
 
-counts-then : (sound sound' loose loose' : Type 0) (a b c : ℕ) → (sound' → sound) → (loose' → loose) → b ≡ a → (result : Result Unit Fault) → CountsFreeing sound loose b c result → CountsFreeing sound' loose' a c result
-counts-then sound sound' loose loose' a b c from from' same (Ok done) counts = counts ∙ same
-counts-then sound sound' loose loose' a b c from from' same (Err fault) why = why-freed-wider sound sound' loose loose' a b c from from' same fault why
+pub counting-weaker : {sound sound' : Type 0} {loose loose' : Bool → Type 0} {a b c : ℕ} → (sound' → sound) → ((any : Bool) → loose' any → loose any) → b ≡ a → Implies (counting_causes sound loose b c) (counting_causes sound' loose' a c)
+counting-weaker from from' same = freeing-weaker from (unbarred-still from from') same
 
 -- The mark falls to what was freed, over more calls too.
 fallen-then : (mark mark1 mark2 : ℕ) (es es1 es2 : List FreeEntry) → ((d : ℕ) → listed es1 d ≤ listed es d) → ((d : ℕ) → listed es2 d ≤ listed es1 d) → (mark1 ≡ mark) ⊎ (listed es1 mark1 < listed es mark1) → (mark2 ≡ mark1) ⊎ (listed es2 mark2 < listed es1 mark2)
@@ -230,7 +226,7 @@ module _ {S : Type 0} (state : S → StorageState) (table : TableValue) where
         room = record { tables = second.room.tables ∙ first.room.tables; blocks = second.room.blocks ∙ first.room.blocks; entries = second.room.entries ∙ first.room.entries };
         less = λ d. let l = first.less d in let l' = second.less d in omega (arith, l, l');
         fewer = omega (arith, few, few');
-        cause = counts-then _ _ _ _ _ _ _ (λ holds. (on holds.0, (first.quiet.holds holds.0 holds.1 (inl tt)).0)) (spare-on A B first.pins first.room.blocks) first.cause result second.cause;
+        cause = fails-weaker _ _ (freeing-weaker (λ holds. (on holds.0, (first.quiet.holds holds.0 holds.1 (inl tt)).0)) (spare-on A B first.pins first.room.blocks) first.cause) (λ same. same ∙ first.cause) result second.cause;
       }
     where
       behind : IsTrue (state fA.image).shape.keeps → IsSound (metadata_of state fA A table es) → IsWholeOrCalm result (state fA.image) (state fC.image) → IsWholeOrCalm result (state fB.image) (state fC.image)

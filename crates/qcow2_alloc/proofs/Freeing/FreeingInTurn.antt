@@ -7,7 +7,6 @@ use Rattle.std.proofs.lemmas.List.Quantifiers.{position-Some}
 use Rattle.imago_storage.specs.Calls.{IsFaultless}
 use Rattle.imago_storage.specs.State.{StorageState}
 use Rattle.imago_storage.specs.declared.fault.Fault.{Fault}
-use Rattle.imago_storage.specs.declared.fault.Fault.TheVariants.{Memory, Storage, DamagedTable}
 use Rattle.qcow2_types.specs.Bytes.{Bytes, bytes_of}
 use Rattle.qcow2_types.specs.Header.{Header}
 use Rattle.qcow2_types.specs.Counts.{count}
@@ -18,14 +17,17 @@ use Rattle.qcow2_alloc.specs.declared.cache.MetadataCaches.{MetadataCaches}
 use Rattle.qcow2_alloc.specs.declared.file.ImageFile.{ImageFile}
 use Rattle.qcow2_alloc.specs.Allocators.{metadata_of}
 use Rattle.qcow2_alloc.specs.Caches.{cached_in, order_of, HasRoomOf}
+use Rattle.qcow2_alloc.specs.Causes.{FailsFor}
 use Rattle.qcow2_alloc.specs.Finding.{PinsNothing}
-use Rattle.qcow2_alloc.specs.Freeing.{Frees, HasSpareRoom, IsMarked, IsWholeOrCalm, WhyNotFreed, data_in}
+use Rattle.qcow2_alloc.specs.Freeing.{Frees, IsMarked, IsWholeOrCalm, data_in}
 use Rattle.qcow2_alloc.specs.FreeList.{entry_at}
-use Rattle.qcow2_alloc.specs.Going.{Going, Always, IsMild, IsNoShorter, AreBlocksInReach, CountsWrites, WhyNotWritten, WasNotCutOff}
+use Rattle.qcow2_alloc.specs.Going.{Going, Always, IsNoShorter, AreBlocksInReach, WasNotCutOff, writing_causes}
 use Rattle.qcow2_alloc.specs.Memory.{Cached, memory, written, written_block}
 use Rattle.qcow2_alloc.specs.Quiet.{Metadata, IsSound, Quietly, metadata_in}
 use Rattle.qcow2_alloc.specs.Safety.{Safe, IsCalm}
-use Rattle.qcow2_alloc.specs.State.{ImageState, lent, metadata, IsKept}
+use Rattle.qcow2_alloc.specs.State.{ImageState, lent, metadata}
+use Rattle.qcow2_alloc.proofs.Flushing.Counting.{never-refused, writing-implies}
+use Rattle.qcow2_alloc.proofs.Causes.{cause-weaker}
 use Rattle.qcow2_alloc.proofs.Caching.Loose.{kept-tables}
 use Rattle.qcow2_alloc.proofs.Caching.Pins.{pins-written}
 use Rattle.qcow2_alloc.proofs.Quiet.QuietAnnouncing.{announced-quietly, whole-quietly}
@@ -47,19 +49,6 @@ module _ {S : Type 0} (state : S → StorageState) (s : ImageState S) (new : Met
   pins-still : PinsNothing (cached_in s.caches).blocks (cached_in new).blocks
   pins-still = pins-written written_block (λ e. e.0) (λ e. e.1.pins) (λ e. (refl, refl)) (cached_in s.caches).blocks (cached_in new).blocks (ap (λ (c : Cached). c.blocks) kept)
 
-  never : (fault : Fault) → IsSound Old → IsMild fault → WhyNotWritten (AreBlocksInReach (cached_in s.caches)) (state s.file.image).faults (state after.image).faults fault → ⊥
-  never Memory sound mild why = mild
-  never Storage sound mild why = mild
-  never DamagedTable sound mild why = why (safe-reach _ _ _ _ sound.safe).1
-  never other sound mild why = why
-
-  caused : (fault : Fault) → WhyNotWritten (AreBlocksInReach (cached_in s.caches)) (state s.file.image).faults (state after.image).faults fault
-      → WhyNotFreed (IsKept state s) (HasSpareRoom s.caches) (state s.file.image).faults (state after.image).faults fault
-  caused Memory why = tt
-  caused Storage why = why
-  caused DamagedTable why = λ holds. why (safe-reach _ _ _ _ holds.1.safe).1
-  caused other why = absurd why
-
   abbrev Succeeds : Result Unit Fault → Type 0
   Succeeds result = result ≡ Ok tt
 
@@ -70,7 +59,7 @@ module _ {S : Type 0} (state : S → StorageState) (s : ImageState S) (new : Met
       subst (λ (h : Header). 0 < count (memory (bytes_of (state after.image).bytes) h.fields (cached_in new)) h.fields d) (sym header) (subst (λ (g : Bytes). 0 < count g s.file.header.fields d) (sym settled.memory_same) was)
 
   pub announcing-frees : (result : Result Unit Fault) → Goes result → OnOk result (order_of new ≡ RbDependsOnL2) → OnErr result (order_of new ≡ order_of s.caches) → OnOk result ((f : Bytes) (H : Header) → Safe f H (cached_in new) (order_of s.caches) → Safe f H (cached_in new) RbDependsOnL2)
-      → CountsWrites (AreBlocksInReach (cached_in s.caches)) (state s.file.image).faults (state after.image).faults result → (WasNotCutOff result → IsFaultless (state s.file.image) (state after.image))
+      → FailsFor (writing_causes (AreBlocksInReach (cached_in s.caches)) (state s.file.image).faults (state after.image).faults) result → (WasNotCutOff result → IsFaultless (state s.file.image) (state after.image))
       → IsNoShorter (state s.file.image) (state after.image) → Frees state mark s result (lent s.table new after s.pending) mark
   announcing-frees (Ok done) going order stays safe counts faultless long =
       let announced = announced-quietly Old RbDependsOnL2 (Ok tt) (state s.file.image) (state after.image) (cached_in new) refl going safe in
@@ -94,7 +83,7 @@ module _ {S : Type 0} (state : S → StorageState) (s : ImageState S) (new : Met
   announcing-frees (Err fault) going order stays safe why faultless long =
       let flushed = flushes-quietly Old (Succeeds (Err fault)) (state s.file.image) (state after.image) (cached_in new) refl going in
       let cut : IsSound Old → IsWholeOrCalm (Err fault) (state s.file.image) (state after.image) → Succeeds (Err fault) ⊎ IsCalm (state s.file.image) (state after.image) =
-      λ sound why'. elim why' [ inl mild ↦ absurd (never fault sound mild why) | inr calm ↦ inr calm ] in
+      λ sound why'. elim why' [ inl mild ↦ absurd (never-refused _ _ _ fault (safe-reach _ _ _ _ sound.safe).1 mild why) | inr calm ↦ inr calm ] in
       record {
         faults = faultless;
         quiet = quietly-weaker _ _ (λ _. 0) (λ _. 0) (state s.file.image) Old (state after.image) New cut
@@ -109,7 +98,7 @@ module _ {S : Type 0} (state : S → StorageState) (s : ImageState S) (new : Met
         room = kept-tables s.caches new kept room;
         less = λ d. omega arith;
         fewer = omega arith;
-        cause = caused fault why;
+        cause = cause-weaker (writing-implies _ (omega arith) (omega arith) (λ far holds. far (safe-reach _ _ _ _ holds.1.safe).1)) fault why;
       }
 
 -- The entries that held metadata are found one by one.

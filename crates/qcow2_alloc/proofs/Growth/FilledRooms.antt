@@ -34,6 +34,7 @@ use Rattle.qcow2_alloc.specs.MakingRoom.{run_of, rank, formerly, newly_counted, 
 use Rattle.qcow2_alloc.specs.MovingTables.{waiting_then, clusters_of, naming_table, MovesTable, IsPlan, IsTaken, IsUncounted, TakesRoom, FillsRoom}
 use Rattle.qcow2_alloc.specs.Quiet.{Metadata, in_memory, counted, waiting, IsUsed, IsSound, Quietly}
 use Rattle.qcow2_alloc.specs.State.{ImageState, lent, metadata}
+use Rattle.qcow2_alloc.proofs.Causes.{storage-cause}
 use Rattle.qcow2_alloc.proofs.Blocks.CountingClusters.{succeeded}
 use Rattle.qcow2_alloc.proofs.Blocks.CountingRuns.{covers-behind}
 use Rattle.qcow2_alloc.proofs.Searching.FreeClusters.{uncounted-free}
@@ -50,7 +51,7 @@ use Rattle.qcow2_alloc.proofs.Quiet.QuietFlushes.{quietly-weaker}
 use Rattle.qcow2_alloc.proofs.Growth.SwitchedRooms.{part_named, old_run, old-run-is, old-run-unused, part-is, header-is, pointer-quietly, waits-quietly, counts-filled}
 use Rattle.qcow2_types.proofs.Counting.Parts.{block-inside}
 use Rattle.qcow2_alloc.proofs.Memory.Patches.{shaped-in}
-use Rattle.qcow2_alloc.proofs.Growth.TakingRoom.{Given, ours, ours-unused, sound-then, why-caused}
+use Rattle.qcow2_alloc.proofs.Growth.TakingRoom.{Given, ours, ours-unused, sound-then}
 use Rattle.qcow2_alloc.proofs.Growth.UnfilledRooms.{not-filled}
 use Rattle.qcow2_alloc.proofs.Growth.WrittenTables.{table-written}
 
@@ -180,7 +181,7 @@ module _ {S : Type 0} (state : S → StorageState) (image : ImageState S) (run :
         counts = λ e keeps sound. tt;
         table_is = tt;
         stays = λ mild. absurd (never-mild _ _ fault cause mild);
-        cause = why-caused _ _ _ _ _ faults5 fault cause;
+        cause = storage-cause _ _ _ (omega (arith, faults5)) (omega arith) fault cause;
       }
     where
       put-refused : (a b : StorageState) (at : ℕ) (bytes : List ℕ) (r : Result Unit Fault) → Put a b at bytes r → (fault : Fault) → r ≡ Err fault → Cause a.faults b.faults fault

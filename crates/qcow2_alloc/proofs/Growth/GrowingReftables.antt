@@ -1,6 +1,6 @@
 -- The refcount table grows once the order of writes was announced.
 use Rattle.std.proofs.Common.{inl, ◌≡◌, ℕ, ◌++◌, refl, ap, subst, ◌∙◌, length, Result, Ok, Err, Bool, true}
-use Rattle.std.specs.Prelude.{IsTrue, OnOk, IfErr, MatchResult}
+use Rattle.std.specs.Prelude.{IsTrue, OnOk, IfErr}
 use Rattle.imago_storage.specs.State.{StorageState}
 use Rattle.imago_storage.specs.declared.fault.Fault.{Fault}
 use Rattle.imago_storage.specs.declared.fault.Fault.TheVariants.{Memory, DamagedTable, Limit}
@@ -11,9 +11,10 @@ use Rattle.qcow2_metadata.specs.Growth.{IsGrownLength}
 use Rattle.qcow2_alloc.specs.declared.cache.CacheDependency.TheVariants.{L2DependsOnRb}
 use Rattle.qcow2_alloc.specs.declared.cache.MetadataCaches.{MetadataCaches}
 use Rattle.qcow2_alloc.specs.declared.file.ImageFile.{ImageFile}
-use Rattle.qcow2_alloc.specs.Allocating.{MovedTable, WhyNotAllocated}
+use Rattle.qcow2_alloc.specs.Allocating.{MovedTable, allocating_causes}
 use Rattle.qcow2_alloc.specs.Allocators.{metadata_of}
 use Rattle.qcow2_alloc.specs.Caches.{order_of, KeepsTables}
+use Rattle.qcow2_alloc.specs.Causes.{HasCause}
 use Rattle.qcow2_alloc.specs.Freeing.{IsLoose}
 use Rattle.qcow2_alloc.specs.Going.{IsMild, WasNotCutOff}
 use Rattle.qcow2_alloc.specs.GrowingTables.{GrowsTable, NoPlaceToGrow, TableGrown, table_run}
@@ -21,12 +22,13 @@ use Rattle.qcow2_alloc.specs.HandingOut.{GrowsReftable, StaysInShape}
 use Rattle.qcow2_alloc.specs.MovingTables.{WhyNotGrown}
 use Rattle.qcow2_alloc.specs.Quiet.{Metadata, IsSound}
 use Rattle.qcow2_alloc.specs.State.{ImageState, lent, metadata, IsKept}
+use Rattle.qcow2_alloc.proofs.Causes.{cause-weaker, fails-weaker}
+use Rattle.qcow2_alloc.proofs.Blocks.MadeBlocks.{freeing-allocates}
 use Rattle.qcow2_alloc.proofs.Handing.Allocating.{moved-none}
-use Rattle.qcow2_alloc.proofs.Handing.AnnouncedOrders.{Announced, no-place-as, grown-as, quiet-behind, sound-behind, raised-behind, caused-behind}
+use Rattle.qcow2_alloc.proofs.Handing.AnnouncedOrders.{Announced, no-place-as, grown-as, quiet-behind, sound-behind, raised-behind, allocates-behind}
 use Rattle.qcow2_alloc.proofs.Flushing.Faultless.{faultless-then}
 use Rattle.qcow2_alloc.proofs.Freeing.FreeingEntries.{failed}
 use Rattle.qcow2_alloc.proofs.Caching.Loose.{loose-all}
-use Rattle.qcow2_alloc.proofs.Blocks.MadeBlocks.{allocated-wider}
 use Rattle.qcow2_alloc.proofs.Quiet.QuietFlushes.{memory-quietly, quiet-none}
 use Rattle.qcow2_alloc.proofs.Blocks.ReadyingBlocks.{leaks-none}
 
@@ -64,7 +66,7 @@ module _ {S : Type 0} (state : S → StorageState) (mark at : ℕ) (s : ImageSta
     cause = by-fault fault why;
   }
     where
-      by-fault : (f : Fault) → WhyNotGrown s.file.header.fields s.table at f → WhyNotAllocated (IsKept state s) (IsLoose s.table s.caches) (λ number. IsTrue (state s.file.image).shape.keeps → IsSound Start → NoPlaceToGrow Start mark at number) (state s.file.image).faults (state s.file.image).faults f
+      by-fault : (f : Fault) → WhyNotGrown s.file.header.fields s.table at f → HasCause (allocating_causes (IsKept state s) (IsLoose s.table s.caches) (λ number. IsTrue (state s.file.image).shape.keeps → IsSound Start → NoPlaceToGrow Start mark at number) (state s.file.image).faults (state s.file.image).faults) f
       by-fault Memory why = tt
       by-fault DamagedTable why = λ known. why (ap (λ (l : Layout). l.cluster_bits) known.1.table.layout)
       by-fault (Limit number) why = (λ keeps sound. inl why, refl)
@@ -85,7 +87,7 @@ module _ {S : Type 0} (state : S → StorageState) (mark at : ℕ) (s : ImageSta
     waits = tt;
     kept = refl;
     stays = λ mild. (refl, first.header);
-    cause = allocated-wider _ _ _ _ _ _ _ _ (λ holds. holds) (loose-all s.table s.caches) refl fault first.cause;
+    cause = cause-weaker (freeing-allocates (λ holds. holds) (λ u. loose-all s.table s.caches u.0 u.2) refl) fault first.cause;
   }
 
   -- and else it grows as it does under that order.
@@ -115,18 +117,6 @@ module _ {S : Type 0} (state : S → StorageState) (mark at : ℕ) (s : ImageSta
     stays (Ok done) is = tt
     stays (Err fault) is = λ mild. let both = is mild in (both.0, both.1 ∙ first.header)
 
-    caused : (r : Result Unit Fault)
-        → MatchResult r (λ _. (state s'.file.image).faults ≡ (state between.image).faults)
-        (WhyNotAllocated (IsTrue (state between.image).shape.keeps × (order_of mid ≡ L2DependsOnRb) × IsSound Mid) (IsLoose s.table mid)
-        (λ number. order_of mid ≡ L2DependsOnRb → IsTrue (state between.image).shape.keeps → IsSound Mid → NoPlaceToGrow Mid mark at number) (state between.image).faults (state s'.file.image).faults)
-        → MatchResult r (λ _. (state s'.file.image).faults ≡ (state s.file.image).faults)
-        (WhyNotAllocated (IsKept state s) (IsLoose s.table s.caches)
-        (λ number. IsTrue (state s.file.image).shape.keeps → IsSound Start → NoPlaceToGrow Start mark at number) (state s.file.image).faults (state s'.file.image).faults)
-    caused (Ok done) same = same ∙ first.cause
-    caused (Err fault) why =
-        caused-behind state s mid between first _ _ (state s'.file.image).faults
-        (λ number full keeps sound. let still = sound-behind state s mid between first keeps sound in no-place-as Start Mid first.header refl (first.counts keeps sound tt) mark at number (full first.order still.0 still.1)) fault why
-
     pub announced-grows : GrowsReftable state mark at s result s'
     announced-grows = record {
       leaked = grows.leaked;
@@ -142,5 +132,6 @@ module _ {S : Type 0} (state : S → StorageState) (mark at : ℕ) (s : ImageSta
       waits = waits result grows.waits;
       kept = grows.kept;
       stays = stays result grows.stays;
-      cause = caused result grows.cause;
+      cause = fails-weaker _ _ (allocates-behind state s mid between first (λ number full keeps sound. let still = sound-behind state s mid between first keeps sound in no-place-as Start Mid first.header refl (first.counts keeps sound tt) mark at number (full first.order still.0 still.1)))
+          (λ same. same ∙ first.cause) result grows.cause;
     }

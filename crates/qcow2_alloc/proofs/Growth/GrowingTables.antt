@@ -1,6 +1,6 @@
 -- The refcount table grows, from the first of the call to its last.
 use Rattle.std.proofs.Common.{◌≡◌, ◌≢◌, ℕ, ◌+◌, ◌-◌, ◌*◌, ◌/◌, ◌^◌, ◌≤◌, ◌++◌, refl, arith, ap, sym, subst, ◌∙◌, length, inl, inr, Result, Ok, Err, false, true}
-use Rattle.std.specs.Prelude.{⊤, IsTrue, OnOk, OnErr, IfErr, MatchResult, min, slice_index}
+use Rattle.std.specs.Prelude.{⊤, IsTrue, OnOk, OnErr, IfErr, min, slice_index}
 use Rattle.std.proofs.lemmas.Bool.{cases_Bool}
 use Rattle.imago_storage.specs.State.{StorageState}
 use Rattle.imago_storage.specs.declared.fault.Fault.{Fault}
@@ -15,11 +15,12 @@ use Rattle.qcow2_alloc.specs.declared.allocation.searching.Run.{Run}
 use Rattle.qcow2_alloc.specs.declared.cache.CacheDependency.TheVariants.{L2DependsOnRb}
 use Rattle.qcow2_alloc.specs.declared.cache.MetadataCaches.{MetadataCaches}
 use Rattle.qcow2_alloc.specs.declared.file.ImageFile.{ImageFile}
-use Rattle.qcow2_alloc.specs.Allocating.{Allocating, MovedTable, WhyNotAllocated}
+use Rattle.qcow2_alloc.specs.Allocating.{Allocating, MovedTable, allocating_causes}
 use Rattle.qcow2_alloc.specs.Allocators.{metadata_of}
 use Rattle.qcow2_alloc.specs.Caches.{order_of, cached_file}
+use Rattle.qcow2_alloc.specs.Causes.{HasCause, FailsFor}
 use Rattle.qcow2_alloc.specs.FreeList.{covers}
-use Rattle.qcow2_alloc.specs.Freeing.{IsLoose, WhyNotCounted}
+use Rattle.qcow2_alloc.specs.Freeing.{IsLoose, counting_causes}
 use Rattle.qcow2_alloc.specs.Going.{WasNotCutOff, IsMild}
 use Rattle.qcow2_alloc.specs.Growing.{lacks, IsFirstRoom, LooksForRoom}
 use Rattle.qcow2_alloc.specs.GrowingTables.{GrowsTable, TableGrown, IsRoomToGrow, IsRoomInReach, NoPlaceToGrow, room_from, table_run}
@@ -28,12 +29,13 @@ use Rattle.qcow2_alloc.specs.MovingTables.{clusters_of, IsPlan, WhyNotGrown, Why
 use Rattle.qcow2_alloc.specs.Quiet.{Metadata, counted, IsSound}
 use Rattle.qcow2_alloc.specs.SearchingClusters.{IsSafeWith, Looked}
 use Rattle.qcow2_alloc.specs.State.{ImageState, lent, metadata}
+use Rattle.qcow2_alloc.proofs.Causes.{cause-weaker, fails-weaker}
 use Rattle.qcow2_alloc.proofs.Handing.Allocating.{allocating-none, allocating-as}
 use Rattle.qcow2_alloc.proofs.Flushing.Faultless.{faultless-then}
 use Rattle.qcow2_alloc.proofs.Searching.LookingAt.{counts-looked, looked-allocates}
 use Rattle.qcow2_alloc.proofs.Freeing.FreeingEntries.{failed}
 use Rattle.qcow2_alloc.proofs.Caching.Loose.{loose-all}
-use Rattle.qcow2_alloc.proofs.Blocks.MadeBlocks.{first-counted, can-name, allocated-wider, counted-wider}
+use Rattle.qcow2_alloc.proofs.Blocks.MadeBlocks.{first-counted, can-name, counting-allocates, freeing-allocates}
 use Rattle.qcow2_alloc.proofs.Quiet.QuietGiven.{quietly-given, quietly-then-given}
 use Rattle.qcow2_alloc.proofs.Quiet.QuietThen.{quietly-otherwise}
 
@@ -56,7 +58,7 @@ module _ {S : Type 0} (state : S → StorageState) (mark at : ℕ) (image : Imag
   -- It is refused, and nothing was counted.
   not-grown : (fault : Fault) (C : MetadataCaches S) (fC : ImageFile S) → Allocating state (IsMild fault) (λ _. 0) image (lent image.table C fC image.pending) → fC.header ≡ image.file.header
       → (Keeps → IsSound start → (number : ℕ) → fault ≡ Limit number → (c : ℕ) → counted (metadata_of state fC C image.table image.pending) c ≡ counted start c)
-      → WhyNotAllocated Sound (IsLoose image.table image.caches) Full (state image.file.image).faults (state fC.image).faults fault → GrowsTable state mark at image (failed fault) (lent image.table C fC image.pending)
+      → HasCause (allocating_causes Sound (IsLoose image.table image.caches) Full (state image.file.image).faults (state fC.image).faults) fault → GrowsTable state mark at image (failed fault) (lent image.table C fC image.pending)
   not-grown fault C fC step header same why = record {
     leaked = λ _. 0;
     leaks = record { none = λ not c. refl; pinned = λ holds loose c. refl };
@@ -74,7 +76,7 @@ module _ {S : Type 0} (state : S → StorageState) (mark at : ℕ) (image : Imag
   pub no-copy : (fault : Fault) → WhyNotGrown image.file.header.fields image.table at fault → GrowsTable state mark at image (failed fault) image
   no-copy fault why = not-grown fault image.caches image.file (allocating-as state ⊤ (IsMild fault) (λ _. 0) (λ _. 0) image image (λ mild. tt) (λ c. refl) (allocating-none state image)) refl (λ keeps sound number is c. refl) (by-fault fault why)
     where
-      by-fault : (fault : Fault) → WhyNotGrown image.file.header.fields image.table at fault → WhyNotAllocated Sound (IsLoose image.table image.caches) Full (state image.file.image).faults (state image.file.image).faults fault
+      by-fault : (fault : Fault) → WhyNotGrown image.file.header.fields image.table at fault → HasCause (allocating_causes Sound (IsLoose image.table image.caches) Full (state image.file.image).faults (state image.file.image).faults) fault
       by-fault Memory why = tt
       by-fault DamagedTable why = λ known. why (ap (λ (l : Layout). l.cluster_bits) known.2.table.layout)
       by-fault (Limit number) why = (λ order keeps sound. inl why, refl)
@@ -85,7 +87,7 @@ module _ {S : Type 0} (state : S → StorageState) (mark at : ℕ) (image : Imag
   no-room fault C fC looked =
       not-grown fault C fC (looked-allocates state image Run (Err fault) C fC looked) looked.header
       (λ keeps sound number is. counts-looked state image Run (Err fault) C fC looked keeps sound (subst (λ (f : Fault). WasNotCutOff {T = Run} (Err f)) (sym is) tt))
-      (allocated-wider _ _ _ _ _ _ _ _ (λ known. safe-with known.0 known.2) (loose-all image.table image.caches) refl fault looked.cause)
+      (cause-weaker (freeing-allocates (λ known. safe-with known.0 known.2) (λ u. loose-all image.table image.caches u.0 u.2) refl) fault looked.cause)
 
   -- A room was found for a copy.
   module _ (room : Run) (copy : TableValue) (from n : ℕ) (C : MetadataCaches S) (fC : ImageFile S) (looks : LooksForRoom state image.table from n (cached_file image.caches image.file) (Ok room) (cached_file C fC)) (from_is : from ≡ min mark (length image.table.words * counters_of_block image.file.header.fields))
@@ -122,7 +124,7 @@ module _ {S : Type 0} (state : S → StorageState) (mark at : ℕ) (image : Imag
             let one = first-counted start known.2 in
             omega (arith, first, one)
 
-        by-fault : (fault : Fault) → WhyNotPlaced h image.table room copy fault → WhyNotAllocated Sound (IsLoose image.table image.caches) Full (state image.file.image).faults (state fC.image).faults fault
+        by-fault : (fault : Fault) → WhyNotPlaced h image.table room copy fault → HasCause (allocating_causes Sound (IsLoose image.table image.caches) Full (state image.file.image).faults (state fC.image).faults) fault
         by-fault Memory why = tt
         by-fault DamagedTable why = λ known. why (behind known, can-name start known.2 (room.first + (room.len - 1)) (λ none. behind known (omega (arith, none))))
         by-fault (Limit number) why = (
@@ -232,16 +234,11 @@ module _ {S : Type 0} (state : S → StorageState) (mark at : ℕ) (image : Imag
         waits = subst (λ (H : Header). OnOk result (sD.pending ≡ image.pending ++ table_run H.fields)) looked.header waits;
         kept = kept;
         stays = subst (λ (H : Header). IfErr result (λ fault. IsMild fault → (sD.table ≡ image.table) × (sD.file.header ≡ H))) looked.header filled.stays;
-        cause = caused result filled.cause;
+        cause = fails-weaker _ _ (counting-allocates was-on looked.loose looked.cause) (λ same. same ∙ looked.cause) result filled.cause;
       }
         where
           was-on : Sound → Was × IsTrue (state fC.image).shape.keeps × IsSound mid
           was-on known = ((known.1, known.0, known.2), on known.0, mid-sound known.1 known.0 known.2)
 
-          never : (r : Result Unit Fault) (number : ℕ) → r ≡ Err (Limit number) → MatchResult r (λ _. (state sD.file.image).faults ≡ (state fC.image).faults) (WhyNotCounted (Was × IsTrue (state fC.image).shape.keeps × IsSound mid) (IsLoose image.table C) (state fC.image).faults (state sD.file.image).faults) → ⊥
-          never r number is why = subst (λ (x : Result Unit Fault). MatchResult x (λ _. (state sD.file.image).faults ≡ (state fC.image).faults) (WhyNotCounted (Was × IsTrue (state fC.image).shape.keeps × IsSound mid) (IsLoose image.table C) (state fC.image).faults (state sD.file.image).faults)) is why
-
-          caused : (r : Result Unit Fault) → MatchResult r (λ _. (state sD.file.image).faults ≡ (state fC.image).faults) (WhyNotCounted (Was × IsTrue (state fC.image).shape.keeps × IsSound mid) (IsLoose image.table C) (state fC.image).faults (state sD.file.image).faults)
-              → MatchResult r (λ _. (state sD.file.image).faults ≡ (state image.file.image).faults) (WhyNotAllocated Sound (IsLoose image.table image.caches) Full (state image.file.image).faults (state sD.file.image).faults)
-          caused (Ok done) count = count ∙ looked.cause
-          caused (Err fault) why = counted-wider _ _ _ _ _ _ _ _ was-on looked.loose looked.cause fault why
+          never : (r : Result Unit Fault) (number : ℕ) → r ≡ Err (Limit number) → FailsFor (counting_causes (Was × IsTrue (state fC.image).shape.keeps × IsSound mid) (IsLoose image.table C) (state fC.image).faults (state sD.file.image).faults) r → ⊥
+          never r number is why = subst (λ (x : Result Unit Fault). FailsFor (counting_causes (Was × IsTrue (state fC.image).shape.keeps × IsSound mid) (IsLoose image.table C) (state fC.image).faults (state sD.file.image).faults) x) is why

@@ -1,12 +1,12 @@
 -- The room for a refcount table is taken: counted, flushed, forgotten and written, one step behind the other.
 use Rattle.std.proofs.Common.{◌≡◌, ℕ, ◌+◌, ◌*◌, ◌<◌, ◌≤◌, refl, arith, ap, sym, subst, ◌∙◌, inl, inr, Result, Ok, Err, None}
-use Rattle.std.specs.Prelude.{⊤, IsTrue, OnOk, IfErr, MatchResult, nat_eq}
+use Rattle.std.specs.Prelude.{⊤, IsTrue, OnOk, IfErr, nat_eq}
 use Rattle.std.specs.Map.{lookup}
 use Rattle.std.proofs.lemmas.Bool.{cases_lt}
-use Rattle.imago_storage.specs.State.{StorageState, Rose}
-use Rattle.imago_storage.specs.Calls.{Later, Cause, IsFaultless}
+use Rattle.imago_storage.specs.State.{StorageState}
+use Rattle.imago_storage.specs.Calls.{Later, IsFaultless}
 use Rattle.imago_storage.specs.declared.fault.Fault.{Fault}
-use Rattle.imago_storage.specs.declared.fault.Fault.TheVariants.{Memory, Storage, DamagedTable, CacheFull, Counter}
+use Rattle.imago_storage.specs.declared.fault.Fault.TheVariants.{CacheFull}
 use Rattle.imago_storage.proofs.Composing.{keeps_on, later_both, later_same}
 use Rattle.qcow2_types.specs.Bytes.{bytes_of}
 use Rattle.qcow2_types.specs.Counts.{count, counters_of_block}
@@ -19,10 +19,11 @@ use Rattle.qcow2_alloc.specs.declared.file.ImageFile.{ImageFile}
 use Rattle.qcow2_alloc.specs.Allocating.{CountsNamed, named_part}
 use Rattle.qcow2_alloc.specs.Allocators.{metadata_of}
 use Rattle.qcow2_alloc.specs.Caches.{cached_in, order_of, HasRoomOf, KeepsTables}
+use Rattle.qcow2_alloc.specs.Causes.{HasCause, FailsFor}
 use Rattle.qcow2_alloc.specs.Finding.{PinsNothing}
 use Rattle.qcow2_alloc.specs.FreeList.{covers}
-use Rattle.qcow2_alloc.specs.Freeing.{IsLoose, WhyNotCounted, WhyNotFreed}
-use Rattle.qcow2_alloc.specs.Going.{Going, Always, WasNotCutOff, CountsWrites, AreTablesInReach, AreBlocksInReach, WhyNotWritten}
+use Rattle.qcow2_alloc.specs.Freeing.{IsLoose, counting_causes}
+use Rattle.qcow2_alloc.specs.Going.{Going, Always, WasNotCutOff, AreTablesInReach, AreBlocksInReach, writing_causes}
 use Rattle.qcow2_alloc.specs.Growing.{lacks, lacking}
 use Rattle.qcow2_alloc.specs.MakingRoom.{run_of, rank}
 use Rattle.qcow2_alloc.specs.Memory.{Cached, written, written_block}
@@ -31,13 +32,15 @@ use Rattle.qcow2_alloc.specs.NewBlocks.{MayWrite, WritesLacking}
 use Rattle.qcow2_alloc.specs.Quiet.{Metadata, counted, named_at_all, IsUsed, IsSound, Quietly}
 use Rattle.qcow2_alloc.specs.Safety.{AreBlocksClean}
 use Rattle.qcow2_alloc.specs.State.{ImageState, lent}
+use Rattle.qcow2_alloc.proofs.Flushing.Counting.{writing-implies}
+use Rattle.qcow2_alloc.proofs.Causes.{fails-weaker, storage-fails}
 use Rattle.qcow2_alloc.proofs.Blocks.CountingClusters.{succeeded}
 use Rattle.qcow2_alloc.proofs.Blocks.CountingRuns.{covers-behind}
 use Rattle.qcow2_alloc.proofs.Flushing.Faultless.{faultless-then}
 use Rattle.qcow2_alloc.proofs.Caching.Forgetting.{never-unnamed}
 use Rattle.qcow2_alloc.proofs.Caching.ForgettingRuns.{memory-counts}
 use Rattle.qcow2_alloc.proofs.Searching.FreeClusters.{uncounted-free, flushes-count, clean-counts}
-use Rattle.qcow2_alloc.proofs.Freeing.FreeingEntries.{failed}
+use Rattle.qcow2_alloc.proofs.Freeing.FreeingEntries.{failed, counting-weaker}
 use Rattle.qcow2_alloc.proofs.Growth.GrownTables.{covers-inside, covers-before}
 use Rattle.qcow2_alloc.proofs.Caching.Loose.{kept-tables, StaysLoose, loose-on}
 use Rattle.qcow2_alloc.proofs.Blocks.NamingNewBlocks.{rank-before}
@@ -50,18 +53,6 @@ use Rattle.qcow2_alloc.proofs.Quiet.QuietNames.{quiet-names}
 use Rattle.qcow2_alloc.proofs.Quiet.QuietThen.{quietly-otherwise}
 use Rattle.qcow2_alloc.proofs.Memory.SafeLaws.{safe-reach}
 use Rattle.std.proofs.Math.Nat.{mul-le-mul}
-
--- A cause of writes is one of what frees, and so is one of a request.
-why-written : (sound reach loose : Type 0) (a b c : ℕ) → (sound → reach) → b ≡ a → (fault : Fault) → WhyNotWritten reach b c fault → WhyNotFreed sound loose a c fault
-why-written sound reach loose a b c from same Memory why = tt
-why-written sound reach loose a b c from same Storage why = subst (λ n. Rose n c) same why
-why-written sound reach loose a b c from same DamagedTable why = λ s. why (from s)
-why-written sound reach loose a b c from same other why = absurd why
-
-pub why-caused : (sound loose : Type 0) (a b c : ℕ) → b ≡ a → (fault : Fault) → Cause b c fault → WhyNotFreed sound loose a c fault
-why-caused sound loose a b c same Memory why = tt
-why-caused sound loose a b c same Storage why = subst (λ n. Rose n c) same why
-why-caused sound loose a b c same other why = absurd why
 
 module _ {S : Type 0} (state : S → StorageState) (start : ImageState S) (run : Run) where
   abbrev At : MetadataCaches S → ImageFile S → Metadata
@@ -120,7 +111,7 @@ module _ {S : Type 0} (state : S → StorageState) (start : ImageState S) (run :
 
     -- The next step goes on with it,
     pub counts-then : (result : Result Unit Fault) (D : MetadataCaches S) (fD : ImageFile S) → Next (WasNotCutOff result) C fC D fD
-        → MatchResult result (λ _. (state fD.image).faults ≡ (state fC.image).faults) (WhyNotCounted (Given × IsSound (At C fC)) (IsLoose start.table C) (state fC.image).faults (state fD.image).faults) → Counts result D fD
+        → FailsFor (counting_causes (Given × IsSound (At C fC)) (IsLoose start.table C) (state fC.image).faults (state fD.image).faults) result → Counts result D fD
     counts-then result D fD next cause =
         let part = counts.part in
         let handed = named_part start.table (counters_of_block start.file.header.fields) run.first counts.part in
@@ -145,7 +136,7 @@ module _ {S : Type 0} (state : S → StorageState) (start : ImageState S) (run :
           header = next.stays.header ∙ counts.header;
           loose = λ any loose. next.stays.loose any (counts.loose any loose);
           room = record { tables = next.stays.room.tables ∙ counts.room.tables; blocks = next.stays.room.blocks ∙ counts.room.blocks; entries = next.stays.room.entries ∙ counts.room.entries };
-          cause = caused result cause;
+          cause = fails-weaker _ _ (counting-weaker from counts.loose counts.cause) (λ same. same ∙ counts.cause) result cause;
         }
       where
         on-ok : (r : Result Unit Fault) → counts.part ≡ run.len → OnOk r (counts.part ≡ run.len)
@@ -155,24 +146,9 @@ module _ {S : Type 0} (state : S → StorageState) (start : ImageState S) (run :
         from : Keeps × (order_of start.caches ≡ L2DependsOnRb) × IsSound m0 × ((c : ℕ) → run.first ≤ c → c < run.first + run.len → (counted m0 c ≡ 0) × ⊤) → Given × IsSound (At C fC)
         from holds = let given : Given = (holds.0, holds.1, holds.2, λ c above below. (holds.3 c above below).0) in (given, sound-then given)
 
-        wider : (fault : Fault) → WhyNotCounted (Given × IsSound (At C fC)) (IsLoose start.table C) (state fC.image).faults (state fD.image).faults fault
-            → WhyNotCounted (Keeps × (order_of start.caches ≡ L2DependsOnRb) × IsSound m0 × ((c : ℕ) → run.first ≤ c → c < run.first + run.len → (counted m0 c ≡ 0) × ⊤)) (IsLoose start.table start.caches) (state start.file.image).faults (state fD.image).faults fault
-        wider Memory why = tt
-        wider Storage why = subst (λ n. Rose n (state fD.image).faults) counts.cause why
-        wider DamagedTable why = λ holds. why (from holds)
-        wider Counter why = λ holds. why (from holds)
-        wider CacheFull why = λ u. why (u.0, λ is. from (u.1 is), counts.loose u.0 u.2)
-        wider other why = absurd why
-
-        caused : (r : Result Unit Fault) → MatchResult r (λ _. (state fD.image).faults ≡ (state fC.image).faults) (WhyNotCounted (Given × IsSound (At C fC)) (IsLoose start.table C) (state fC.image).faults (state fD.image).faults)
-            → MatchResult r (λ _. (state fD.image).faults ≡ (state start.file.image).faults)
-            (WhyNotCounted (Keeps × (order_of start.caches ≡ L2DependsOnRb) × IsSound m0 × ((c : ℕ) → run.first ≤ c → c < run.first + run.len → (counted m0 c ≡ 0) × ⊤)) (IsLoose start.table start.caches) (state start.file.image).faults (state fD.image).faults)
-        caused (Ok done) same = same ∙ counts.cause
-        caused (Err fault) why = wider fault why
-
     -- where blocks are flushed,
     module _ (result : Result Unit Fault) (D : MetadataCaches S) (fD : ImageFile S) (going : Going fC.header (order_of C) Always (result ≡ Ok tt) (state fC.image) (cached_in C) (state fD.image) (cached_in D)) (kept : written (cached_in D) ≡ written (cached_in C))
-        (others : (D.order ≡ C.order) × (fD.header ≡ fC.header)) (room : HasRoomOf C D) (cause : CountsWrites (AreTablesInReach (cached_in C) × AreBlocksInReach (cached_in C)) (state fC.image).faults (state fD.image).faults result) where
+        (others : (D.order ≡ C.order) × (fD.header ≡ fC.header)) (room : HasRoomOf C D) (cause : FailsFor (writing_causes (AreTablesInReach (cached_in C) × AreBlocksInReach (cached_in C)) (state fC.image).faults (state fD.image).faults) result) where
       moved : (P : Metadata → Type 0) → P (record (At C fC) { file = bytes_of (state fD.image).bytes; cached = cached_in D }) → P (At D fD)
       moved P p =
           subst (λ (h : Header). P (record (At C fC) { file = bytes_of (state fD.image).bytes; cached = cached_in D; header = h; order = order_of D })) (sym others.1)
@@ -199,13 +175,9 @@ module _ {S : Type 0} (state : S → StorageState) (start : ImageState S) (run :
         };
       }
 
-      why : (r : Result Unit Fault) → CountsWrites (AreTablesInReach (cached_in C) × AreBlocksInReach (cached_in C)) (state fC.image).faults (state fD.image).faults r
-          → MatchResult r (λ _. (state fD.image).faults ≡ (state fC.image).faults) (WhyNotCounted (Given × IsSound (At C fC)) (IsLoose start.table C) (state fC.image).faults (state fD.image).faults)
-      why (Ok done) same = same
-      why (Err fault) not = why-written _ _ _ _ _ _ (λ holds. safe-reach (At C fC).file (At C fC).header (At C fC).cached (At C fC).order holds.1.safe) refl fault not
-
       pub flushed-then : (WasNotCutOff result → IsFaultless (state fC.image) (state fD.image)) → Counts result D fD
-      flushed-then faultless = counts-then result D fD (flushing faultless) (why result cause)
+      flushed-then faultless = counts-then result D fD (flushing faultless)
+          (fails-weaker _ _ (writing-implies _ (omega arith) (omega arith) (λ far holds. far (safe-reach (At C fC).file (At C fC).header (At C fC).cached (At C fC).order holds.1.safe))) (λ same. same) result cause)
 
     -- or forgotten,
     module _ (result : Result Unit Fault) (D : MetadataCaches S) (n : ℕ) (few : n ≤ run.len) (forgets : ForgetsRun run.first n (cached_in C) result (cached_in D)) (order : D.order ≡ C.order) (pins : PinsNothing (cached_in C).blocks (cached_in D).blocks) (room : KeepsTables C D)
@@ -233,9 +205,9 @@ module _ {S : Type 0} (state : S → StorageState) (start : ImageState S) (run :
 
       -- No block that the table names is in the run.
       why-full : (r : Result Unit Fault) → IfErr r (λ fault. (fault ≡ CacheFull) × IsPinnedWithin run.first n C)
-          → MatchResult r (λ _. (state fC.image).faults ≡ (state fC.image).faults) (WhyNotCounted (Given × IsSound (At C fC)) (IsLoose start.table C) (state fC.image).faults (state fC.image).faults)
+          → FailsFor (counting_causes (Given × IsSound (At C fC)) (IsLoose start.table C) (state fC.image).faults (state fC.image).faults) r
       why-full (Ok done) none = refl
-      why-full (Err fault) (is, (d, from, to, pinned)) = subst (λ (f : Fault). WhyNotCounted (Given × IsSound (At C fC)) (IsLoose start.table C) (state fC.image).faults (state fC.image).faults f) (sym is)
+      why-full (Err fault) (is, (d, from, to, pinned)) = subst (λ (f : Fault). HasCause (counting_causes (Given × IsSound (At C fC)) (IsLoose start.table C) (state fC.image).faults (state fC.image).faults) f) (sym is)
           (λ u. let there = u.2.named d pinned in let holds = u.1 there.0 in never-unnamed (At C fC) holds.1 d (unnamed-then holds.0 d from (omega (arith, to, few))) there.1)
 
       pub forgotten-then : Counts result D fC
@@ -263,13 +235,8 @@ module _ {S : Type 0} (state : S → StorageState) (start : ImageState S) (run :
         stays = record { header = header; order = refl; loose = λ any loose. loose; room = record { tables = refl; blocks = refl; entries = refl } };
       }
 
-      why-cut : (r : Result Unit Fault) → MatchResult r (λ _. (state fD.image).faults ≡ (state fC.image).faults) (Cause (state fC.image).faults (state fD.image).faults)
-          → MatchResult r (λ _. (state fD.image).faults ≡ (state fC.image).faults) (WhyNotCounted (Given × IsSound (At C fC)) (IsLoose start.table C) (state fC.image).faults (state fD.image).faults)
-      why-cut (Ok done) same = same
-      why-cut (Err fault) why = why-caused _ _ _ _ _ refl fault why
-
       pub written-then : Counts result C fD
-      written-then = counts-then result C fD writing (why-cut result writes.writes.cause)
+      written-then = counts-then result C fD writing (storage-fails _ _ _ (omega arith) (omega arith) (λ same. same) result writes.writes.cause)
 
       -- Then the run is taken.
       pub run-taken : (Given → (c : ℕ) → count (At C fC).file (At C fC).header.fields c ≡ counted (At C fC) c) → (0 < counters_of_block fC.header.fields)

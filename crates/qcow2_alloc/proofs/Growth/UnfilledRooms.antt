@@ -17,16 +17,18 @@ use Rattle.qcow2_alloc.specs.declared.file.ImageFile.{ImageFile}
 use Rattle.qcow2_alloc.specs.Allocating.{CountsNamed, named_part}
 use Rattle.qcow2_alloc.specs.Allocators.{metadata_of}
 use Rattle.qcow2_alloc.specs.Caches.{order_of}
+use Rattle.qcow2_alloc.specs.Causes.{HasCause}
 use Rattle.qcow2_alloc.specs.FreeList.{covers}
-use Rattle.qcow2_alloc.specs.Freeing.{IsLoose, WhyNotCounted}
+use Rattle.qcow2_alloc.specs.Freeing.{IsLoose, counting_causes}
 use Rattle.qcow2_alloc.specs.Going.{IsMild}
 use Rattle.qcow2_alloc.specs.MakingRoom.{run_of}
 use Rattle.qcow2_alloc.specs.MovingTables.{IsUncounted, FillsRoom}
 use Rattle.qcow2_alloc.specs.Quiet.{Metadata, counted, IsSound}
 use Rattle.qcow2_alloc.specs.State.{ImageState, lent, metadata}
+use Rattle.qcow2_alloc.proofs.Causes.{cause-weaker}
 use Rattle.qcow2_alloc.proofs.Handing.Allocating.{moved-none}
 use Rattle.qcow2_alloc.proofs.Blocks.CountingRuns.{covers-behind}
-use Rattle.qcow2_alloc.proofs.Freeing.FreeingEntries.{failed}
+use Rattle.qcow2_alloc.proofs.Freeing.FreeingEntries.{failed, counting-weaker}
 use Rattle.qcow2_alloc.proofs.Growth.GrownTables.{covers-inside, covers-before}
 use Rattle.qcow2_alloc.proofs.Quiet.QuietGiven.{quietly-given}
 use Rattle.qcow2_alloc.proofs.Quiet.QuietThen.{quiet-otherwise}
@@ -52,7 +54,7 @@ abbrev leaked-by : Fault → (ℕ → ℕ) → ℕ → ℕ
 leaked-by CacheFull handed c = handed c
 leaked-by fault handed c = 0
 
-leaked-same : (sound : Type 0) (loose : Bool → Type 0) (a b : ℕ) (fault : Fault) (handed : ℕ → ℕ) → IsMild fault → sound → WhyNotCounted sound loose a b fault → (c : ℕ) → handed c ≡ leaked-by fault handed c
+leaked-same : (sound : Type 0) (loose : Bool → Type 0) (a b : ℕ) (fault : Fault) (handed : ℕ → ℕ) → IsMild fault → sound → HasCause (counting_causes sound loose a b) fault → (c : ℕ) → handed c ≡ leaked-by fault handed c
 leaked-same sound loose a b Memory handed mild s why c = absurd mild
 leaked-same sound loose a b Storage handed mild s why c = absurd mild
 leaked-same sound loose a b DamagedTable handed mild s why c = absurd (why s)
@@ -64,17 +66,9 @@ leaked-none : (fault : Fault) (handed : ℕ → ℕ) → (failed fault ≡ Err C
 leaked-none CacheFull handed not c = absurd (not refl)
 leaked-none fault handed not c = refl
 
-leaked-pinned : (sound : Type 0) (loose : Bool → Type 0) (a b : ℕ) (fault : Fault) (handed : ℕ → ℕ) → sound → loose true → WhyNotCounted sound loose a b fault → (c : ℕ) → leaked-by fault handed c ≡ 0
+leaked-pinned : (sound : Type 0) (loose : Bool → Type 0) (a b : ℕ) (fault : Fault) (handed : ℕ → ℕ) → sound → loose true → HasCause (counting_causes sound loose a b) fault → (c : ℕ) → leaked-by fault handed c ≡ 0
 leaked-pinned sound loose a b CacheFull handed s l why c = absurd (why (true, λ is. s, l))
 leaked-pinned sound loose a b fault handed s l why c = refl
-
-why-from : (sound sound' : Type 0) (loose : Bool → Type 0) (a b : ℕ) → (sound' → sound) → (fault : Fault) → WhyNotCounted sound loose a b fault → WhyNotCounted sound' loose a b fault
-why-from sound sound' loose a b from Memory why = tt
-why-from sound sound' loose a b from Storage why = why
-why-from sound sound' loose a b from DamagedTable why = λ s. why (from s)
-why-from sound sound' loose a b from Counter why = λ s. why (from s)
-why-from sound sound' loose a b from CacheFull why = λ u. why (u.0, λ is. from (u.1 is), u.2)
-why-from sound sound' loose a b from other why = absurd why
 
 module _ {S : Type 0} (state : S → StorageState) (was : ImageState S) (run : Run) (copy : TableValue)
     (known : Type 0) (free : known → (order_of was.caches ≡ L2DependsOnRb) × IsUncounted (metadata state was) run) where
@@ -98,8 +92,8 @@ module _ {S : Type 0} (state : S → StorageState) (was : ImageState S) (run : R
     all-known : Sound → Keeps × (order_of was.caches ≡ L2DependsOnRb) × IsSound m0 × ((c : ℕ) → run.first ≤ c → c < run.first + run.len → (counted m0 c ≡ 0) × ⊤)
     all-known s = (s.1, (free s.0).0, s.2, λ c from to. ((free s.0).1 c from to, tt))
 
-    why : WhyNotCounted Sound (IsLoose was.table was.caches) (state was.file.image).faults (state fD.image).faults fault
-    why = why-from _ Sound _ _ _ all-known fault counts.cause
+    why : HasCause (counting_causes Sound (IsLoose was.table was.caches) (state was.file.image).faults (state fD.image).faults) fault
+    why = cause-weaker (counting-weaker all-known (λ any loose. loose) refl) fault counts.cause
 
     pub not-filled : FillsRoom state known run copy was (failed fault) (lent was.table D fD was.pending)
     not-filled = record {
@@ -134,7 +128,7 @@ module _ {S : Type 0} (state : S → StorageState) (was : ImageState S) (run : R
 
 -- Nothing was done.
 pub not-begun : {S : Type 0} (state : S → StorageState) (known : Type 0) (table : TableValue) (pending : List FreeEntry) (run : Run) (copy : TableValue) (caches : MetadataCaches S) (file : ImageFile S) (fault : Fault)
-    → WhyNotCounted (known × IsTrue (state file.image).shape.keeps × IsSound (metadata_of state file caches table pending)) (IsLoose table caches) (state file.image).faults (state file.image).faults fault
+    → HasCause (counting_causes (known × IsTrue (state file.image).shape.keeps × IsSound (metadata_of state file caches table pending)) (IsLoose table caches) (state file.image).faults (state file.image).faults) fault
     → FillsRoom state known run copy (lent table caches file pending) (failed fault) (lent table caches file pending)
 not-begun state known table pending run copy caches file fault why = record {
   leaked = λ _. 0;

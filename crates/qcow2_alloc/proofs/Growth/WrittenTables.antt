@@ -1,8 +1,7 @@
 -- A copy of the refcount table is written, where its room was taken.
-use Rattle.std.proofs.Common.{◌≡◌, ℕ, ◌+◌, ◌<◌, ◌≤◌, refl, arith, Result, Ok, Err}
-use Rattle.std.specs.Prelude.{IsTrue, MatchResult}
+use Rattle.std.proofs.Common.{ℕ, ◌+◌, ◌<◌, ◌≤◌, refl, arith, Result}
+use Rattle.std.specs.Prelude.{IsTrue}
 use Rattle.imago_storage.specs.State.{StorageState}
-use Rattle.imago_storage.specs.Calls.{Cause}
 use Rattle.imago_storage.specs.Through.{Put}
 use Rattle.imago_storage.specs.declared.fault.Fault.{Fault}
 use Rattle.imago_storage.proofs.Composing.{keeps_on}
@@ -13,18 +12,18 @@ use Rattle.qcow2_alloc.specs.declared.cache.MetadataCaches.{MetadataCaches}
 use Rattle.qcow2_alloc.specs.declared.file.ImageFile.{ImageFile}
 use Rattle.qcow2_alloc.specs.Allocating.{CountsNamed}
 use Rattle.qcow2_alloc.specs.Allocators.{metadata_of}
-use Rattle.qcow2_alloc.specs.Freeing.{IsLoose, WhyNotCounted}
 use Rattle.qcow2_alloc.specs.Going.{WasNotCutOff}
 use Rattle.qcow2_alloc.specs.MovingTables.{clusters_of, IsPlan, IsTaken, TakesRoom}
 use Rattle.qcow2_alloc.specs.Quiet.{Metadata, IsSound}
 use Rattle.qcow2_alloc.specs.State.{ImageState, lent}
+use Rattle.qcow2_alloc.proofs.Causes.{storage-fails}
 use Rattle.qcow2_alloc.proofs.Blocks.CountingClusters.{succeeded}
 use Rattle.qcow2_alloc.proofs.Flushing.Faultless.{put-faultless}
 use Rattle.qcow2_alloc.proofs.Growth.GrownTables.{covers-inside}
 use Rattle.qcow2_alloc.proofs.Quiet.AtOnce.{put-whole, put-done}
 use Rattle.qcow2_alloc.proofs.Growth.MovedTables.{table-quietly, table-counts}
 use Rattle.qcow2_alloc.proofs.Memory.Patches.{shaped-in}
-use Rattle.qcow2_alloc.proofs.Growth.TakingRoom.{Given, Next, ours, sound-then, counts-then, why-caused}
+use Rattle.qcow2_alloc.proofs.Growth.TakingRoom.{Given, Next, ours, sound-then, counts-then}
 use Rattle.qcow2_alloc.proofs.Blocks.WritingNewBlocks.{put-counts}
 
 -- The table is written, where the room was taken.
@@ -76,10 +75,5 @@ module _ {S : Type 0} (state : S → StorageState) (s : ImageState S) (run : Run
     stays = record { header = refl; order = refl; loose = λ any loose. loose; room = record { tables = refl; blocks = refl; entries = refl } };
   }
 
-  why-put : (r : Result Unit Fault) → MatchResult r (λ _. (state mid).faults ≡ (state fC.image).faults) (Cause (state fC.image).faults (state mid).faults)
-      → MatchResult r (λ _. (state mid).faults ≡ (state fC.image).faults) (WhyNotCounted (Known × IsSound m4) (IsLoose s.table C) (state fC.image).faults (state mid).faults)
-  why-put (Ok v) same = same
-  why-put (Err fault) cause = why-caused _ _ _ _ _ refl fault cause
-
   pub table-written : CountsNamed state run.first run.len s done (lent s.table C between s.pending)
-  table-written = counts-then state s run C fC takes.counts done C between table-next (why-put done (put-counts (state fC.image) (state mid) (table_place copy) (table_bytes copy.words) done put))
+  table-written = counts-then state s run C fC takes.counts done C between table-next (storage-fails _ _ _ (omega arith) (omega arith) (λ same. same) done (put-counts (state fC.image) (state mid) (table_place copy) (table_bytes copy.words) done put))

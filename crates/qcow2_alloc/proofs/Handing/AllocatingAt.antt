@@ -1,6 +1,6 @@
 -- One cluster is handed out where a search has found it free.
 use Rattle.std.proofs.Common.{◌≡◌, ◌≢◌, true, ℕ, ◌+◌, ◌*◌, ◌/◌, ◌<◌, ◌≤◌, false, refl, arith, ap, sym, subst, ◌∙◌, inl, inr, Option, Some, None, Result, Ok, Err}
-use Rattle.std.specs.Prelude.{⊤, not, nat_eq, IsTrue, IfOk, OnOk, OnErr, slice_index, MatchResult, ◌⊎◌, ◌==◌, if◌then◌else◌}
+use Rattle.std.specs.Prelude.{⊤, not, nat_eq, IsTrue, IfOk, OnOk, OnErr, slice_index, ◌⊎◌, ◌==◌, if◌then◌else◌}
 use Rattle.std.specs.Option.{option_eq}
 use Rattle.std.proofs.lemmas.Bool.{cases_eq, cases_lt, ne_eqb, eq-eqb}
 use Rattle.imago_storage.specs.State.{StorageState}
@@ -17,7 +17,8 @@ use Rattle.qcow2_alloc.specs.declared.file.ImageFile.{ImageFile}
 use Rattle.qcow2_alloc.specs.Allocating.{Allocating, OnlyRaised}
 use Rattle.qcow2_alloc.specs.Allocators.{metadata_of}
 use Rattle.qcow2_alloc.specs.Caches.{order_of, cached_file}
-use Rattle.qcow2_alloc.specs.Freeing.{IsLoose, IsMarked, WhyNotCounted}
+use Rattle.qcow2_alloc.specs.Causes.{FailsFor}
+use Rattle.qcow2_alloc.specs.Freeing.{IsLoose, IsMarked, counting_causes}
 use Rattle.qcow2_alloc.specs.FreeList.{covers}
 use Rattle.qcow2_alloc.specs.Going.{WasNotCutOff}
 use Rattle.qcow2_alloc.specs.HandingOut.{mark_past}
@@ -26,6 +27,8 @@ use Rattle.qcow2_alloc.specs.MakingRoom.{run_of}
 use Rattle.qcow2_alloc.specs.Quiet.{Metadata, IsSound, Quietly, counted, one_at}
 use Rattle.qcow2_alloc.specs.SearchingClusters.{LooksForFree}
 use Rattle.qcow2_alloc.specs.State.{ImageState, lent, metadata, IsGuarded}
+use Rattle.qcow2_alloc.proofs.Causes.{cause-weaker}
+use Rattle.qcow2_alloc.proofs.Blocks.MadeBlocks.{counting-allocates, freeing-allocates}
 use Rattle.qcow2_alloc.proofs.Flushing.Faultless.{faultless-then}
 use Rattle.qcow2_alloc.proofs.Space.KeepingRoom.{covered-inside}
 use Rattle.qcow2_alloc.proofs.Handing.Allocating.{moved-none}
@@ -35,7 +38,6 @@ use Rattle.qcow2_alloc.proofs.Handing.HandedOut.{handed-unnamed}
 use Rattle.qcow2_alloc.proofs.Freeing.Listed.{covers-none}
 use Rattle.qcow2_alloc.proofs.Searching.LookingAt.{sound-safe, counts-looked, looked-allocates, counted-found, free-found}
 use Rattle.qcow2_alloc.proofs.Caching.Loose.{loose-all}
-use Rattle.qcow2_alloc.proofs.Blocks.MadeBlocks.{allocated-wider, counted-wider}
 use Rattle.qcow2_alloc.proofs.Quiet.QuietCounters.{here-one, away-none}
 use Rattle.qcow2_alloc.proofs.Quiet.QuietFlushes.{quietly-weaker}
 use Rattle.qcow2_alloc.proofs.Quiet.QuietGiven.{quietly-then-given}
@@ -72,7 +74,7 @@ module _ {S : Type 0} (state : S → StorageState) (mark cluster : ℕ) (s : Ima
       leaks = leaks-none _ _ (not_handed fault);
       step = looked-allocates state s (Option ℕ) (Err fault) mid between looks.looked;
       list = inl refl;
-      cause = allocated-wider _ _ _ _ _ _ _ _ (λ holds. sound-safe state s holds.0 holds.2) (loose-all s.table s.caches) refl fault looks.looked.cause;
+      cause = cause-weaker (freeing-allocates (λ holds. sound-safe state s holds.0 holds.2) (λ u. loose-all s.table s.caches u.0 u.2) refl) fault looks.looked.cause;
     };
     one = tt;
     answer = λ order keeps sound. tt;
@@ -187,9 +189,8 @@ module _ {S : Type 0} (state : S → StorageState) (mark cluster : ℕ) (s : Ima
         room = record { tables = counted_one.counts.room.tables ∙ looked-step.room.tables; blocks = counted_one.counts.room.blocks ∙ looked-step.room.blocks; entries = counted_one.counts.room.entries ∙ looked-step.room.entries };
       }
 
-      caused : MatchResult (counting_of result) (λ _. (state after.image).faults ≡ (state between.image).faults)
-          (WhyNotCounted (IsTrue (state between.image).shape.keeps × (order_of mid ≡ L2DependsOnRb) × IsSound Mid × ((c : ℕ) → cluster ≤ c → c < cluster + 1 → (counted Mid c ≡ 0) × (block_offset (slice_index s.table.words (c / counters_of_block between.header.fields)) ≢ 0)))
-          (IsLoose s.table mid) (state between.image).faults (state after.image).faults)
+      caused : FailsFor (counting_causes (IsTrue (state between.image).shape.keeps × (order_of mid ≡ L2DependsOnRb) × IsSound Mid × ((c : ℕ) → cluster ≤ c → c < cluster + 1 → (counted Mid c ≡ 0) × (block_offset (slice_index s.table.words (c / counters_of_block between.header.fields)) ≢ 0)))
+          (IsLoose s.table mid) (state between.image).faults (state after.image).faults) (counting_of result)
       caused = counted_one.counts.cause
 
       knows : IsGuarded state s → IsTrue (state between.image).shape.keeps × (order_of mid ≡ L2DependsOnRb) × IsSound Mid
@@ -230,10 +231,9 @@ module _ {S : Type 0} (state : S → StorageState) (mark cluster : ℕ) (s : Ima
           leaks = leaks-none _ _ (not_handed fault);
           step = subst (λ (r : Result (Option FreeEntry) Fault). Allocating state (WasNotCutOff r) (λ _. 0) s (lent s.table new after s.pending)) refused (step (λ _. 0) (given-none none));
           list = inl refl;
-          cause = counted-wider _ _ _ _ _ _ _ _ knows looked-step.loose looks.looked.cause fault
-              (subst (λ (r : Result (Option FreeEntry) Fault). MatchResult (counting_of r) (λ _. (state after.image).faults ≡ (state between.image).faults)
-              (WhyNotCounted (IsTrue (state between.image).shape.keeps × (order_of mid ≡ L2DependsOnRb) × IsSound Mid × ((c : ℕ) → cluster ≤ c → c < cluster + 1 → (counted Mid c ≡ 0) × (block_offset (slice_index s.table.words (c / counters_of_block between.header.fields)) ≢ 0)))
-              (IsLoose s.table mid) (state between.image).faults (state after.image).faults)) refused caused);
+          cause = cause-weaker (counting-allocates knows looked-step.loose looks.looked.cause) fault
+              (subst (λ (r : Result (Option FreeEntry) Fault). FailsFor (counting_causes (IsTrue (state between.image).shape.keeps × (order_of mid ≡ L2DependsOnRb) × IsSound Mid × ((c : ℕ) → cluster ≤ c → c < cluster + 1 → (counted Mid c ≡ 0) × (block_offset (slice_index s.table.words (c / counters_of_block between.header.fields)) ≢ 0)))
+              (IsLoose s.table mid) (state between.image).faults (state after.image).faults) (counting_of r)) refused caused);
         };
         one = tt;
         answer = λ order keeps sound. tt;
@@ -300,9 +300,8 @@ module _ {S : Type 0} (state : S → StorageState) (mark cluster : ℕ) (s : Ima
           one = subst (λ (r : Result (Option FreeEntry) Fault). OnOk (counting_of r) (counted_one.counts.part ≡ 1)) ok counted_one.counts.whole
 
           faults : (state after.image).faults ≡ (state between.image).faults
-          faults = subst (λ (r : Result (Option FreeEntry) Fault). MatchResult (counting_of r) (λ _. (state after.image).faults ≡ (state between.image).faults)
-              (WhyNotCounted (IsTrue (state between.image).shape.keeps × (order_of mid ≡ L2DependsOnRb) × IsSound Mid × ((c : ℕ) → cluster ≤ c → c < cluster + 1 → (counted Mid c ≡ 0) × (block_offset (slice_index s.table.words (c / counters_of_block between.header.fields)) ≢ 0)))
-              (IsLoose s.table mid) (state between.image).faults (state after.image).faults)) ok caused
+          faults = subst (λ (r : Result (Option FreeEntry) Fault). FailsFor (counting_causes (IsTrue (state between.image).shape.keeps × (order_of mid ≡ L2DependsOnRb) × IsSound Mid × ((c : ℕ) → cluster ≤ c → c < cluster + 1 → (counted Mid c ≡ 0) × (block_offset (slice_index s.table.words (c / counters_of_block between.header.fields)) ≢ 0)))
+              (IsLoose s.table mid) (state between.image).faults (state after.image).faults) (counting_of r)) ok caused
 
           mark-is : mark' ≡ (if cluster == mark then cluster + 1 else mark)
           mark-is = subst (λ (o : Option FreeEntry). mark' ≡ mark_past mark cluster o) entry-is (subst (λ (r : Result (Option FreeEntry) Fault). IfOk r (λ o. mark' ≡ mark_past mark cluster o)) ok further)

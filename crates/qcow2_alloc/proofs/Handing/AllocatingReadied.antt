@@ -1,6 +1,6 @@
 -- A cluster gets a counter, and is handed out where it is free.
 use Rattle.std.proofs.Common.{◌≡◌, ℕ, ◌+◌, ◌/◌, ◌<◌, ◌≤◌, true, refl, arith, ap, sym, subst, ◌∙◌, inl, inr, Option, None, Some, Result, Ok, Err, length}
-use Rattle.std.specs.Prelude.{⊤, ◌⊎◌, IsTrue, IfOk, MatchResult}
+use Rattle.std.specs.Prelude.{⊤, ◌⊎◌, IsTrue, IfOk}
 use Rattle.std.proofs.lemmas.Bool.{cases_eq, cases_lt}
 use Rattle.std.proofs.lemmas.List.{get_or_past}
 use Rattle.imago_storage.specs.State.{StorageState}
@@ -16,21 +16,22 @@ use Rattle.qcow2_alloc.specs.declared.allocation.handing_out.Readiness.TheVarian
 use Rattle.qcow2_alloc.specs.declared.cache.CacheDependency.TheVariants.{L2DependsOnRb}
 use Rattle.qcow2_alloc.specs.declared.cache.MetadataCaches.{MetadataCaches}
 use Rattle.qcow2_alloc.specs.declared.file.ImageFile.{ImageFile}
-use Rattle.qcow2_alloc.specs.Allocating.{Allocating, OnlyRaised, WhyNotAllocated}
+use Rattle.qcow2_alloc.specs.Allocating.{Allocating, OnlyRaised}
 use Rattle.qcow2_alloc.specs.Allocators.{metadata_of}
 use Rattle.qcow2_alloc.specs.Caches.{order_of}
-use Rattle.qcow2_alloc.specs.Freeing.{IsLoose, IsMarked}
+use Rattle.qcow2_alloc.specs.Freeing.{IsMarked}
 use Rattle.qcow2_alloc.specs.Going.{WasNotCutOff}
 use Rattle.qcow2_alloc.specs.GrowingTables.{IsTakenFor}
 use Rattle.qcow2_alloc.specs.HandingOut.{handed_at, IsBarred, IsHandedAt, IsOneAt}
 use Rattle.qcow2_alloc.specs.HandingOutOne.{AllocatesAt, ReadiesCounter, leaked_by}
 use Rattle.qcow2_alloc.specs.Quiet.{Metadata, IsSound, counted}
 use Rattle.qcow2_alloc.specs.State.{ImageState, lent, metadata, IsGuarded}
+use Rattle.qcow2_alloc.proofs.Causes.{fails-weaker}
+use Rattle.qcow2_alloc.proofs.Blocks.MadeBlocks.{allocating-weaker}
 use Rattle.qcow2_alloc.proofs.Handing.Allocating.{counted-still, allocating-none, allocating-as, allocating-then}
 use Rattle.qcow2_alloc.proofs.Blocks.ReadyingBlocks.{leaks-none}
 use Rattle.qcow2_alloc.proofs.Handing.HandedOut.{stands-there}
 use Rattle.qcow2_alloc.proofs.Handing.CountingOne.{handed_so, not_handed}
-use Rattle.qcow2_alloc.proofs.Blocks.EnsuringBlocks.{why-allocated-wider}
 use Rattle.qcow2_alloc.proofs.Blocks.ReadyingCounters.{ready_so, not_ready}
 
 -- What is before the mark stays counted where counts are raised alone,
@@ -132,12 +133,6 @@ module _ {S : Type 0} (state : S → StorageState) (mark cluster : ℕ) (s : Ima
       answered (Ok None) is order keeps sound (inr (inr never)) = absurd never
       answered (Err fault) is order keeps sound said = tt
 
-      caused : (r : Result (Option FreeEntry) Fault)
-          → MatchResult r (λ _. (state after.image).faults ≡ (state mid.file.image).faults) (WhyNotAllocated (IsGuarded state mid) (IsLoose mid.table mid.caches) (λ _. ⊥) (state mid.file.image).faults (state after.image).faults)
-          → MatchResult r (λ _. (state after.image).faults ≡ (state s.file.image).faults) (WhyNotAllocated (IsGuarded state s) (IsLoose s.table s.caches) (λ _. ⊥) (state s.file.image).faults (state after.image).faults)
-      caused (Ok found) same = same ∙ counter.did.cause
-      caused (Err fault) why = why-allocated-wider _ _ _ _ _ _ _ _ _ holds-still counter.did.step.loose (λ n full. full) counter.did.cause fault why
-
       -- What was counted anew was so for its counter, or is the cluster.
       nearby : (r : Result (Option FreeEntry) Fault) → order_of s.caches ≡ L2DependsOnRb → IsTrue (state s.file.image).shape.keeps → IsSound Old → IfOk r (λ _. IsTakenFor mark cluster Mid New) → IfOk r (λ _. IsTakenFor mark cluster Old New)
       nearby (Err fault) order keeps sound said = tt
@@ -162,7 +157,7 @@ module _ {S : Type 0} (state : S → StorageState) (mark cluster : ℕ) (s : Ima
           leaks = record { none = one.did.leaks.none; pinned = λ holds loose. one.did.leaks.pinned (holds-still holds) (counter.did.step.loose true loose) };
           step = both;
           list = counter.did.list;
-          cause = caused result one.did.cause;
+          cause = fails-weaker _ _ (allocating-weaker holds-still counter.did.step.loose (λ n full. full) counter.did.cause) (λ same. same ∙ counter.did.cause) result one.did.cause;
         };
         one = subst (λ (H : Header). IfOk result (IsOneAt cluster H.fields.cluster_bits)) counter.did.step.moved.2 one.one;
         answer = λ order keeps sound. let held = holds-still (keeps, order, sound) in answered result refl order keeps sound (one.answer held.1 held.0 held.2);

@@ -18,20 +18,22 @@ use Rattle.qcow2_alloc.specs.declared.file.ImageFile.{ImageFile}
 use Rattle.qcow2_alloc.specs.Allocating.{Allocating, CountsRun, MovedTable, OnlyRaised}
 use Rattle.qcow2_alloc.specs.Allocators.{metadata_of}
 use Rattle.qcow2_alloc.specs.Caches.{order_of}
+use Rattle.qcow2_alloc.specs.Causes.{HasCause}
 use Rattle.qcow2_alloc.specs.Crowding.{IsGapless, IsRoomy, room_for}
 use Rattle.qcow2_alloc.specs.FreeList.{covers}
-use Rattle.qcow2_alloc.specs.Freeing.{IsLoose, IsMarked, WhyNotCounted}
+use Rattle.qcow2_alloc.specs.Freeing.{IsLoose, IsMarked, counting_causes}
 use Rattle.qcow2_alloc.specs.Going.{WasNotCutOff}
 use Rattle.qcow2_alloc.specs.MakingRoom.{run_of}
 use Rattle.qcow2_alloc.specs.Quiet.{Metadata, IsSound, counted}
 use Rattle.qcow2_alloc.specs.ReadyingRuns.{Allocates, IsRunCounted, ReadiesRun, handed_by, mark_behind}
 use Rattle.qcow2_alloc.specs.State.{ImageState, lent, metadata}
+use Rattle.qcow2_alloc.proofs.Causes.{cause-weaker}
+use Rattle.qcow2_alloc.proofs.Blocks.MadeBlocks.{counting-allocates}
 use Rattle.qcow2_alloc.proofs.Handing.Allocating.{allocating-none, allocating-as, raised-then}
 use Rattle.qcow2_alloc.proofs.Flushing.Faultless.{faultless-then}
 use Rattle.qcow2_alloc.proofs.Space.GaplessRuns.{gapless-same}
 use Rattle.qcow2_alloc.proofs.Growth.GrownTables.{covers-inside}
 use Rattle.qcow2_alloc.proofs.Space.KeepingRoom.{covered-inside}
-use Rattle.qcow2_alloc.proofs.Blocks.MadeBlocks.{counted-wider}
 use Rattle.qcow2_alloc.proofs.Quiet.QuietGiven.{quietly-then-given}
 use Rattle.qcow2_alloc.proofs.Quiet.QuietThen.{quietly-otherwise}
 use Rattle.qcow2_alloc.proofs.Blocks.ReadyingBlocks.{leaks-on, leaks-ok}
@@ -100,7 +102,7 @@ lost-none : (fault : Fault) (first part : ℕ) → (refusal fault ≡ Err CacheF
 lost-none CacheFull first part other c = absurd (other refl)
 lost-none fault first part other c = refl
 
-lost-pinned : (sound : Type 0) (loose : Bool → Type 0) (a b : ℕ) (fault : Fault) (first part : ℕ) → WhyNotCounted sound loose a b fault → sound → loose true → (c : ℕ) → lost fault first part c ≡ 0
+lost-pinned : (sound : Type 0) (loose : Bool → Type 0) (a b : ℕ) (fault : Fault) (first part : ℕ) → HasCause (counting_causes sound loose a b) fault → sound → loose true → (c : ℕ) → lost fault first part c ≡ 0
 lost-pinned sound loose a b CacheFull first part why holds all c = absurd (why (true, λ is. holds, all))
 lost-pinned sound loose a b fault first part why holds all c = refl
 
@@ -253,10 +255,10 @@ module _ {S : Type 0} (state : S → StorageState) (mark n : ℕ) (is_metadata :
           stays = refl;
           marked = λ order keeps sound whole. marked-on mA mC mark ((part-allocates (Err fault) counts).raised order keeps sound whole);
           list = ready.list;
-          cause = counted-wider _ _ _ _ _ _ _ _ holds-on begun.loose ready.cause fault counts.cause;
+          cause = cause-weaker (counting-allocates holds-on begun.loose ready.cause) fault counts.cause;
         }
           where
-            stopped : (f : Fault) → WhyNotCounted CanCount (IsLoose sB.table sB.caches) (state sB.file.image).faults (state fC.image).faults f → Stopped f (λ c. covers c (run_of first counts.part)) → Stopped f (handed_by (Err f) (lost f first counts.part))
+            stopped : (f : Fault) → HasCause (counting_causes CanCount (IsLoose sB.table sB.caches) (state sB.file.image).faults (state fC.image).faults) f → Stopped f (λ c. covers c (run_of first counts.part)) → Stopped f (handed_by (Err f) (lost f first counts.part))
             stopped CacheFull why step = allocating-as state (WasNotCutOff {T = FreeEntry} (Err CacheFull)) (WasNotCutOff {T = FreeEntry} (Err CacheFull)) _ _ s (lent sB.table C fC sB.pending) (λ whole. whole) (λ c. refl) step
             stopped Memory why step = allocating-never _ _ _ (lent sB.table C fC sB.pending) (λ order keeps sound whole. whole) step
             stopped Storage why step = allocating-never _ _ _ (lent sB.table C fC sB.pending) (λ order keeps sound whole. whole) step

@@ -4,7 +4,7 @@ use Rattle.std.specs.Prelude.{⊤, IsTrue, OnOk, min, slice_index}
 use Rattle.imago_storage.specs.Calls.{IsFaultless}
 use Rattle.imago_storage.specs.State.{StorageState}
 use Rattle.imago_storage.specs.declared.fault.Fault.{Fault}
-use Rattle.imago_storage.specs.declared.fault.Fault.TheVariants.{Memory, Storage, DamagedTable}
+use Rattle.imago_storage.specs.declared.fault.Fault.TheVariants.{Memory}
 use Rattle.imago_storage.proofs.Composing.{keeps_on}
 use Rattle.qcow2_types.specs.Bytes.{Bytes, bytes_of}
 use Rattle.qcow2_types.specs.Header.{Header, cluster_size, words_of_cluster}
@@ -17,11 +17,12 @@ use Rattle.qcow2_alloc.specs.declared.cache.CacheDependency.{CacheDependency}
 use Rattle.qcow2_alloc.specs.declared.cache.CacheDependency.TheVariants.{L2DependsOnRb}
 use Rattle.qcow2_alloc.specs.declared.cache.MetadataCaches.{MetadataCaches}
 use Rattle.qcow2_alloc.specs.declared.file.ImageFile.{ImageFile}
-use Rattle.qcow2_alloc.specs.Allocating.{OnlyRaised, WhyNotAllocated}
+use Rattle.qcow2_alloc.specs.Allocating.{OnlyRaised, allocating_causes}
 use Rattle.qcow2_alloc.specs.Allocators.{metadata_of}
 use Rattle.qcow2_alloc.specs.Caches.{cached_in, order_of, HasRoomOf, KeepsTables}
-use Rattle.qcow2_alloc.specs.Freeing.{IsLoose, IsMarked, CountsFreeing, WhyNotFreed}
-use Rattle.qcow2_alloc.specs.Going.{Going, Always, IsMild, WasNotCutOff, AreTablesInReach, CountsWrites, WhyNotWritten}
+use Rattle.qcow2_alloc.specs.Causes.{FailsFor}
+use Rattle.qcow2_alloc.specs.Freeing.{IsLoose, IsMarked, freeing_causes}
+use Rattle.qcow2_alloc.specs.Going.{Going, Always, WasNotCutOff, AreTablesInReach, writing_causes}
 use Rattle.qcow2_alloc.specs.Growing.{IsFirstRoom, lacks, lacking}
 use Rattle.qcow2_alloc.specs.GrowingTables.{IsRoomToGrow, IsRoomInReach, NoPlaceToGrow, TableGrown}
 use Rattle.qcow2_alloc.specs.MakingRoom.{rank}
@@ -29,7 +30,9 @@ use Rattle.qcow2_alloc.specs.Memory.{memory, written}
 use Rattle.qcow2_alloc.specs.Quiet.{Metadata, IsSound, Quietly, counted}
 use Rattle.qcow2_alloc.specs.Safety.{Safe}
 use Rattle.qcow2_alloc.specs.State.{ImageState, lent, metadata, IsKept}
-use Rattle.qcow2_alloc.proofs.Blocks.EnsuringBlocks.{why-allocated-wider}
+use Rattle.qcow2_alloc.proofs.Flushing.Counting.{never-refused, writing-implies}
+use Rattle.qcow2_alloc.proofs.Causes.{cause-weaker, Implies}
+use Rattle.qcow2_alloc.proofs.Blocks.MadeBlocks.{allocating-weaker}
 use Rattle.qcow2_alloc.proofs.Caching.Loose.{kept-tables, loose-on}
 use Rattle.qcow2_alloc.proofs.Caching.Pins.{pins-none}
 use Rattle.qcow2_alloc.proofs.Quiet.QuietAnnouncing.{announced-quietly, whole-quietly}
@@ -46,7 +49,7 @@ pub record Announced {S : Type 0} (state : S → StorageState) (s : ImageState S
   pub header : s'.file.header ≡ s.file.header
   pub loose : (any : Bool) → IsLoose s.table s.caches any → IsLoose s.table s'.caches any
   pub room : KeepsTables s.caches s'.caches
-  pub cause : CountsFreeing (IsKept state s) (IsLoose s.table s.caches true) (state s.file.image).faults (state s'.file.image).faults result
+  pub cause : FailsFor (freeing_causes (IsKept state s) (IsLoose s.table s.caches true) (state s.file.image).faults (state s'.file.image).faults) result
 
 -- Nothing was announced, and nothing has changed, for want of memory.
 pub not-begun : {S : Type 0} (state : S → StorageState) (s : ImageState S) → Announced state s (Err Memory) s
@@ -74,21 +77,8 @@ module _ {S : Type 0} (state : S → StorageState) (s : ImageState S) (new : Met
   loose-still : (any : Bool) → IsLoose s.table s.caches any → IsLoose s.table new any
   loose-still = loose-on s.table s.caches new (pins-none (cached_in s.caches).blocks (cached_in new).blocks (ap (λ l. l.slots.entries) blocks)) room.blocks
 
-  never : (fault : Fault) → IsSound Old → IsMild fault → WhyNotWritten (AreTablesInReach (cached_in s.caches)) (state s.file.image).faults (state after.image).faults fault → ⊥
-  never Memory sound mild why = mild
-  never Storage sound mild why = mild
-  never DamagedTable sound mild why = why (safe-reach _ _ _ _ sound.safe).0
-  never other sound mild why = why
-
-  caused : (fault : Fault) → WhyNotWritten (AreTablesInReach (cached_in s.caches)) (state s.file.image).faults (state after.image).faults fault
-      → WhyNotFreed (IsKept state s) (IsLoose s.table s.caches true) (state s.file.image).faults (state after.image).faults fault
-  caused Memory why = tt
-  caused Storage why = why
-  caused DamagedTable why = λ holds. why (safe-reach _ _ _ _ holds.1.safe).0
-  caused other why = absurd why
-
   pub announced : (result : Result Unit Fault) → Goes result → OnOk result (order_of new ≡ L2DependsOnRb) → OnOk result ((f : Bytes) (H : Header) → Safe f H (cached_in new) (order_of s.caches) → Safe f H (cached_in new) L2DependsOnRb)
-      → CountsWrites (AreTablesInReach (cached_in s.caches)) (state s.file.image).faults (state after.image).faults result → (WasNotCutOff result → IsFaultless (state s.file.image) (state after.image)) → Announced state s result (lent s.table new after s.pending)
+      → FailsFor (writing_causes (AreTablesInReach (cached_in s.caches)) (state s.file.image).faults (state after.image).faults) result → (WasNotCutOff result → IsFaultless (state s.file.image) (state after.image)) → Announced state s result (lent s.table new after s.pending)
   announced (Ok done) going order safe counts faultless =
       let announces = announced-quietly Old L2DependsOnRb (Ok tt) (state s.file.image) (state after.image) (cached_in new) refl going safe in
       let quiet = whole-quietly Old (AreTablesInReach (cached_in s.caches)) (state s.file.image).faults (state after.image).faults (Ok tt) (λ _. 0) (λ _. 0) (state s.file.image) (state after.image) _ (λ reach. reach.0) counts announces in
@@ -111,14 +101,14 @@ module _ {S : Type 0} (state : S → StorageState) (s : ImageState S) (new : Met
       shape = going.shape;
       later = going.later;
       passes = (whole-quietly Old (AreTablesInReach (cached_in s.caches)) (state s.file.image).faults (state after.image).faults (Err fault) (λ _. 0) (λ _. 0) (state s.file.image) (state after.image) _ (λ reach. reach.0) why (announced-quietly Old L2DependsOnRb (Err fault) (state s.file.image) (state after.image) (cached_in new) refl going tt)).passes;
-      holds = λ keeps sound mild. absurd (never fault sound mild why);
+      holds = λ keeps sound mild. absurd (never-refused _ _ _ fault (safe-reach _ _ _ _ sound.safe).0 mild why);
     };
-    counts = λ keeps sound mild. absurd (never fault sound mild why);
+    counts = λ keeps sound mild. absurd (never-refused _ _ _ fault (safe-reach _ _ _ _ sound.safe).0 mild why);
     order = tt;
     header = header;
     loose = loose-still;
     room = kept-tables s.caches new kept room;
-    cause = caused fault why;
+    cause = cause-weaker (writing-implies _ (omega arith) (omega arith) (λ far holds. far (safe-reach _ _ _ _ holds.1.safe).0)) fault why;
   }
 
 -- Where two images have the same header and refcount table, and count as much, the table grows in both alike.
@@ -195,8 +185,7 @@ module _ {S : Type 0} (state : S → StorageState) (start : ImageState S) (mid :
   marked-behind mark keeps sound marked c below = let same = first.counts keeps sound tt c in let was = marked c below in omega (arith, same, was)
 
   -- and a refusal has its cause.
-  pub caused-behind : (full full' : ℕ → Type 0) (after : ℕ) → ((n : ℕ) → full n → full' n) → (fault : Fault)
-      → WhyNotAllocated (IsTrue (state between.image).shape.keeps × (order_of mid ≡ L2DependsOnRb) × IsSound Mid) (IsLoose start.table mid) full (state between.image).faults after fault
-      → WhyNotAllocated (IsKept state start) (IsLoose start.table start.caches) full' (state start.file.image).faults after fault
-  caused-behind full full' after to fault why =
-      why-allocated-wider _ _ _ _ _ _ _ _ _ (λ holds. let still = sound-behind holds.0 holds.1 in (still.0, first.order, still.1)) first.loose to first.cause fault why
+  pub allocates-behind : {full full' : ℕ → Type 0} {after : ℕ} → ((n : ℕ) → full n → full' n)
+      → Implies (allocating_causes (IsTrue (state between.image).shape.keeps × (order_of mid ≡ L2DependsOnRb) × IsSound Mid) (IsLoose start.table mid) full (state between.image).faults after)
+      (allocating_causes (IsKept state start) (IsLoose start.table start.caches) full' (state start.file.image).faults after)
+  allocates-behind to = allocating-weaker (λ holds. let still = sound-behind holds.0 holds.1 in (still.0, first.order, still.1)) first.loose to first.cause

@@ -9,7 +9,8 @@ use Rattle.qcow2_alloc.specs.declared.cache.MetadataCaches.{MetadataCaches}
 use Rattle.qcow2_alloc.specs.declared.file.ImageFile.{ImageFile}
 use Rattle.qcow2_alloc.specs.Allocating.{RaisesCluster}
 use Rattle.qcow2_alloc.specs.Caches.{cached_file}
-use Rattle.qcow2_alloc.specs.Freeing.{IsLoose, WhyNotCounted}
+use Rattle.qcow2_alloc.specs.Causes.{HasCause}
+use Rattle.qcow2_alloc.specs.Freeing.{IsLoose, counting_causes}
 use Rattle.qcow2_alloc.specs.FreeList.{covers}
 use Rattle.qcow2_alloc.specs.HandingOutOne.{CountsOne}
 use Rattle.qcow2_alloc.specs.MakingRoom.{run_of}
@@ -33,7 +34,7 @@ module _ {S : Type 0} (state : S → StorageState) (s : ImageState S) (c : ℕ) 
   Old = metadata state s
 
   -- Nothing was counted, for a reason that a sound image doesn't give where the cluster isn't counted.
-  uncounted : (fault : Fault) → ((sound : Type 0) → (sound → IsSound Old × (counted Old c ≡ 0)) → WhyNotCounted sound (IsLoose s.table s.caches) (state s.file.image).faults (state s.file.image).faults fault)
+  uncounted : (fault : Fault) → ((sound : Type 0) → (sound → IsSound Old × (counted Old c ≡ 0)) → HasCause (counting_causes sound (IsLoose s.table s.caches) (state s.file.image).faults (state s.file.image).faults) fault)
       → CountsOne state c s (not_handed fault) s
   uncounted fault why = record {
     counts = record {

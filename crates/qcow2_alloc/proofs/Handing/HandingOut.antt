@@ -1,6 +1,6 @@
 -- Clusters are handed out once the order of writes was announced.
 use Rattle.std.proofs.Common.{◌≡◌, ◌≢◌, ℕ, ◌+◌, ◌-◌, ◌/◌, ◌<◌, ◌≤◌, [], Bool, refl, arith, ap, subst, ◌∙◌, inl, inr, List, length, Option, None, Some, Result, Ok, Err, true}
-use Rattle.std.specs.Prelude.{⊤, IsTrue, OnOk, IfOk, MatchResult}
+use Rattle.std.specs.Prelude.{⊤, IsTrue, OnOk, IfOk}
 use Rattle.std.proofs.lemmas.Bool.{le-leb, lt-ltb}
 use Rattle.imago_storage.specs.State.{StorageState}
 use Rattle.imago_storage.specs.declared.fault.Fault.{Fault}
@@ -13,11 +13,12 @@ use Rattle.qcow2_metadata.specs.Places.{IsInReach}
 use Rattle.qcow2_alloc.specs.declared.cache.CacheDependency.TheVariants.{L2DependsOnRb}
 use Rattle.qcow2_alloc.specs.declared.cache.MetadataCaches.{MetadataCaches}
 use Rattle.qcow2_alloc.specs.declared.file.ImageFile.{ImageFile}
-use Rattle.qcow2_alloc.specs.Allocating.{MovedTable, WhyNotAllocated}
+use Rattle.qcow2_alloc.specs.Allocating.{MovedTable, allocating_causes}
 use Rattle.qcow2_alloc.specs.Allocators.{metadata_of}
 use Rattle.qcow2_alloc.specs.Caches.{order_of}
+use Rattle.qcow2_alloc.specs.Causes.{HasCause}
 use Rattle.qcow2_alloc.specs.Crowding.{IsCrowded}
-use Rattle.qcow2_alloc.specs.Freeing.{Frees, HasSpareRoom, IsLoose, IsMarked, IsRestInTurn, WhyNotFreed}
+use Rattle.qcow2_alloc.specs.Freeing.{Frees, HasSpareRoom, IsLoose, IsMarked, IsRestInTurn, freeing_causes}
 use Rattle.qcow2_alloc.specs.FreeList.{covers}
 use Rattle.qcow2_alloc.specs.Going.{WasNotCutOff}
 use Rattle.qcow2_alloc.specs.GrowingTables.{IsInRoomToGrow, IsLengthenedByTable, IsRoomToGrow, IsTakenFor, NoPlaceToGrow}
@@ -26,17 +27,17 @@ use Rattle.qcow2_alloc.specs.HandingOutOne.{AllocatesAt}
 use Rattle.qcow2_alloc.specs.Quiet.{Metadata, IsSound, Quietly, counted}
 use Rattle.qcow2_alloc.specs.ReadyingRuns.{Allocates, IsRunCounted, IsRunTold, handed_by}
 use Rattle.qcow2_alloc.specs.State.{ImageState, lent, metadata, IsKept}
+use Rattle.qcow2_alloc.proofs.Causes.{cause-weaker, fails-weaker}
+use Rattle.qcow2_alloc.proofs.Blocks.MadeBlocks.{freeing-allocates, allocating-weaker}
 use Rattle.qcow2_alloc.proofs.Handing.Allocating.{moved-none}
-use Rattle.qcow2_alloc.proofs.Handing.AnnouncedOrders.{Announced, no-place-as, room-as, quiet-behind, sound-behind, raised-behind, marked-behind, caused-behind}
+use Rattle.qcow2_alloc.proofs.Handing.AnnouncedOrders.{Announced, no-place-as, room-as, quiet-behind, sound-behind, raised-behind, marked-behind, allocates-behind}
 use Rattle.qcow2_alloc.proofs.Handing.CountingOne.{not_handed}
-use Rattle.qcow2_alloc.proofs.Blocks.EnsuringBlocks.{why-allocated-wider}
 use Rattle.qcow2_alloc.proofs.Flushing.Faultless.{faultless-then}
 use Rattle.qcow2_alloc.proofs.Freeing.FreeingEntries.{failed}
 use Rattle.qcow2_alloc.proofs.Freeing.FreeingRest.{rest-all, rest-none}
 use Rattle.qcow2_alloc.proofs.Growth.GrowingReftables.{shape-behind}
 use Rattle.qcow2_alloc.proofs.Handing.HandedOut.{handed-unnamed}
 use Rattle.qcow2_alloc.proofs.Caching.Loose.{loose-on, loose-all}
-use Rattle.qcow2_alloc.proofs.Blocks.MadeBlocks.{allocated-wider}
 use Rattle.qcow2_alloc.proofs.Quiet.QuietFlushes.{memory-quietly, quiet-none, quietly-weaker}
 use Rattle.qcow2_alloc.proofs.Quiet.QuietThen.{fewer-counted, quietly-then, quietly-otherwise}
 use Rattle.qcow2_alloc.proofs.Blocks.ReadyingBlocks.{leaks-none}
@@ -65,7 +66,7 @@ module _ {S : Type 0} (state : S → StorageState) (mark cluster : ℕ) (s : Ima
     order = tt;
     shape = shape-behind state mark cluster s mid between (failed fault) (lent s.table mid between s.pending) first (moved-none between.header between.header refl) (λ any loose. loose) (record { tables = refl; blocks = refl; entries = refl });
     list = inl refl;
-    cause = allocated-wider _ _ _ _ _ _ _ _ (λ holds. holds) (loose-all s.table s.caches) refl fault first.cause;
+    cause = cause-weaker (freeing-allocates (λ holds. holds) (λ u. loose-all s.table s.caches u.0 u.2) refl) fault first.cause;
   }
 
   -- and else as it is under that order.
@@ -105,14 +106,6 @@ module _ {S : Type 0} (state : S → StorageState) (mark cluster : ℕ) (s : Ima
     ordered (Ok found) = at.did.step.order ∙ first.order
     ordered (Err fault) = tt
 
-    caused : (r : Result (Option FreeEntry) Fault)
-        → MatchResult r (λ _. (state s'.file.image).faults ≡ (state between.image).faults)
-        (WhyNotAllocated (IsTrue (state between.image).shape.keeps × (order_of mid ≡ L2DependsOnRb) × IsSound Mid) (IsLoose s.table mid) (λ _. ⊥) (state between.image).faults (state s'.file.image).faults)
-        → MatchResult r (λ _. (state s'.file.image).faults ≡ (state s.file.image).faults)
-        (WhyNotAllocated (IsKept state s) (IsLoose s.table s.caches) (λ _. ⊥) (state s.file.image).faults (state s'.file.image).faults)
-    caused (Ok found) same = same ∙ first.cause
-    caused (Err fault) why = caused-behind state s mid between first _ _ (state s'.file.image).faults (λ n full. full) fault why
-
     pub at-announced : AllocatesClusterAt state mark cluster s result s' mark'
     at-announced = record {
       leaked = at.did.leaked;
@@ -131,7 +124,7 @@ module _ {S : Type 0} (state : S → StorageState) (mark cluster : ℕ) (s : Ima
       order = ordered result;
       shape = shape-behind state mark cluster s mid between (Ok tt) s' first at.did.step.moved at.did.step.loose at.did.step.room;
       list = subst (λ (H : Header). IsLengthenedByTable H.fields s.table s'.table s.pending s'.pending) first.header at.did.list;
-      cause = caused result at.did.cause;
+      cause = fails-weaker _ _ (allocates-behind state s mid between first (λ n full. full)) (λ same. same ∙ first.cause) result at.did.cause;
     }
 
 -- Nothing was freed, and nothing has changed, for want of memory.
@@ -174,10 +167,10 @@ module _ {S : Type 0} (state : S → StorageState) (mark n : ℕ) (is_metadata :
     abbrev Rest : Metadata
     Rest = metadata_of state fA A image.table pA
 
-    not-limited : IsSearched (refused_run fault) → WhyNotFreed (IsKept state image) (HasSpareRoom image.caches) (state image.file.image).faults (state fA.image).faults fault → ⊥
+    not-limited : IsSearched (refused_run fault) → HasCause (freeing_causes (IsKept state image) (HasSpareRoom image.caches) (state image.file.image).faults (state fA.image).faults) fault → ⊥
     not-limited searched why = by-fault fault searched why
       where
-        by-fault : (f : Fault) → IsSearched (refused_run f) → WhyNotFreed (IsKept state image) (HasSpareRoom image.caches) (state image.file.image).faults (state fA.image).faults f → ⊥
+        by-fault : (f : Fault) → IsSearched (refused_run f) → HasCause (freeing_causes (IsKept state image) (HasSpareRoom image.caches) (state image.file.image).faults (state fA.image).faults) f → ⊥
         by-fault (Limit number) searched why = why
         by-fault f searched why = searched
 
@@ -220,7 +213,7 @@ module _ {S : Type 0} (state : S → StorageState) (mark n : ℕ) (is_metadata :
       order = tt;
       shape = record { moved = moved-none image.file.header fA.header frees.header; loose = loose-on image.table image.caches A frees.pins frees.room.blocks; room = frees.room };
       list = inl refl;
-      cause = allocated-wider _ _ _ _ _ _ _ _ (λ holds. holds) (λ any loose. loose.room) refl fault frees.cause;
+      cause = cause-weaker (freeing-allocates (λ holds. holds) (λ u. u.2.room) refl) fault frees.cause;
     }
 
   -- or not begun, for want of memory,
@@ -290,7 +283,7 @@ module _ {S : Type 0} (state : S → StorageState) (mark n : ℕ) (is_metadata :
         room = record { tables = second.room.tables ∙ frees.room.tables; blocks = second.room.blocks ∙ frees.room.blocks; entries = second.room.entries ∙ frees.room.entries };
       };
       list = inl refl;
-      cause = allocated-wider _ _ _ _ _ _ _ _ (λ holds. still-sound holds.0 holds.1) (λ any loose. loose-all image.table A any (freed-loose any loose)) frees.cause fault second.cause;
+      cause = cause-weaker (freeing-allocates (λ holds. still-sound holds.0 holds.1) (λ u. loose-all image.table A u.0 (freed-loose u.0 u.2)) frees.cause) fault second.cause;
     }
       where
         quiet : Quietly (WasNotCutOff (refused_run fault)) (λ _. 0) (λ _. 0) (state image.file.image) First (state fB.image) Ready
@@ -303,7 +296,7 @@ module _ {S : Type 0} (state : S → StorageState) (mark n : ℕ) (is_metadata :
             let more = frees.marked keeps sound (inl tt) was c below in
             omega (arith, same, more)
 
-        never : (f : Fault) → IsSearched (refused_run f) → WhyNotFreed (IsTrue (state fA.image).shape.keeps × IsSound Freed) (IsLoose image.table A true) (state fA.image).faults (state fB.image).faults f → ⊥
+        never : (f : Fault) → IsSearched (refused_run f) → HasCause (freeing_causes (IsTrue (state fA.image).shape.keeps × IsSound Freed) (IsLoose image.table A true) (state fA.image).faults (state fB.image).faults) f → ⊥
         never (Limit number) searched why = why
         never f searched why = searched
 
@@ -359,19 +352,6 @@ module _ {S : Type 0} (state : S → StorageState) (mark n : ℕ) (is_metadata :
       run-ordered (Ok entry) = third.step.order ∙ second.order
       run-ordered (Err fault) = tt
 
-      run-caused : (r : Result FreeEntry Fault)
-          → MatchResult r (λ _. (state s'.file.image).faults ≡ (state fB.image).faults)
-          (WhyNotAllocated (IsTrue (state fB.image).shape.keeps × (order_of B ≡ L2DependsOnRb) × IsSound Ready) (IsLoose image.table B)
-          (λ number. order_of B ≡ L2DependsOnRb → IsTrue (state fB.image).shape.keeps → IsSound Ready → IsCrowded Ready mark1 n × IsRunTold Last mark1 n number) (state fB.image).faults (state s'.file.image).faults)
-          → MatchResult r (λ _. (state s'.file.image).faults ≡ (state image.file.image).faults)
-          (WhyNotAllocated (IsKept state image) (IsLoose image.table image.caches)
-          (λ number. IsTrue (state image.file.image).shape.keeps → IsSound First → IsCrowded Ready mark1 n × IsRunTold Last mark1 n number) (state image.file.image).faults (state s'.file.image).faults)
-      run-caused (Ok entry) same = same ∙ second.cause ∙ frees.cause
-      run-caused (Err fault) why =
-          why-allocated-wider _ _ _ _ _ _ _ _ _ (λ holds. still-sound holds.0 holds.1) freed-loose (λ n full keeps sound. let still = still-sound keeps sound in full still.0 still.1) frees.cause fault
-          (caused-behind state (lent image.table A fA []) B fB second _ (λ number. IsTrue (state fA.image).shape.keeps → IsSound Freed → IsCrowded Ready mark1 n × IsRunTold Last mark1 n number) (state s'.file.image).faults
-          (λ n full keeps sound. let still = sound-behind state (lent image.table A fA []) B fB second keeps sound in full second.order still.0 still.1) fault why)
-
       pub run-announced : AllocatesClusters state mark n is_metadata image result s' mark'
       run-announced = record {
         leaked = third.leaked;
@@ -404,5 +384,7 @@ module _ {S : Type 0} (state : S → StorageState) (mark n : ℕ) (is_metadata :
         order = run-ordered result;
         shape = same-shape;
         list = subst (λ (H : Header). IsLengthenedByTable H.fields image.table s'.table [] s'.pending) (second.header ∙ frees.header) third.list;
-        cause = run-caused result third.cause;
+        cause = fails-weaker _ _ (allocating-weaker (λ holds. still-sound holds.0 holds.1) freed-loose (λ n full keeps sound. let still = still-sound keeps sound in full still.0 still.1) frees.cause) (λ same. same ∙ frees.cause) result
+            (fails-weaker _ (allocating_causes (IsKept state (lent image.table A fA [])) (IsLoose image.table A) (λ number. IsTrue (state fA.image).shape.keeps → IsSound Freed → IsCrowded Ready mark1 n × IsRunTold Last mark1 n number) (state fA.image).faults (state s'.file.image).faults)
+            (allocates-behind state (lent image.table A fA []) B fB second (λ n full keeps sound. let still = sound-behind state (lent image.table A fA []) B fB second keeps sound in full second.order still.0 still.1)) (λ same. same ∙ second.cause) result third.cause);
       }

@@ -21,9 +21,10 @@ use Rattle.qcow2_alloc.specs.declared.allocation.readying_runs.Provision.TheVari
 use Rattle.qcow2_alloc.specs.declared.cache.CacheDependency.TheVariants.{L2DependsOnRb}
 use Rattle.qcow2_alloc.specs.declared.cache.MetadataCaches.{MetadataCaches}
 use Rattle.qcow2_alloc.specs.declared.file.ImageFile.{ImageFile}
-use Rattle.qcow2_alloc.specs.Allocating.{Allocating, MovedTable, WhyNotAllocated, missing}
+use Rattle.qcow2_alloc.specs.Allocating.{Allocating, MovedTable, missing, allocating_causes}
 use Rattle.qcow2_alloc.specs.Allocators.{metadata_of}
 use Rattle.qcow2_alloc.specs.Caches.{order_of, cached_file}
+use Rattle.qcow2_alloc.specs.Causes.{HasCause}
 use Rattle.qcow2_alloc.specs.Freeing.{IsLoose}
 use Rattle.qcow2_alloc.specs.GrowingTables.{IsLengthenedByTable, NoPlaceToGrow, table_run}
 use Rattle.qcow2_alloc.specs.Going.{WasNotCutOff}
@@ -31,9 +32,10 @@ use Rattle.qcow2_alloc.specs.Quiet.{Metadata, IsSound, counted}
 use Rattle.qcow2_alloc.specs.ReadyingBlocks.{CountsAsBefore, HasMore, NoneCanBeMade, ReadiesBlocks, WhyNotFit, last_number}
 use Rattle.qcow2_alloc.specs.ReadyingRuns.{IsRunTold, ReadiesRun}
 use Rattle.qcow2_alloc.specs.SearchingClusters.{IsFirstRun, IsSafeWith, LooksForRun, counts_in}
+use Rattle.qcow2_alloc.proofs.Freeing.FreeingEntries.{unbarred-still}
+use Rattle.qcow2_alloc.proofs.Causes.{cause-weaker, cause-told}
 use Rattle.qcow2_alloc.proofs.Handing.Allocating.{allocating-none, allocating-then, allocating-as}
 use Rattle.qcow2_alloc.proofs.Handing.AnnouncedOrders.{no-place-as}
-use Rattle.qcow2_alloc.proofs.Blocks.EnsuringBlocks.{why-allocated-as}
 use Rattle.qcow2_alloc.proofs.Growth.GrowingRooms.{first-run-same}
 use Rattle.qcow2_alloc.proofs.Searching.Looking.{counts-still}
 use Rattle.qcow2_alloc.proofs.Searching.LookingAt.{looked-allocates, counts-looked}
@@ -42,7 +44,7 @@ use Rattle.qcow2_alloc.specs.State.{ImageState, lent, metadata, IsGuarded}
 use Rattle.qcow2_alloc.proofs.Space.GaplessRuns.{gapless-same, gapless-then, made-gapless}
 use Rattle.qcow2_alloc.proofs.Caching.Loose.{loose-all}
 use Rattle.qcow2_alloc.proofs.Space.RoomyRuns.{RoomStays, stays-start, stays-searched, room-left, run-counted, run-early, run-fits, can-make, stays-made}
-use Rattle.qcow2_alloc.proofs.Blocks.MadeBlocks.{allocated-wider, first-counted}
+use Rattle.qcow2_alloc.proofs.Blocks.MadeBlocks.{first-counted, freeing-allocates}
 use Rattle.qcow2_alloc.proofs.Blocks.ReadyingBlocks.{leaks-none, leaks-on, leaks-ok}
 
 -- The list, the header and the length of the table are what they were; or the table became longer, and its old clusters are behind.
@@ -184,7 +186,7 @@ module _ {S : Type 0} (state : S → StorageState) (s : ImageState S) where
       reach = tt;
       some = tt;
       list = by-table s.file.header sA.file.header s.table sA.table s.pending sA.pending so_far.list;
-      cause = allocated-wider _ _ _ _ _ _ _ _ safe-with (λ any loose. loose-all sA.table sA.caches any (so_far.step.loose any loose)) so_far.faults fault looks.looked.cause;
+      cause = cause-weaker (freeing-allocates safe-with (λ u. loose-all sA.table sA.caches u.0 (so_far.step.loose u.0 u.2)) so_far.faults) fault looks.looked.cause;
     }
 
     -- or as it makes something,
@@ -209,12 +211,21 @@ module _ {S : Type 0} (state : S → StorageState) (s : ImageState S) where
           | inr longer ↦ absurd (let inside = covers longer.0 in omega (arith, inside, past))
         ]
       ];
-      cause = why-allocated-as _ _ _ _ _ _ _ _ _ holds-on so_far.step.loose so_far.faults fault
-          (λ number is none order keeps sound.
-          let holds : IsGuarded state s = (keeps, order, sound) in
-          let there = holds-on holds in
-          let why = none there.1 there.0 there.2 in
-          (crowded number holds why, told number is holds why)) makes.cause;
+      cause = let same = so_far.faults in cause-weaker (record {
+        before = omega (arith, same);
+        after = omega arith;
+        damaged = λ wrong holds. wrong (holds-on holds);
+        counter = λ wrong holds. wrong (holds-on holds);
+        full = λ none u. none (unbarred-still holds-on so_far.step.loose u);
+        limit = λ number at. (
+          λ order keeps sound.
+              let holds : IsGuarded state s = (keeps, order, sound) in
+              let there = holds-on holds in
+              let why = at.1.0 there.1 there.0 there.2 in
+              (crowded number holds why, told number at.0 holds why),
+          at.1.1 ∙ same,
+        );
+      }) fault (cause-told _ fault makes.cause);
     }
       where
         mA : Metadata
@@ -280,8 +291,8 @@ module _ {S : Type 0} (state : S → StorageState) (s : ImageState S) where
               run-fits mark n some (metadata state s) sound roomy (metadata state sA) ((stays holds).room roomy) so_far.step.moved (so_far.step.raised order keeps sound tt) there.2 z (looks.found (safe-with holds))
               (subst (λ (H : Header). IsInReach H.fields.cluster_bits (z + (n - 1)) → 2 ^ 20 ≤ (z + (n - 1)) / counters_of_block H.fields) looks.looked.header far)
 
-          caused : (f : Fault) → WhyNotFit fB.header.fields n z f → WhyNotAllocated (IsGuarded state s) (IsLoose s.table s.caches)
-              (λ number. order_of s.caches ≡ L2DependsOnRb → IsTrue (state s.file.image).shape.keeps → IsSound Start → IsCrowded Start mark n × IsRunTold (metadata_of state fB B sA.table sA.pending) mark n number) (state s.file.image).faults (state fB.image).faults f
+          caused : (f : Fault) → WhyNotFit fB.header.fields n z f → HasCause (allocating_causes (IsGuarded state s) (IsLoose s.table s.caches)
+              (λ number. order_of s.caches ≡ L2DependsOnRb → IsTrue (state s.file.image).shape.keeps → IsSound Start → IsCrowded Start mark n × IsRunTold (metadata_of state fB B sA.table sA.pending) mark n number) (state s.file.image).faults (state fB.image).faults) f
           caused DamagedTable is = never is
           caused (Limit number) far = ((λ order keeps sound. (crowded far.1 order keeps sound, told number far (keeps, order, sound))), looks.looked.cause ∙ so_far.faults)
           caused other is = absurd is

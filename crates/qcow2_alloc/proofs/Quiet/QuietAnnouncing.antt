@@ -3,14 +3,15 @@ use Rattle.std.proofs.Common.{◌≡◌, ℕ, refl, subst}
 use Rattle.std.specs.Prelude.{Result, Ok, Err, OnOk}
 use Rattle.imago_storage.specs.State.{StorageState}
 use Rattle.imago_storage.specs.declared.fault.Fault.{Fault}
-use Rattle.imago_storage.specs.declared.fault.Fault.TheVariants.{Memory, Storage, DamagedTable}
 use Rattle.qcow2_types.specs.Bytes.{Bytes, bytes_of}
 use Rattle.qcow2_types.specs.Header.{Header}
 use Rattle.qcow2_alloc.specs.declared.cache.CacheDependency.{CacheDependency}
+use Rattle.qcow2_alloc.specs.Causes.{FailsFor}
 use Rattle.qcow2_alloc.specs.Memory.{Cached}
 use Rattle.qcow2_alloc.specs.Safety.{Safe}
-use Rattle.qcow2_alloc.specs.Going.{Going, Always, AreTablesInReach, AreBlocksInReach, CountsWrites, WasNotCutOff}
+use Rattle.qcow2_alloc.specs.Going.{Going, Always, AreTablesInReach, AreBlocksInReach, WasNotCutOff, writing_causes}
 use Rattle.qcow2_alloc.specs.Quiet.{Metadata, IsIn, Quietly}
+use Rattle.qcow2_alloc.proofs.Flushing.Counting.{never-refused}
 use Rattle.qcow2_alloc.proofs.Quiet.QuietFlushes.{going-quietly, order-quiet, quietly-weaker}
 use Rattle.qcow2_alloc.proofs.Memory.SafeLaws.{safe-reach}
 
@@ -34,15 +35,12 @@ announced-quietly m order' result old new cached' at going safe =
     }
 
 -- Writes that weren't cut off succeeded, where all is in reach,
-pub written-whole : (reach : Type 0) (before after : ℕ) (result : Result Unit Fault) → CountsWrites reach before after result → reach → WasNotCutOff result → result ≡ Ok tt
+pub written-whole : (reach : Type 0) (before after : ℕ) (result : Result Unit Fault) → FailsFor (writing_causes reach before after) result → reach → WasNotCutOff result → result ≡ Ok tt
 written-whole reach before after (Ok done) counts near whole = refl
-written-whole reach before after (Err Memory) counts near whole = absurd whole
-written-whole reach before after (Err Storage) counts near whole = absurd whole
-written-whole reach before after (Err DamagedTable) counts near whole = absurd (counts near)
-written-whole reach before after (Err _) counts near whole = absurd counts
+written-whole reach before after (Err fault) counts near whole = absurd (never-refused reach before after fault near whole counts)
 
 -- as it is of a sound image.
 pub whole-quietly : (m : Metadata) (reach : Type 0) (before after : ℕ) (result : Result Unit Fault) (handed taken : ℕ → ℕ) (old new : StorageState) (m' : Metadata) → (AreTablesInReach m.cached × AreBlocksInReach m.cached → reach)
-    → CountsWrites reach before after result → Quietly (result ≡ Ok tt) handed taken old m new m' → Quietly (WasNotCutOff result) handed taken old m new m'
+    → FailsFor (writing_causes reach before after) result → Quietly (result ≡ Ok tt) handed taken old m new m' → Quietly (WasNotCutOff result) handed taken old m new m'
 whole-quietly m reach before after result handed taken old new m' near counts quietly =
     quietly-weaker (result ≡ Ok tt) (WasNotCutOff result) handed taken old m new m' (λ sound whole. written-whole reach before after result counts (near (safe-reach m.file m.header m.cached m.order sound.safe)) whole) quietly

@@ -8,7 +8,7 @@ use Rattle.std.proofs.lemmas.Nat.{div-mul-add, mod-mul-add}
 use Rattle.imago_storage.specs.State.{StorageState}
 use Rattle.imago_storage.specs.Calls.{Kept}
 use Rattle.imago_storage.specs.declared.fault.Fault.{Fault}
-use Rattle.imago_storage.specs.declared.fault.Fault.TheVariants.{Memory, Storage, DamagedTable, CacheFull}
+use Rattle.imago_storage.specs.declared.fault.Fault.TheVariants.{DamagedTable}
 use Rattle.imago_storage.proofs.Composing.{keeps_on, no_stops, later_same}
 use Rattle.qcow2_types.specs.Bytes.{Bytes, bytes_of}
 use Rattle.qcow2_types.specs.Header.{Header}
@@ -26,19 +26,20 @@ use Rattle.qcow2_alloc.specs.Cache.{hit}
 use Rattle.qcow2_alloc.specs.Caches.{cached_in, order_of, cached_file}
 use Rattle.qcow2_alloc.specs.CachesLending.{with_blocks}
 use Rattle.qcow2_alloc.specs.Changes.{CachesBlock, StaysAsItIs}
-use Rattle.qcow2_alloc.specs.Finding.{BlockFound, IsPinnedFull, WhyNotFound}
-use Rattle.qcow2_alloc.specs.Freeing.{IsLoose, WhyNotFreed}
+use Rattle.qcow2_alloc.specs.Finding.{BlockFound, IsPinnedFull, search_causes}
+use Rattle.qcow2_alloc.specs.Freeing.{IsLoose, freeing_causes}
 use Rattle.qcow2_alloc.specs.Going.{Going, Always, WasNotCutOff, AreTablesInReach, AreBlocksInReach}
 use Rattle.qcow2_alloc.specs.Memory.{Cached, memory}
 use Rattle.qcow2_alloc.specs.Quiet.{IsTableOf}
 use Rattle.qcow2_alloc.specs.Safety.{Safe, IsSettled, IsCachedBlock}
 use Rattle.qcow2_alloc.specs.Scanning.{Reads, AreCounted}
 use Rattle.qcow2_alloc.specs.SearchingClusters.{counts_in, IsSafeWith, KeepsClean, Looked}
-use Rattle.qcow2_alloc.proofs.Memory.ChangingCounters.{cached-count}
 use Rattle.qcow2_alloc.proofs.Caching.Loose.{loose-on, loose-never}
 use Rattle.qcow2_alloc.proofs.Caching.Pins.{pins-hit}
-use Rattle.qcow2_alloc.proofs.Freeing.FreeingEntries.{why-freed-wider}
+use Rattle.qcow2_alloc.proofs.Causes.{cause-weaker, Implies, fails-weaker}
 use Rattle.qcow2_alloc.proofs.Flushing.Going.{going-none, going-both, going-weaker, kept-same, left-same}
+use Rattle.qcow2_alloc.proofs.Freeing.FreeingEntries.{freeing-weaker}
+use Rattle.qcow2_alloc.proofs.Memory.ChangingCounters.{cached-count}
 use Rattle.qcow2_alloc.proofs.Memory.MemoryWords.{places-in-memory}
 use Rattle.qcow2_alloc.proofs.Blocks.NamedBlocks.{IsNamed, named-block}
 use Rattle.qcow2_alloc.proofs.Caching.Places.{slot-of}
@@ -130,13 +131,6 @@ module _ {S : Type 0} (state : S → StorageState) (table : TableValue) where
     abbrev Goes : Header → CacheDependency → Type 0
     Goes h o = Going h o Always (WasNotCutOff result) (state between.image) (cached_in mid) (state after.image) (cached_in new)
 
-    cause-then : (r : Result U Fault) → Looked state table (cached_file mid between) r (cached_file new after)
-        → MatchResult r (λ _. (state after.image).faults ≡ (state before.image).faults) (WhyNotFreed (IsSafeWith state table old before) (IsLoose table old true) (state before.image).faults (state after.image).faults)
-    cause-then (Ok w) then = then.cause ∙ first.cause
-    cause-then (Err fault) then =
-        why-freed-wider (IsSafeWith state table mid between) (IsSafeWith state table old before) (IsLoose table mid true) (IsLoose table old true) (state before.image).faults (state between.image).faults (state after.image).faults
-        (safe-still old before v mid between first) (first.loose true) first.cause fault then.cause
-
     -- A search may go on behind another.
     pub looked-then : Looked state table (cached_file old before) result (cached_file new after)
     looked-then =
@@ -148,7 +142,7 @@ module _ {S : Type 0} (state : S → StorageState) (table : TableValue) where
           loose = λ any loose. second.loose any (first.loose any loose);
           room = record { tables = second.room.tables ∙ first.room.tables; blocks = second.room.blocks ∙ first.room.blocks; entries = second.room.entries ∙ first.room.entries };
           clean = clean-then state old before mid between new after first.clean second.clean;
-          cause = cause-then result second;
+          cause = fails-weaker _ _ (freeing-weaker (safe-still old before v mid between first) (first.loose true) first.cause) (λ same. same ∙ first.cause) result second.cause;
         }
 
   -- The search of a block that the refcount table names.
@@ -156,19 +150,18 @@ module _ {S : Type 0} (state : S → StorageState) (table : TableValue) where
     named-there : IsSafeWith state table old before → IsNamed (bytes_of (state before.image).bytes) before.header i key
     named-there sound = named-block (bytes_of (state before.image).bytes) before.header table i sound.table_of_file key sound.safe.consistent named
 
-    abbrev Why : Fault → Type 0
-    Why fault = WhyNotFreed (IsSafeWith state table old before) (IsLoose table old true) (state before.image).faults (state after.image).faults fault
-
-    why-search : (fault : Fault)
-        → WhyNotFound (IsInReach before.header.fields.cluster_bits key × AreTablesInReach (cached_in old) × AreBlocksInReach (cached_in old)) (IsPinnedFull old.rb.slots.cap (cached_in old).blocks) (state before.image).faults (state after.image).faults fault
-        → Why fault
-    why-search Memory why = tt
-    why-search Storage why = why
-    why-search DamagedTable why = λ sound.
-        let reach = safe-reach (bytes_of (state before.image).bytes) before.header (cached_in old) (order_of old) sound.safe in
-        why ((named-there sound).reach, reach.0, reach.1)
-    why-search CacheFull why = λ loose. loose-never table old true loose why
-    why-search other why = absurd why
+    search-frees : Implies (search_causes (IsInReach before.header.fields.cluster_bits key × AreTablesInReach (cached_in old) × AreBlocksInReach (cached_in old)) (IsPinnedFull old.rb.slots.cap (cached_in old).blocks) (state before.image).faults (state after.image).faults)
+        (freeing_causes (IsSafeWith state table old before) (IsLoose table old true) (state before.image).faults (state after.image).faults)
+    search-frees = record {
+      before = omega arith;
+      after = omega arith;
+      damaged = λ wrong sound.
+          let reach = safe-reach (bytes_of (state before.image).bytes) before.header (cached_in old) (order_of old) sound.safe in
+          wrong ((named-there sound).reach, reach.0, reach.1);
+      counter = absurd;
+      full = λ full loose. loose-never table old true loose full;
+      limit = λ number. absurd;
+    }
 
     clean-found : (answer : Result Unit Fault) → BlockFound state key old before answer new after → KeepsClean state (cached_file old before) (cached_file new after)
     clean-found answer found tables blocks = let still = found.still tables blocks in record { kept = still.0; tables = still.1; blocks = still.2 }
@@ -184,7 +177,7 @@ module _ {S : Type 0} (state : S → StorageState) (table : TableValue) where
       loose = loose-found (Err fault) found;
       room = record { tables = found.room.tables; blocks = found.room.blocks; entries = found.tables };
       clean = clean-found (Err fault) found;
-      cause = why-search fault found.cause;
+      cause = cause-weaker search-frees fault found.cause;
     }
 
     found-looked : BlockFound state key old before (Ok tt) new after → Looked state {T = Unit {0}} table (cached_file old before) (Ok tt) (cached_file new after)

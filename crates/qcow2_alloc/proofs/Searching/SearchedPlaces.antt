@@ -20,9 +20,10 @@ use Rattle.qcow2_alloc.specs.MakingBlocks.{Begins, IsFreePlace}
 use Rattle.qcow2_alloc.specs.Quiet.{Metadata, counted, IsSound, Quietly}
 use Rattle.qcow2_alloc.specs.SearchingClusters.{IsSafeWith, Looked, LooksForFree}
 use Rattle.qcow2_alloc.specs.State.{ImageState, lent, metadata}
+use Rattle.qcow2_alloc.proofs.Causes.{cause-weaker}
 use Rattle.qcow2_alloc.proofs.Searching.FreeClusters.{flushes-count}
 use Rattle.qcow2_alloc.proofs.Caching.Loose.{loose-all}
-use Rattle.qcow2_alloc.proofs.Blocks.MadeBlocks.{Follows, allocated-wider, begins-none, begins-then, begins-refused}
+use Rattle.qcow2_alloc.proofs.Blocks.MadeBlocks.{Follows, begins-none, begins-then, begins-refused, freeing-allocates}
 use Rattle.qcow2_alloc.proofs.Quiet.QuietFlushes.{going-quietly}
 
 -- An answer of a search
@@ -73,7 +74,7 @@ module _ {S : Type 0} (state : S → StorageState) (image : ImageState S) (i : �
   pub looked-refused : (fault : Fault) → Looked state image.table (cached_file image.caches image.file) (refused_so fault) (cached_file C fC) → MakesBlock state i image (Err fault) (lent image.table C fC image.pending)
   looked-refused fault looked =
       begins-refused state i image (λ _. 0) (λ _. 0) image.caches image.file C fC (begins-none state i image) fault (looking (refused_so fault) looked) (λ order keeps sound whole c. omega arith)
-      (allocated-wider _ _ _ _ _ _ _ _ (λ holds. safe-with holds.0 holds.2) (loose-all image.table image.caches) refl fault looked.cause)
+      (cause-weaker (freeing-allocates (λ holds. safe-with holds.0 holds.2) (λ u. loose-all image.table image.caches u.0 u.2) refl) fault looked.cause)
 
   pub looked-begins : (found : Option ℕ) → Looked state image.table (cached_file image.caches image.file) (found_so found) (cached_file C fC) → Begins state image (λ _. 0) (lent image.table C fC image.pending)
   looked-begins found looked =
