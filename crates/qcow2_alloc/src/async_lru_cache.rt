@@ -279,10 +279,10 @@ impl<K: Copy + Eq + Hash, V: Drop, B: AsyncLruCacheBackend<Key = K, Value = V>> 
         ensures others { self.new ≡ with_entries self.old self.new.slots.entries }
     {
         match self.make_room(device, may_flush) {
-            Ok(Admission::Granted) => match self.put_new(key, value) {
-                Ok(()) => Ok(None),
-                Err(refused) => Err(refused),
-            },
+            Ok(Admission::Granted) => {
+                self.put_new(key, value)?;
+                Ok(None)
+            }
             Ok(Admission::Denied) => Ok(Some(value)),
             Err(fault) => Err((fault, value)),
         }

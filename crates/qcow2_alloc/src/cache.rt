@@ -537,10 +537,10 @@ impl<S: Storage> MetadataCaches<S> {
     {
         let flushed = self.before_tables(file);
         match flushed {
-            Ok(()) => match self.l2.insert(file, cluster, table, true) {
-                Ok(_) => Ok(()),
-                Err(refused) => Err(refused),
-            },
+            Ok(()) => {
+                self.l2.insert(file, cluster, table, true)?;
+                Ok(())
+            }
             Err(fault) => Err((fault, table)),
         }
     }
@@ -554,10 +554,9 @@ impl<S: Storage> MetadataCaches<S> {
     ) -> Result<(), (Fault, L2Table)>
         ensures { TableInserted S.state cluster table (cached_file self.old file.old) result (cached_file self.new file.new) }
     {
-        match self.l2_put(file, cluster, table) {
-            Ok(None) => Ok(()),
-            Ok(Some(table)) => self.l2_put_over(file, cluster, table),
-            Err(refused) => Err(refused),
+        match self.l2_put(file, cluster, table)? {
+            None => Ok(()),
+            Some(table) => self.l2_put_over(file, cluster, table),
         }
     }
 
@@ -623,10 +622,10 @@ impl<S: Storage> MetadataCaches<S> {
     {
         let flushed = self.before_blocks(file);
         match flushed {
-            Ok(()) => match self.rb.insert(file, cluster, block, true) {
-                Ok(_) => Ok(()),
-                Err(refused) => Err(refused),
-            },
+            Ok(()) => {
+                self.rb.insert(file, cluster, block, true)?;
+                Ok(())
+            }
             Err(fault) => Err((fault, block)),
         }
     }
@@ -640,10 +639,9 @@ impl<S: Storage> MetadataCaches<S> {
     ) -> Result<(), (Fault, RefBlock)>
         ensures { BlockInserted S.state cluster block (cached_file self.old file.old) result (cached_file self.new file.new) }
     {
-        match self.rb_put(file, cluster, block) {
-            Ok(None) => Ok(()),
-            Ok(Some(block)) => self.rb_put_over(file, cluster, block),
-            Err(refused) => Err(refused),
+        match self.rb_put(file, cluster, block)? {
+            None => Ok(()),
+            Some(block) => self.rb_put_over(file, cluster, block),
         }
     }
 

@@ -2,27 +2,28 @@ use Rattle.std.proofs.Common.{Ok, Err, ap}
 use Rattle.qcow2_alloc.proofs.Caching.Putting.{put-behind, put-halted}
 use Rattle.qcow2_alloc.proofs.Caching.TableSide.{tables, table-laws, l2_side, blocks-first, table-put}
 use Rattle.qcow2_alloc.proofs.cache.MetadataCaches.l2_put_over.Goals as goal
+use Rattle.qcow2_alloc.proofs.Faults.{handed-on}
 
-pub returns-in-Ok-insert : goal.returns-in-Ok-insert
-returns-in-Ok-insert g c =
+pub returns-in_ok-insert-in-Ok : goal.returns-in_ok-insert-in-Ok
+returns-in_ok-insert-in-Ok g c =
     let state = g.S.Storage.state in
     let flushed = c.before_tables-flushed in
     let done = c.in-Ok.ensures in
     let first = blocks-first state c.args.self.now c.args.file.now (Ok tt) flushed.new.self flushed.new.file done.going done.kept done.ready done.idle done.others done.room done.cause done.faults done.written in
     table-put state c.args.cluster _ _ _ _ c.args.table _ (put-behind (tables state) (table-laws state) c.args.cluster c.args.table (l2_side state c.args.self.now) c.args.file.now c.requires flushed.new.file (l2_side state flushed.new.self) first
-    (Ok c.in-Ok-insert.field-0) c.insert.new.device (l2_side state (record flushed.new.self { l2 = c.insert.new.self })) (ap (λ l. record (l2_side state flushed.new.self) { own = l }) c.insert.ensures.others) c.in-Ok-insert.ensures.inserted)
+    (Ok c.in_ok-insert-in-Ok.field-0) c.insert.new.device (l2_side state (record flushed.new.self { l2 = c.insert.new.self })) (ap (λ l. record (l2_side state flushed.new.self) { own = l }) c.insert.ensures.others) c.in_ok-insert-in-Ok.ensures.inserted)
 
-pub returns-in-Ok : goal.returns-in-Ok
-returns-in-Ok g c =
+pub returns-in_err-insert-in-Ok : goal.returns-in_err-insert-in-Ok
+returns-in_err-insert-in-Ok g c =
     let state = g.S.Storage.state in
     let flushed = c.before_tables-flushed in
     let done = c.in-Ok.ensures in
     let first = blocks-first state c.args.self.now c.args.file.now (Ok tt) flushed.new.self flushed.new.file done.going done.kept done.ready done.idle done.others done.room done.cause done.faults done.written in
-    table-put state c.args.cluster _ _ _ _ c.args.table _ (put-behind (tables state) (table-laws state) c.args.cluster c.args.table (l2_side state c.args.self.now) c.args.file.now c.requires flushed.new.file (l2_side state flushed.new.self) first
-    (Err c.in-Err-insert.refused) c.insert.new.device (l2_side state (record flushed.new.self { l2 = c.insert.new.self })) (ap (λ l. record (l2_side state flushed.new.self) { own = l }) c.insert.ensures.others) c.in-Err-insert.ensures.inserted)
+    rw (handed-on _ _ c.from_residual.ensures.1) (table-put state c.args.cluster _ _ _ _ c.args.table _ (put-behind (tables state) (table-laws state) c.args.cluster c.args.table (l2_side state c.args.self.now) c.args.file.now c.requires flushed.new.file (l2_side state flushed.new.self) first
+    (Err c.in_err-insert-in-Ok.field-0.0) c.insert.new.device (l2_side state (record flushed.new.self { l2 = c.insert.new.self })) (ap (λ l. record (l2_side state flushed.new.self) { own = l }) c.insert.ensures.others) c.in_err-insert-in-Ok.ensures.inserted))
 
-pub returns : goal.returns
-returns g c =
+pub returns-in-Err : goal.returns-in-Err
+returns-in-Err g c =
     let state = g.S.Storage.state in
     let flushed = c.before_tables-flushed in
     let done = c.in-Err.ensures in
