@@ -3,13 +3,14 @@ use Rattle.std.proofs.Common.{◌≡◌, ◌≢◌, ℕ, ◌+◌, ◌-◌, ◌<�
 use Rattle.std.specs.Prelude.{⊤}
 use Rattle.imago_storage.specs.State.{StorageState}
 use Rattle.imago_storage.specs.declared.fault.Fault.{Fault}
-use Rattle.imago_storage.specs.declared.fault.Fault.TheVariants.{CacheFull, Counter, DamagedTable, Limit, Memory, Storage}
+use Rattle.imago_storage.specs.declared.fault.Fault.TheVariants.{CacheFull, Limit}
 use Rattle.qcow2_types.specs.Header.{Header, cluster_size}
 use Rattle.qcow2_types.specs.Pending.{FreeEntry}
 use Rattle.qcow2_metadata.specs.Places.{IsInReach}
-use Rattle.qcow2_alloc.specs.Allocating.{WhyNotAllocated as WhyNotHandedOut}
+use Rattle.qcow2_alloc.specs.Allocating.{allocating_causes}
 use Rattle.qcow2_alloc.specs.Allocators.{table_of}
 use Rattle.qcow2_alloc.specs.Caches.{HasRoomOf}
+use Rattle.qcow2_alloc.specs.Causes.{HasCause}
 use Rattle.qcow2_alloc.specs.Crowding.{IsCrowded, room_for, space}
 use Rattle.qcow2_alloc.specs.Freeing.{IsLoose}
 use Rattle.qcow2_alloc.specs.Going.{IsMild, WasNotCutOff}
@@ -21,32 +22,22 @@ use Rattle.qcow2_alloc.specs.ReadyingRuns.{IsRunTold}
 use Rattle.qcow2_alloc.specs.ReadyingRuns.{handed_by as handed_out}
 use Rattle.qcow2_alloc.specs.State.{IsKept, WhereKept}
 use Rattle.qcow2_alloc.specs.Freeing.{IsMarked}
+use Rattle.qcow2_alloc.proofs.Causes.{cause-weaker, cause-told}
 use Rattle.qcow2_alloc.proofs.Handing.HandedOut.{unnamed-used}
 use Rattle.qcow2_alloc.proofs.Quiet.QuietThen.{quietly-otherwise, used-then}
 use Rattle.qcow2_clusters.specs.Rest.{AreEmpty, Clusters, HasEntries, IsReady, changed, resting, storage}
 use Rattle.qcow2_clusters.specs.Room.{IsFull, LeavesRoom, mark_in}
 use Rattle.qcow2_clusters.specs.Settling.{AreUnpinned}
-use Rattle.qcow2_clusters.specs.Storing.{AreReserved, StoresRunUnsettled, WhyNotAllocated}
+use Rattle.qcow2_clusters.specs.Storing.{AreReserved, StoresRunUnsettled}
 use Rattle.qcow2_clusters.proofs.Ending.{begun, begun-then, ready-kept}
-use Rattle.qcow2_clusters.proofs.LeavingRoom.{allocation-leaves, crowded-there, marked-as, why-as}
+use Rattle.qcow2_clusters.proofs.LeavingRoom.{allocation-leaves, crowded-there, marked-as}
 use Rattle.qcow2_clusters.proofs.Resting.{begun-counts, begun-quiet, empty-loose, loose-unpinned}
-
--- why no cluster was handed out, where the caches have room to spare
-why-allocated : (sound ready : Type 0) (loose : Bool → Type 0) (full : ℕ → Type 0) → (ready → sound) → loose false → (before after : ℕ) (fault : Fault)
-    → WhyNotHandedOut sound loose full before after fault → WhyNotAllocated ready full before after fault
-why-allocated sound ready loose full is room before after Memory why = tt
-why-allocated sound ready loose full is room before after Storage why = why
-why-allocated sound ready loose full is room before after (Limit number) why = λ here. why.0
-why-allocated sound ready loose full is room before after DamagedTable why = λ here. why (is here)
-why-allocated sound ready loose full is room before after Counter why = λ here. why (is here)
-why-allocated sound ready loose full is room before after CacheFull why = absurd (why (false, (λ e. absurd (cc e)), room))
-why-allocated sound ready loose full is room before after _ why = absurd why
 
 -- it isn't since the cache is full then
 why-full : (sound : Type 0) (loose : Bool → Type 0) (full : ℕ → Type 0) → loose false → (before after : ℕ) (fault : Fault) → fault ≡ CacheFull
-    → WhyNotHandedOut sound loose full before after fault → ⊥
+    → HasCause (allocating_causes sound loose full before after) fault → ⊥
 why-full sound loose full room before after fault is why =
-    subst (λ (f : Fault). WhyNotHandedOut sound loose full before after f) is why (false, (λ e. absurd (cc e)), room)
+    subst (λ (f : Fault). HasCause (allocating_causes sound loose full before after) f) is why (false, (λ e. absurd (cc e)), room)
 
 module _ {S : Type 0} (state : S → StorageState) (c : Clusters S) (empty : AreEmpty c.caches) (room : HasEntries c.caches) (n : ℕ) (mid : Clusters S) where
   loose : IsLoose (table_of c.space.allocator) c.caches false
@@ -115,10 +106,14 @@ module _ {S : Type 0} (state : S → StorageState) (c : Clusters S) (empty : Are
       stored = λ ready. tt;
       leaves = λ ready. tt;
       marked = run-marked (Err fault) a;
-      cause = why-as (IsReady state c) (IsReady state c) asked-full (IsFull n (resting state c) (mark_in c) (changed state mid) (mark_in mid)) (λ ready. ready)
-          (storage state c).faults (storage state mid).faults fault full-there
-          (why-allocated (IsKept state (begun c)) (IsReady state c) (IsLoose (table_of c.space.allocator) c.caches) asked-full (ready-kept state c empty) loose
-          (storage state c).faults (storage state mid).faults fault a.cause);
+      cause = cause-weaker (record {
+        before = omega arith;
+        after = omega arith;
+        damaged = λ wrong ready. wrong (ready-kept state c empty ready);
+        counter = λ wrong ready. wrong (ready-kept state c empty ready);
+        full = λ none. none (false, (λ e. absurd (cc e)), loose);
+        limit = λ number at ready. full-there number at.0 ready at.1.0;
+      }) fault (cause-told _ fault a.cause);
     }
 
   -- Else clusters were:

@@ -20,6 +20,7 @@ use Rattle.qcow2_types.proofs.Counting.Bounded.{all-below}
 use Rattle.qcow2_metadata.specs.Tables.{TableValue}
 use Rattle.qcow2_alloc.specs.Allocating.{MovedTable}
 use Rattle.qcow2_alloc.specs.Allocators.{table_of}
+use Rattle.qcow2_alloc.specs.Causes.{HasCause}
 use Rattle.qcow2_alloc.specs.Crowding.{room_for}
 use Rattle.qcow2_alloc.specs.FreeList.{FreeList, covers}
 use Rattle.qcow2_alloc.specs.Going.{WasNotCutOff}
@@ -28,6 +29,7 @@ use Rattle.qcow2_alloc.specs.Quiet.{Metadata, IsSound, named_at_all}
 use Rattle.qcow2_alloc.specs.declared.cache.CacheDependency.TheVariants.{Unset}
 use Rattle.qcow2_alloc.specs.declared.file.ImageFile.{ImageFile}
 use Rattle.qcow2_alloc.specs.Freeing.{IsMarked}
+use Rattle.qcow2_alloc.proofs.Causes.{storage-cause}
 use Rattle.qcow2_alloc.proofs.Freeing.Listed.{covers-one}
 use Rattle.qcow2_alloc.proofs.Memory.Patches.{place-there}
 use Rattle.qcow2_steps.specs.NewTables.{old_table}
@@ -37,10 +39,10 @@ use Rattle.qcow2_clusters.specs.MakingTables.{CopiesTable, FindsTable, HasTable,
 use Rattle.qcow2_clusters.specs.Progress.{Kind, Progresses, both, handing}
 use Rattle.qcow2_clusters.specs.Rest.{AreEmpty, Clusters, IsReady, lent, nothing_cached, resting, storage}
 use Rattle.qcow2_clusters.specs.Room.{IsFull, LeavesRoom, mark_in}
-use Rattle.qcow2_clusters.specs.Storing.{WhyNotAllocated, handed_by}
+use Rattle.qcow2_clusters.specs.Storing.{handed_by, storing_causes}
 use Rattle.qcow2_clusters.proofs.Adding.{AdvancesBy, IsWider, progresses-in-memory, progresses-otherwise, progresses-then-given, wider-both, wider-handing}
-use Rattle.qcow2_clusters.proofs.LeavingRoom.{leaves-as}
-use Rattle.qcow2_clusters.proofs.MakingTables.{IsKept, held-aside, if-refused, kept-itself, narrowed, not-begun, why-put, why-wider, with_held}
+use Rattle.qcow2_clusters.proofs.LeavingRoom.{leaves-as, storing-as}
+use Rattle.qcow2_clusters.proofs.MakingTables.{IsKept, held-aside, if-refused, kept-itself, narrowed, not-begun, with_held}
 use Rattle.qcow2_clusters.proofs.NamingTables.{bytes-mean, from-zero, l1-table, l1-word, zeroes-map}
 
 pub none-found : (found : Option ℕ) → ((t : ℕ) → found ≡ Some t → ⊥) → found ≡ None
@@ -132,8 +134,7 @@ module _ {S : Type 0} (state : S → StorageState) (l1 : TableValue) (i : ℕ) (
     named = not-begun state (HasTable state l1 i c) (copying (resting state c) i (Err fault)) i c fault l1 c' empty kept
         (λ ready is whole. cut-off (storage state c).faults (storage state c').faults fault why whole)
         (λ whole. absurd (cut-off (storage state c).faults (storage state c').faults fault why whole))
-        (why-put (IsReady state c × HasTable state l1 i c) (IsFull 1 (resting state c) (mark_in c) (resting state c') (mark_in c')) (storage state c).faults (storage state c).faults (storage state c').faults fault
-        refl why);
+        (storage-cause _ _ _ (omega arith) (omega arith) fault why);
     held = held;
     words = tt;
     waits = λ is. tt;
@@ -328,11 +329,9 @@ module _ {S : Type 0} (state : S → StorageState) (c : Clusters S) (file : Imag
           (copies.named.leaves (ready-behind ready) (table-behind has));
       marked = λ has ready whole. before (λ s H. IsMarked (at_rest s H) (mark_in c) → IsMarked (resting state c') (mark_in c'))
           (copies.named.marked (table-behind has) (ready-behind ready) whole);
-      cause = before (λ s H. IfErr result (WhyNotAllocated (IsReady state c × HasTable state l1 i c)
-          (IsFull 1 (at_rest s H) (mark_in c) (resting state c') (mark_in c')) s.faults (storage state c').faults))
-          (if-refused result _ _ (λ fault. why-wider (IsReady state cr × HasTable state l1 i cr) (IsReady state c × HasTable state l1 i c)
-          (IsFull 1 (resting state cr) (mark_in c) (resting state c') (mark_in c'))
-          (λ both. (ready-behind both.0, table-behind both.1)) (storage state cr).faults (storage state c').faults fault)
+      cause = before (λ s H. IfErr result (HasCause (storing_causes (IsReady state c × HasTable state l1 i c)
+          (IsFull 1 (at_rest s H) (mark_in c) (resting state c') (mark_in c')) s.faults (storage state c').faults)))
+          (if-refused result _ _ (λ fault. storing-as _ _ _ _ (λ both. (ready-behind both.0, table-behind both.1)) fault (λ number at is told. told))
           copies.named.cause);
     };
     held = copies.held;

@@ -11,14 +11,15 @@ use Rattle.qcow2_alloc.specs.declared.cache.MetadataCaches.{MetadataCaches}
 use Rattle.qcow2_alloc.specs.declared.file.ImageFile.{ImageFile}
 use Rattle.qcow2_alloc.specs.Allocators.{metadata_of}
 use Rattle.qcow2_alloc.specs.Caches.{cached_in}
-use Rattle.qcow2_alloc.specs.Going.{AreBlocksInReach, AreTablesInReach, WasNotCutOff}
+use Rattle.qcow2_alloc.specs.Causes.{HasCause}
+use Rattle.qcow2_alloc.specs.Going.{AreBlocksInReach, AreTablesInReach, WasNotCutOff, writing_causes}
 use Rattle.qcow2_alloc.specs.Quiet.{Metadata, Quietly}
 use Rattle.qcow2_alloc.specs.State.{ImageState, IsKept, seen}
 use Rattle.qcow2_alloc.proofs.Flushing.Faultless.{faultless-then}
 use Rattle.qcow2_alloc.proofs.Quiet.QuietThen.{quietly-otherwise, quietly-then}
 use Rattle.qcow2_clusters.specs.Progress.{Kind, Progresses, both, handing}
 use Rattle.qcow2_clusters.specs.Rest.{AreEmpty, Clusters, IsReady, changed, resting, storage}
-use Rattle.qcow2_clusters.specs.Settling.{Settles, WhyNotSettled, at_rest}
+use Rattle.qcow2_clusters.specs.Settling.{Settles, at_rest}
 use Rattle.qcow2_clusters.proofs.Adding.{progresses-halted, progresses-then, progresses-weaker, quiet-progresses, wider-both, wider-handing, wider-same}
 use Rattle.qcow2_clusters.proofs.Resting.{begun-quietly, begun-sound}
 
@@ -144,7 +145,7 @@ module _ {S T : Type 0} (state : S → StorageState) (given : Result T Fault) (b
 
   -- The answer stays, or a change that wasn't cut off is answered with the fault of the flush.
   pub settled-cases : (result ≡ given) ⊎ (WasNotCutOff given × (fault : Fault) × (result ≡ Err fault)
-      × WhyNotSettled (AreTablesInReach (cached_in old) × AreBlocksInReach (cached_in old)) (state before.image).faults (state after.image).faults fault)
+      × HasCause (writing_causes (AreTablesInReach (cached_in old) × AreBlocksInReach (cached_in old)) (state before.image).faults (state after.image).faults) fault)
   settled-cases = elim (cut-or-not given) [
     | inl whole ↦ elim settles.answer [
       | inl same ↦ inl same
@@ -156,7 +157,7 @@ module _ {S T : Type 0} (state : S → StorageState) (given : Result T Fault) (b
   -- Why it was refused: as before, or as the flush was.
   pub settled-cause : (why : ℕ → Fault → Type 0) → IfErr given (why (state before.image).faults)
       → (WasNotCutOff given → (fault : Fault)
-      → WhyNotSettled (AreTablesInReach (cached_in old) × AreBlocksInReach (cached_in old)) (state before.image).faults (state after.image).faults fault
+      → HasCause (writing_causes (AreTablesInReach (cached_in old) × AreBlocksInReach (cached_in old)) (state before.image).faults (state after.image).faults) fault
       → why (state after.image).faults fault)
       → IfErr result (why (state after.image).faults)
   settled-cause why was flush = elim settled-cases [

@@ -1,45 +1,30 @@
 -- What waits is freed, and that is settled.
-use Rattle.std.proofs.Common.{◌≡◌, ℕ, ◌≤◌, [], refl, arith, subst, ◌∙◌, inl, inr, Result, Ok, Err}
+use Rattle.std.proofs.Common.{◌≡◌, [], refl, arith, subst, ◌∙◌, inl, inr, Result, Ok, Err}
 use Rattle.std.specs.Prelude.{IfErr, OnOk}
 use Rattle.imago_storage.specs.State.{StorageState}
 use Rattle.imago_storage.specs.declared.fault.Fault.{Fault}
-use Rattle.imago_storage.specs.declared.fault.Fault.TheVariants.{CacheFull, Counter, DamagedTable, Memory, Storage}
-use Rattle.imago_storage.proofs.Composing.{rose_behind, keeps_on}
+use Rattle.imago_storage.proofs.Composing.{keeps_on}
 use Rattle.qcow2_alloc.specs.declared.cache.MetadataCaches.{MetadataCaches}
 use Rattle.qcow2_alloc.specs.declared.file.ImageFile.{ImageFile}
 use Rattle.qcow2_alloc.specs.Allocators.{table_of}
 use Rattle.qcow2_alloc.specs.Caches.{cached_in}
-use Rattle.qcow2_alloc.specs.Freeing.{CountsFreeing, Frees, HasSpareRoom, IsWholeOrCalm, IsMarked}
-use Rattle.qcow2_alloc.specs.Freeing.{WhyNotFreed as WhyNotCountedDown}
-use Rattle.qcow2_alloc.specs.Going.{AreBlocksInReach, AreTablesInReach, WasNotCutOff}
+use Rattle.qcow2_alloc.specs.Causes.{HasCause, FailsFor}
+use Rattle.qcow2_alloc.specs.Freeing.{Frees, HasSpareRoom, IsWholeOrCalm, IsMarked, freeing_causes}
+use Rattle.qcow2_alloc.specs.Going.{AreBlocksInReach, AreTablesInReach, WasNotCutOff, writing_causes}
 use Rattle.qcow2_alloc.specs.Quiet.{Quietly}
 use Rattle.qcow2_alloc.specs.State.{IsKept}
+use Rattle.qcow2_alloc.proofs.Flushing.Counting.{writing-implies}
+use Rattle.qcow2_alloc.proofs.Causes.{cause-weaker}
 use Rattle.qcow2_alloc.proofs.Memory.SafeLaws.{safe-reach}
 use Rattle.qcow2_alloc.proofs.Quiet.QuietFlushes.{quietly-weaker}
-use Rattle.qcow2_clusters.specs.Freeing.{FreesWaiting, WhyNotFreed}
+use Rattle.qcow2_clusters.specs.Freeing.{FreesWaiting, releasing_causes}
 use Rattle.qcow2_clusters.specs.Rest.{AreEmpty, Clusters, HasEntries, IsReady, changed, lent, resting, storage}
-use Rattle.qcow2_clusters.specs.Settling.{Settles, WhyNotSettled}
+use Rattle.qcow2_clusters.specs.Settling.{Settles}
 use Rattle.qcow2_clusters.specs.Room.{mark_in}
 use Rattle.qcow2_clusters.proofs.Adding.{quiet-progresses}
 use Rattle.qcow2_clusters.proofs.Ending.{begun, begun-then, ready-kept, settled-cause, settled-faultless, settled-ok, settled-quietly, settled-cases}
 use Rattle.qcow2_clusters.proofs.Resting.{empty-loose, l1-kept, begun-counts}
 use Rattle.qcow2_clusters.proofs.LeavingRoom.{marked-as}
-
--- why what waits wasn't counted down
-why-freed : (sound ready loose : Type 0) → (ready → sound) → loose → (before after : ℕ) (fault : Fault) → WhyNotCountedDown sound loose before after fault → WhyNotFreed ready before after fault
-why-freed sound ready loose is room before after Memory why = why
-why-freed sound ready loose is room before after Storage why = why
-why-freed sound ready loose is room before after DamagedTable why = λ here. why (is here)
-why-freed sound ready loose is room before after Counter why = λ here. why (is here)
-why-freed sound ready loose is room before after CacheFull why = absurd (why room)
-why-freed sound ready loose is room before after _ why = absurd why
-
--- why it wasn't written then
-why-flushed : (reach ready : Type 0) → (ready → reach) → (before mid after : ℕ) → before ≤ mid → (fault : Fault) → WhyNotSettled reach mid after fault → WhyNotFreed ready before after fault
-why-flushed reach ready is before mid after later Memory why = why
-why-flushed reach ready is before mid after later Storage why = rose_behind before mid after later why
-why-flushed reach ready is before mid after later DamagedTable why = λ here. why (is here)
-why-flushed reach ready is before mid after later _ why = absurd why
 
 module _ {S : Type 0} (state : S → StorageState) (c : Clusters S) (empty : AreEmpty c.caches) (room : HasEntries c.caches) (mid : Clusters S)
     (freed : Result Unit Fault) (frees : Frees state (mark_in c) (begun c) freed (begun mid) (mark_in mid))
@@ -69,20 +54,24 @@ module _ {S : Type 0} (state : S → StorageState) (c : Clusters S) (empty : Are
       (freed-quietly.holds ready.keeps ready.sound whole).0 done)
       (frees.marked kept.0 kept.1 (inl whole) (marked-as (resting state c) (changed state c) (mark_in c) (begun-counts state c empty) marked))
 
-  first-cause : (r : Result Unit Fault) → CountsFreeing (IsKept state (begun c)) (HasSpareRoom c.caches) (storage state c).faults (storage state mid).faults r
-      → IfErr r (WhyNotFreed (IsReady state c) (storage state c).faults (storage state mid).faults)
+  first-cause : (r : Result Unit Fault) → FailsFor (freeing_causes (IsKept state (begun c)) (HasSpareRoom c.caches) (storage state c).faults (storage state mid).faults) r
+      → IfErr r (HasCause (releasing_causes (IsReady state c) (storage state c).faults (storage state mid).faults))
   first-cause (Ok done) counts = tt
-  first-cause (Err fault) counts =
-      why-freed (IsKept state (begun c)) (IsReady state c) (HasSpareRoom c.caches) (ready-kept state c empty) (empty-loose (table_of c.space.allocator) c.caches empty room).room
-      (storage state c).faults (storage state mid).faults fault counts
+  first-cause (Err fault) counts = cause-weaker (record {
+    before = omega arith;
+    after = omega arith;
+    damaged = λ wrong ready. wrong (ready-kept state c empty ready);
+    counter = λ wrong ready. wrong (ready-kept state c empty ready);
+    full = λ none. none (empty-loose (table_of c.space.allocator) c.caches empty room).room;
+    limit = λ number. absurd;
+  }) fault counts
 
   flush-cause : WasNotCutOff freed → (fault : Fault)
-      → WhyNotSettled (AreTablesInReach (cached_in mid.caches) × AreBlocksInReach (cached_in mid.caches)) (storage state mid).faults (state after.image).faults fault
-      → WhyNotFreed (IsReady state c) (storage state c).faults (state after.image).faults fault
+      → HasCause (writing_causes (AreTablesInReach (cached_in mid.caches) × AreBlocksInReach (cached_in mid.caches)) (storage state mid).faults (state after.image).faults) fault
+      → HasCause (releasing_causes (IsReady state c) (storage state c).faults (state after.image).faults) fault
   flush-cause whole fault why =
-      why-flushed (AreTablesInReach (cached_in mid.caches) × AreBlocksInReach (cached_in mid.caches)) (IsReady state c)
-      (λ ready. safe-reach (changed state mid).file mid.file.header (cached_in mid.caches) mid.caches.order (freed-quietly.holds ready.keeps ready.sound whole).0.safe)
-      (storage state c).faults (storage state mid).faults (state after.image).faults frees.quiet.later.faults fault why
+      cause-weaker (writing-implies _ frees.quiet.later.faults (omega arith)
+      (λ far ready. far (safe-reach (changed state mid).file mid.file.header (cached_in mid.caches) mid.caches.order (freed-quietly.holds ready.keeps ready.sound whole).0.safe))) fault why
 
   pub frees-waiting : OnOk freed (mid.space.to_free.entries ≡ []) → mid.space.to_free.held ≡ c.space.to_free.held → FreesWaiting state c result c'
   frees-waiting emptied held = record {
@@ -101,5 +90,5 @@ module _ {S : Type 0} (state : S → StorageState) (c : Clusters S) (empty : Are
     header = settles.header ∙ frees.header;
     no_shorter = let first = frees.no_shorter in let second = settles.no_shorter in omega (arith, first, second);
     marked = marked-there;
-    cause = settled-cause state freed mid.file mid.caches result after new settles (WhyNotFreed (IsReady state c) (storage state c).faults) (first-cause freed frees.cause) flush-cause;
+    cause = settled-cause state freed mid.file mid.caches result after new settles (λ count. HasCause (releasing_causes (IsReady state c) (storage state c).faults count)) (first-cause freed frees.cause) flush-cause;
   }

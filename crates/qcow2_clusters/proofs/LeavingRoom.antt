@@ -3,12 +3,13 @@ use Rattle.std.proofs.Common.{◌≡◌, ℕ, ◌+◌, ◌-◌, ◌/◌, ◌<◌
 use Rattle.std.specs.Prelude.{length}
 use Rattle.std.proofs.lemmas.Bool.{cases_eq, cases_lt, eq-eqb, ne_eqb}
 use Rattle.imago_storage.specs.declared.fault.Fault.{Fault}
-use Rattle.imago_storage.specs.declared.fault.Fault.TheVariants.{Counter, DamagedTable, Limit, Memory, Storage}
+use Rattle.imago_storage.specs.declared.fault.Fault.TheVariants.{Limit}
 use Rattle.qcow2_types.specs.Counts.{counters_of_block}
 use Rattle.qcow2_types.specs.Header.{Header}
 use Rattle.qcow2_types.specs.Pending.{FreeEntry}
 use Rattle.qcow2_metadata.specs.Places.{IsInReach}
 use Rattle.qcow2_metadata.specs.Tables.{TableValue}
+use Rattle.qcow2_alloc.specs.Causes.{HasCause}
 use Rattle.qcow2_alloc.specs.Crowding.{IsCrowded, IsRoomy, TakesLittle, room_for, space}
 use Rattle.qcow2_alloc.specs.GrowingTables.{NoPlaceToGrow}
 use Rattle.qcow2_alloc.specs.HandingOut.{IsFreed}
@@ -16,20 +17,22 @@ use Rattle.qcow2_alloc.specs.Quiet.{Metadata, counted}
 use Rattle.qcow2_alloc.specs.ReadyingRuns.{IsRunCounted, IsRunTold, mark_behind}
 use Rattle.qcow2_alloc.specs.SearchingClusters.{IsFirstRun}
 use Rattle.qcow2_alloc.specs.Freeing.{IsMarked}
+use Rattle.qcow2_alloc.proofs.Causes.{cause-weaker, cause-told}
 use Rattle.qcow2_alloc.proofs.Handing.AnnouncedOrders.{no-place-as}
 use Rattle.qcow2_clusters.specs.Room.{HasFreeClusters, IsFull, LeavesRoom}
-use Rattle.qcow2_clusters.specs.Storing.{WhyNotAllocated}
+use Rattle.qcow2_clusters.specs.Storing.{storing_causes}
 
 -- A cause stays one where less is ready, and what tells that there is no place may be said otherwise.
-pub why-as : (ready less : Type 0) (full full' : ℕ → Type 0) → (less → ready) → (before after : ℕ) (fault : Fault)
-    → ((number : ℕ) → fault ≡ Limit number → less → full number → full' number)
-    → WhyNotAllocated ready full before after fault → WhyNotAllocated less full' before after fault
-why-as ready less full full' from before after Memory told why = tt
-why-as ready less full full' from before after Storage told why = why
-why-as ready less full full' from before after (Limit number) told why = λ is. told number refl is (why (from is))
-why-as ready less full full' from before after DamagedTable told why = λ is. why (from is)
-why-as ready less full full' from before after Counter told why = λ is. why (from is)
-why-as ready less full full' from before after _ told why = absurd why
+pub storing-as : {ready less : Type 0} (full full' : ℕ → Type 0) (before after : ℕ) → (less → ready) → (fault : Fault) → ((number : ℕ) → fault ≡ Limit number → less → full number → full' number)
+    → HasCause (storing_causes ready full before after) fault → HasCause (storing_causes less full' before after) fault
+storing-as full full' before after from fault told why = cause-weaker (record {
+  before = omega arith;
+  after = omega arith;
+  damaged = λ wrong is. wrong (from is);
+  counter = λ wrong is. wrong (from is);
+  full = absurd;
+  limit = λ number at is. told number at.0 is (at.1 (from is));
+}) fault (cause-told _ fault why)
 
 -- The same clusters are marked where as much is counted.
 pub marked-as : (m m' : Metadata) (mark : ℕ) → ((c : ℕ) → counted m' c ≡ counted m c) → IsMarked m mark → IsMarked m' mark

@@ -25,6 +25,7 @@ use Rattle.qcow2_types.proofs.Changes.Over.{words-length}
 use Rattle.qcow2_types.proofs.Changes.WriteBack.{place-whole}
 use Rattle.qcow2_metadata.specs.Tables.{TableValue, grown_l1, padded, table_place}
 use Rattle.qcow2_alloc.specs.declared.file.ImageFile.{ImageFile}
+use Rattle.qcow2_alloc.specs.Causes.{HasCause}
 use Rattle.qcow2_alloc.specs.Crowding.{room_for, space}
 use Rattle.qcow2_alloc.specs.FreeList.{covers}
 use Rattle.qcow2_alloc.specs.Going.{WasNotCutOff}
@@ -32,6 +33,7 @@ use Rattle.qcow2_alloc.specs.MakingRoom.{run_of}
 use Rattle.qcow2_alloc.specs.Opening.{IsL1Of}
 use Rattle.qcow2_alloc.specs.Quiet.{Metadata, IsQuiet, IsSound, counted, named_at_all, referenced, waiting}
 use Rattle.qcow2_alloc.specs.Freeing.{IsMarked}
+use Rattle.qcow2_alloc.proofs.Causes.{storage-cause}
 use Rattle.qcow2_alloc.proofs.Flushing.Faultless.{faultless-then, put-faultless}
 use Rattle.qcow2_alloc.proofs.Growth.SwitchingTables.{sound-sizes}
 use Rattle.qcow2_alloc.proofs.Quiet.AtOnce.{at-once-file, put-done}
@@ -45,11 +47,11 @@ use Rattle.qcow2_clusters.specs.Progress.{Kind, Progresses, both, handing}
 use Rattle.qcow2_clusters.specs.Rest.{AreEmpty, Clusters, IsReady, lent, resting, storage}
 use Rattle.qcow2_clusters.specs.Room.{IsFull, LeavesRoom, mark_in}
 use Rattle.qcow2_clusters.specs.declared.space.Space.{Space}
-use Rattle.qcow2_clusters.specs.Storing.{AreReserved, StoresRun, WhyNotAllocated, run_handed_by}
+use Rattle.qcow2_clusters.specs.Storing.{AreReserved, StoresRun, run_handed_by, storing_causes}
 use Rattle.qcow2_clusters.proofs.Adding.{AdvancesBy, progresses-halted, progresses-in-memory, progresses-otherwise, progresses-then-given, progresses-weaker, quiet-progresses, wider-both, wider-handing}
-use Rattle.qcow2_clusters.proofs.LeavingRoom.{leaves-as, marked-as, why-as}
+use Rattle.qcow2_clusters.proofs.LeavingRoom.{leaves-as, marked-as, storing-as}
 use Rattle.qcow2_clusters.proofs.LongerTables.{IsStoredL1, later, part-meets, stored-advances, stored-counts, stored-entered, stored-unnamed}
-use Rattle.qcow2_clusters.proofs.MakingTables.{l1-placed, once-progresses, why-put}
+use Rattle.qcow2_clusters.proofs.MakingTables.{l1-placed, once-progresses}
 use Rattle.qcow2_clusters.proofs.NamingTables.{l1-long, l1-same}
 use Rattle.qcow2_clusters.proofs.Resting.{begun-quiet, begun-quietly}
 
@@ -85,10 +87,10 @@ stands-still h table was (Err fault) table' same stands = record { layout = stan
 -- Why no longer table can be made: it would be too long, or there is no memory.
 pub grow-refused : {T : Type 0} (ready : Type 0) (full : ℕ → Type 0) (at number faults : ℕ) (fault : Fault)
     → (2 ^ 22 < at + 1 → IsErrOf {T = T} (Err fault) (Limit number)) → (at + 1 ≤ 2 ^ 22 → IsOkUnless {T = T} (Err fault) Memory)
-    → (2 ^ 22 < at + 1 → full number) → WhyNotAllocated ready full faults faults fault
+    → (2 ^ 22 < at + 1 → full number) → HasCause (storing_causes ready full faults faults) fault
 grow-refused {T} ready full at number faults fault far near told = elim (cases_lt (2 ^ 22) (at + 1)) [
-  | inl long ↦ let e = far long in let same : fault ≡ Limit number = cc e in subst (WhyNotAllocated ready full faults faults) (sym same) (λ is. told long)
-  | inr short ↦ let e = near short in let same : fault ≡ Memory = cc e in subst (WhyNotAllocated ready full faults faults) (sym same) tt
+  | inl long ↦ let e = far long in let same : fault ≡ Limit number = cc e in subst (HasCause (storing_causes ready full faults faults)) (sym same) (λ is. told long)
+  | inr short ↦ let e = near short in let same : fault ≡ Memory = cc e in subst (HasCause (storing_causes ready full faults faults)) (sym same) tt
 ]
 
 short-enough : (i : ℕ) → (2 ^ 22 < i + 1 → ⊥) → i + 1 ≤ 2 ^ 22
@@ -101,7 +103,7 @@ module _ {S : Type 0} (state : S → StorageState) (top : TableValue) (i : ℕ) 
   -- The call is refused before it changes anything.
   pub l1-not-begun : (fault : Fault) (top' : TableValue) → AreEmpty c.caches → HasWordsOf top top'
       → (IsReady state c → Asked → 2 ^ 22 < i + 1 → fault ≡ Limit (min (i + 1) (2 ^ 64 - 1)))
-      → WhyNotAllocated (IsReady state c × Asked) (IsTooLong state top i c c) (storage state c).faults (storage state c).faults fault
+      → HasCause (storing_causes (IsReady state c × Asked) (IsTooLong state top i c c) (storage state c).faults (storage state c).faults) fault
       → LengthensL1 state top i c (Err fault) top' c
   l1-not-begun fault top' empty same far why = record {
     progress = λ asked. quiet-progresses (WasNotCutOff {T = Unit} (Err fault)) (λ _. 0) (λ _. 0) (storage state c) (resting state c) (storage state c) (resting state c)
@@ -130,7 +132,7 @@ module _ {S : Type 0} (state : S → StorageState) (top : TableValue) (i : ℕ) 
       let is : Err fault ≡ Err DamagedTable = places.err in
       let damaged : fault ≡ DamagedTable = cc is in
       l1-not-begun fault top' empty places.same (λ ready asked long. absurd (places.cause asked.layout (l1-placed (resting state c) ready.sound)))
-      (subst (WhyNotAllocated (IsReady state c × Asked) (IsTooLong state top i c c) (storage state c).faults (storage state c).faults) (sym damaged)
+      (subst (HasCause (storing_causes (IsReady state c × Asked) (IsTooLong state top i c c) (storage state c).faults (storage state c).faults)) (sym damaged)
       (λ both. places.cause both.1.layout (l1-placed (resting state c) both.0.sound)))
 
   -- The longer table isn't stored.
@@ -155,8 +157,8 @@ module _ {S : Type 0} (state : S → StorageState) (top : TableValue) (i : ℕ) 
     far = λ ready asked long. absurd (near long);
     leaves = λ ready asked. tt;
     marked = λ asked. stores.marked;
-    cause = why-as (IsReady state c) (IsReady state c × Asked) (IsFull n (resting state c) (mark_in c) (resting state c1) (mark_in c1))
-        (IsTooLong state top i c c1) (λ both. both.0) (storage state c).faults (storage state c1).faults fault
+    cause = storing-as (IsFull n (resting state c) (mark_in c) (resting state c1) (mark_in c1))
+        (IsTooLong state top i c c1) (storage state c).faults (storage state c1).faults (λ both. both.0) fault
         (λ number at is full. inr (short-enough i near, subst (λ k. IsFull k (resting state c) (mark_in c) (resting state c1) (mark_in c1) number) taken full))
         stores.cause;
   }
@@ -340,8 +342,7 @@ module _ {S : Type 0} (state : S → StorageState) (top placed grown : TableValu
       far = λ ready asked long. absurd (near long);
       leaves = λ ready asked. tt;
       marked = λ asked ready whole. absurd (never whole);
-      cause = why-put (IsReady state c × Given) (IsTooLong state top i c (lent file c1.caches space)) (storage state c).faults (storage state c1).faults (state file.image).faults fault (stores.rests.faults tt).0
-          (cause-of answer names.put refused);
+      cause = let same = (stores.rests.faults tt).0 in storage-cause _ _ _ (omega (arith, same)) (omega arith) fault (cause-of answer names.put refused);
     }
 
   -- It was granted: the clusters of the old table are put behind what waits.

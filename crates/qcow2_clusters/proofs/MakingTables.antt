@@ -2,11 +2,11 @@
 use Rattle.std.proofs.Common.{◌≡◌, ◌≢◌, ℕ, ◌+◌, ◌*◌, ◌^◌, ◌<◌, refl, arith, ap, sym, subst, ◌∙◌, inl, inr, length, List, Ok, Err, Result, true}
 use Rattle.std.specs.Prelude.{◌⊎◌, IfErr, IsTrue, slice_set}
 use Rattle.std.specs.Int.{w64, to_be_bytes}
-use Rattle.imago_storage.specs.State.{StorageState, Rose, Shape}
+use Rattle.imago_storage.specs.State.{StorageState, Shape}
 use Rattle.imago_storage.specs.Calls.{Cause, IsFaultless, Kept, Later}
 use Rattle.imago_storage.specs.Through.{Put, PutAtOnce}
 use Rattle.imago_storage.specs.declared.fault.Fault.{Fault}
-use Rattle.imago_storage.specs.declared.fault.Fault.TheVariants.{DamagedTable, Memory, Storage}
+use Rattle.imago_storage.specs.declared.fault.Fault.TheVariants.{DamagedTable, Memory}
 use Rattle.imago_storage.proofs.Composing.{keeps_on, later_both, later_same, no_stops, one_stop, tells_on}
 use Rattle.qcow2_types.specs.Bytes.{Bytes, bytes_of, splice, word}
 use Rattle.qcow2_types.specs.Entries.{entry, l2_mapping, l2_table}
@@ -22,10 +22,12 @@ use Rattle.qcow2_alloc.specs.Allocators.{mark_of}
 use Rattle.qcow2_alloc.specs.Caches.{HasRoomOf}
 use Rattle.qcow2_alloc.specs.Crowding.{room_for, space}
 use Rattle.qcow2_alloc.specs.Allocating.{MovedTable}
+use Rattle.qcow2_alloc.specs.Causes.{HasCause}
 use Rattle.qcow2_alloc.specs.Going.{WasNotCutOff}
 use Rattle.qcow2_alloc.specs.Opening.{IsL1Of}
 use Rattle.qcow2_alloc.specs.Quiet.{Metadata, IsIn, IsSound, counted, named_at_all, one_at}
 use Rattle.qcow2_alloc.specs.Freeing.{IsMarked}
+use Rattle.qcow2_alloc.proofs.Causes.{storage-cause}
 use Rattle.qcow2_alloc.proofs.Flushing.Faultless.{faultless-then, put-faultless}
 use Rattle.qcow2_alloc.proofs.Quiet.AtOnce.{at-once-file, put-done}
 use Rattle.qcow2_steps.specs.Advancing.{MayBeLeft}
@@ -34,9 +36,9 @@ use Rattle.qcow2_clusters.specs.MakingTables.{EntersTable, HasWordsOf, IsContent
 use Rattle.qcow2_clusters.specs.Progress.{Kind, Progresses, both, handing}
 use Rattle.qcow2_clusters.specs.Rest.{AreEmpty, Clusters, IsReady, lent, resting, storage}
 use Rattle.qcow2_clusters.specs.Room.{IsFull, LeavesRoom, mark_in}
-use Rattle.qcow2_clusters.specs.Storing.{Stores, WhyNotAllocated, handed_by}
+use Rattle.qcow2_clusters.specs.Storing.{Stores, handed_by, storing_causes}
 use Rattle.qcow2_clusters.proofs.Adding.{AdvancesBy, IsWider, LeftBy, progresses-halted, progresses-otherwise, progresses-then-given, progresses-weaker, wider-both, wider-handing}
-use Rattle.qcow2_clusters.proofs.LeavingRoom.{leaves-as, marked-as, why-as}
+use Rattle.qcow2_clusters.proofs.LeavingRoom.{leaves-as, marked-as, storing-as}
 use Rattle.qcow2_clusters.proofs.NamingTables.{IsReplacement, bytes-mean, from-zero, l1-moved, l1-same, l1-table, naming_word, replaced-advances, replaced-copied, replaced-counts, replaced-entered, replaced-named, replaced-unnamed, resting-memory, slots-kept}
 
 -- By one request the image comes to be what its file then makes it.
@@ -79,18 +81,6 @@ module _ (m : Metadata) (kind : Kind) (at : ℕ) (bytes : List ℕ) (some : 0 < 
 pub l1-placed : (m : Metadata) → IsSound m → IsTrue (is_place m.header.fields.cluster_bits m.header.fields.l1_offset)
 l1-placed m sound = (header-limited true m.file m.header sound.safe.consistent.readable.loads).l1_place
 
--- A cause stays one where less is ready,
-pub why-wider : (ready less : Type 0) (full : ℕ → Type 0) → (less → ready) → (before after : ℕ) (fault : Fault)
-    → WhyNotAllocated ready full before after fault → WhyNotAllocated less full before after fault
-why-wider ready less full from before after fault = why-as ready less full full from before after fault (λ number at is told. told)
-
--- and that of a write is one.
-pub why-put : (ready : Type 0) (full : ℕ → Type 0) (before mid after : ℕ) (fault : Fault) → mid ≡ before → Cause mid after fault
-    → WhyNotAllocated ready full before after fault
-why-put ready full before mid after Memory same why = tt
-why-put ready full before mid after Storage same why = subst (λ n. Rose n after) same why
-why-put ready full before mid after fault same why = absurd why
-
 -- In whatever the answer is refused, it is for a cause of that kind.
 pub if-refused : (result : Result ℕ Fault) (P Q : Fault → Type 0) → ((fault : Fault) → P fault → Q fault) → IfErr result P → IfErr result Q
 if-refused (Ok t) P Q from why = tt
@@ -116,8 +106,8 @@ pub not-begun : {S : Type 0} (state : S → StorageState) (asked : Type 0) (kind
     (top' : TableValue) (c' : Clusters S) → AreEmpty c.caches → IsKept state c c'
     → (IsReady state c → asked → WasNotCutOff {T = ℕ} (Err fault) → ⊥)
     → (WasNotCutOff {T = ℕ} (Err fault) → IsFaultless (storage state c) (storage state c'))
-    → WhyNotAllocated (IsReady state c × asked) (IsFull 1 (resting state c) (mark_in c) (resting state c') (mark_in c'))
-    (storage state c).faults (storage state c').faults fault
+    → HasCause (storing_causes (IsReady state c × asked) (IsFull 1 (resting state c) (mark_in c) (resting state c') (mark_in c'))
+    (storage state c).faults (storage state c').faults) fault
     → NamesNewTable state asked kind i c (Err fault) top' c'
 not-begun {S} state asked kind i c fault top' c' empty is never faultless why = record {
   progress = λ asks. record {
@@ -163,9 +153,7 @@ narrowed state asked asked' kind kind' i c result top' c' from wider same spared
   copied = λ ready asks. named.copied ready (from asks);
   leaves = λ ready asks. named.leaves ready (from asks);
   marked = λ asks. named.marked (from asks);
-  cause = if-refused result _ _ (λ fault. why-wider (IsReady state c × asked) (IsReady state c × asked')
-      (IsFull 1 (resting state c) (mark_in c) (resting state c') (mark_in c')) (λ both. (both.0, from both.1))
-      (storage state c).faults (storage state c').faults fault) named.cause;
+  cause = if-refused result _ _ (λ fault. storing-as _ _ _ _ (λ both. (both.0, from both.1)) fault (λ number at is told. told)) named.cause;
 }
 
 -- How much room is held is no matter of the image.
@@ -208,10 +196,10 @@ module _ {S : Type 0} (state : S → StorageState) (content : List ℕ) (l1 : Ta
   never-begun fault (inr damaged) ready asked whole = damaged.1 asked.top_word.l1.layout (l1-placed (resting state c) ready.sound)
 
   why-not-begun : (full : ℕ → Type 0) (fault : Fault) (before after : ℕ) → WhyNotBegun c.file.header.fields l1 fault
-      → WhyNotAllocated (IsReady state c × Asked) full before after fault
-  why-not-begun full fault before after (inl memory) = subst (WhyNotAllocated (IsReady state c × Asked) full before after) (sym memory) tt
+      → HasCause (storing_causes (IsReady state c × Asked) full before after) fault
+  why-not-begun full fault before after (inl memory) = subst (HasCause (storing_causes (IsReady state c × Asked) full before after)) (sym memory) tt
   why-not-begun full fault before after (inr damaged) =
-      subst (WhyNotAllocated (IsReady state c × Asked) full before after) (sym damaged.0)
+      subst (HasCause (storing_causes (IsReady state c × Asked) full before after)) (sym damaged.0)
       (λ both. damaged.1 both.1.top_word.l1.layout (l1-placed (resting state c) both.0.sound))
 
   pub not-placed : (fault : Fault) (l1' : TableValue) → AreEmpty c.caches → WhyNotBegun c.file.header.fields l1 fault
@@ -244,8 +232,7 @@ module _ {S : Type 0} (state : S → StorageState) (content : List ℕ) (l1 : Ta
       copied = λ ready asked. tt;
       leaves = λ ready asked. tt;
       marked = λ asked. stores.marked;
-      cause = why-wider (IsReady state c) (IsReady state c × Asked) (IsFull 1 (resting state c) (mark_in c) (resting state c1) (mark_in c1))
-          (λ both. both.0) (storage state c).faults (storage state c1).faults fault stores.cause;
+      cause = storing-as _ _ _ _ (λ both. both.0) fault (λ number at is told. told) stores.cause;
     };
     held = stores.held;
     words = tt;
@@ -501,9 +488,7 @@ module _ {S : Type 0} (state : S → StorageState) (content : List ℕ) (l1 : Ta
       copied = λ ready given. tt;
       leaves = λ ready given. tt;
       marked = λ given ready whole. absurd (never whole);
-      cause = why-put (IsReady state c × Given) (IsFull 1 (resting state c) (mark_in c) (resting state c2) (mark_in c2))
-          (storage state c).faults (storage state c1).faults (storage state c2).faults fault (stores.rests.faults tt).0
-          (cause-of answer put refused);
+      cause = let same = (stores.rests.faults tt).0 in storage-cause _ _ _ (omega (arith, same)) (omega arith) fault (cause-of answer put refused);
     };
     held = held;
     words = tt;

@@ -5,8 +5,8 @@ use Rattle.std.specs.Prelude.{⊤, ◌++◌, IfErr, IsTrue, OnOk}
 use Rattle.imago_storage.specs.State.{StorageState}
 use Rattle.imago_storage.specs.Calls.{IsFaultless, Later}
 use Rattle.imago_storage.specs.declared.fault.Fault.{Fault}
-use Rattle.imago_storage.specs.declared.fault.Fault.TheVariants.{CacheFull, DamagedTable, Memory, Storage}
-use Rattle.imago_storage.proofs.Composing.{keeps_on, later_both, rose_behind}
+use Rattle.imago_storage.specs.declared.fault.Fault.TheVariants.{Memory}
+use Rattle.imago_storage.proofs.Composing.{keeps_on, later_both}
 use Rattle.qcow2_types.specs.Bytes.{Bytes, bytes_of}
 use Rattle.qcow2_types.specs.Entries.{entry}
 use Rattle.qcow2_types.specs.Header.{Header, cluster_size, words_of_cluster}
@@ -14,29 +14,31 @@ use Rattle.qcow2_types.specs.Pending.{FreeEntry}
 use Rattle.qcow2_types.specs.Words.{data_at}
 use Rattle.qcow2_types.specs.Frames.{Same}
 use Rattle.qcow2_types.specs.References.{meets, structure}
-use Rattle.qcow2_metadata.specs.Allocations.{holds}
 use Rattle.qcow2_metadata.specs.Places.{IsInReach}
 use Rattle.qcow2_metadata.specs.Tables.{TableValue, table_in}
 use Rattle.qcow2_alloc.specs.declared.cache.MetadataCaches.{MetadataCaches}
 use Rattle.qcow2_alloc.specs.declared.file.ImageFile.{ImageFile}
 use Rattle.qcow2_alloc.specs.Allocators.{TableUsed, UsesTable, metadata_of, table_of, mark_of}
 use Rattle.qcow2_alloc.specs.Caches.{HasRoomOf, cached_in, order_of, cached_file}
-use Rattle.qcow2_alloc.specs.Finding.{TableFound, WhyNotFound}
-use Rattle.qcow2_alloc.specs.Going.{AreBlocksInReach, AreTablesInReach, IsMild, WasNotCutOff}
+use Rattle.qcow2_alloc.specs.Causes.{HasCause}
+use Rattle.qcow2_alloc.specs.Finding.{TableFound}
+use Rattle.qcow2_alloc.specs.Going.{AreBlocksInReach, AreTablesInReach, IsMild, WasNotCutOff, writing_causes}
 use Rattle.qcow2_alloc.specs.Memory.{Cached}
 use Rattle.qcow2_alloc.specs.Opening.{IsL1Of}
 use Rattle.qcow2_alloc.specs.Quiet.{IsQuiet, IsSound, IsUsed, Metadata, Quietly, in_memory, counted}
 use Rattle.qcow2_alloc.specs.Freeing.{IsMarked}
+use Rattle.qcow2_alloc.proofs.Flushing.Counting.{never-refused, writing-implies}
+use Rattle.qcow2_alloc.proofs.Causes.{cause-weaker}
 use Rattle.qcow2_alloc.proofs.Memory.SafeLaws.{clean-memory}
 use Rattle.qcow2_alloc.proofs.Quiet.QuietFlushes.{going-quietly}
 use Rattle.qcow2_alloc.proofs.Quiet.QuietShows.{in-cluster}
 use Rattle.qcow2_alloc.proofs.Quiet.QuietThen.{quietly-then}
 use Rattle.qcow2_alloc.proofs.Searching.FreeClusters.{clean-counts}
 use Rattle.qcow2_steps.proofs.QuietValues.{data-used, quiet-entries}
-use Rattle.qcow2_clusters.specs.Naming.{AreNameable, Listed, NamesIn, NamesRun, NamesWords, WhyNotNamed, given_for_run, listing, naming_run}
+use Rattle.qcow2_clusters.specs.Naming.{AreNameable, Listed, NamesIn, NamesRun, NamesWords, given_for_run, listing, naming_run}
 use Rattle.qcow2_clusters.specs.Progress.{Kind, Progresses, both, handing}
 use Rattle.qcow2_clusters.specs.Rest.{AreEmpty, Clusters, HasEntries, IsReady, nothing_cached, resting, storage}
-use Rattle.qcow2_clusters.specs.Settling.{Settles, WhyNotSettled}
+use Rattle.qcow2_clusters.specs.Settling.{Settles}
 use Rattle.qcow2_clusters.specs.Room.{mark_in}
 use Rattle.qcow2_clusters.proofs.Adding.{progresses-halted, progresses-in-memory, progresses-then, progresses-weaker, quiet-progresses, wider-both, wider-handing, wider-same}
 use Rattle.qcow2_clusters.proofs.Ending.{settled-cause, settled-faultless}
@@ -46,28 +48,6 @@ use Rattle.qcow2_clusters.proofs.NamedWords.{table-fine, table-near}
 use Rattle.qcow2_clusters.proofs.Resting.{begun-quietly, l1-stays}
 use Rattle.qcow2_clusters.proofs.LeavingRoom.{marked-as}
 use Rattle.qcow2_clusters.proofs.FewerWaiting.{fewer-sound}
-
--- Why the search was refused is why the call is: no cache is full.
-why-found : (fine full ready : Type 0) (a b : ℕ) (fault : Fault) → (ready → fine) → (full → ⊥) → WhyNotFound fine full a b fault → WhyNotNamed ready a b fault
-why-found fine full ready a b Memory is never why = tt
-why-found fine full ready a b Storage is never why = why
-why-found fine full ready a b DamagedTable is never why = λ ready. why (is ready)
-why-found fine full ready a b CacheFull is never why = absurd (never why)
-why-found fine full ready a b fault is never why = absurd why
-
--- So is what refused the writes behind it.
-why-settled : (reach ready : Type 0) (a b d : ℕ) (fault : Fault) → (ready → reach) → a ≤ b → WhyNotSettled reach b d fault → WhyNotNamed ready a d fault
-why-settled reach ready a b d Memory is later why = tt
-why-settled reach ready a b d Storage is later why = rose_behind a b d later why
-why-settled reach ready a b d DamagedTable is later why = λ ready. why (is ready)
-why-settled reach ready a b d fault is later why = absurd why
-
--- Where the image is sound, a call that wasn't cut off succeeded.
-never-mild : (ready : Type 0) (a b : ℕ) (fault : Fault) → ready → WhyNotNamed ready a b fault → IsMild fault → ⊥
-never-mild ready a b Memory holds why mild = mild
-never-mild ready a b Storage holds why mild = mild
-never-mild ready a b DamagedTable holds why mild = why holds
-never-mild ready a b fault holds why mild = why
 
 -- What is shown of a sound image in a storage that keeps what is written.
 progresses-ready : (ok : Type 0) (kind : Kind) (s : StorageState) (m : Metadata) (s' : StorageState) (m' : Metadata) → s'.shape ≡ s.shape → Later s s'
@@ -113,7 +93,7 @@ module _ {S : Type 0} (state : S → StorageState) (table guest x n : ℕ) (c c'
     pub room : HasRoomOf c.caches mid
     pub held : c'.space.to_free.held ≡ c.space.to_free.held
     pub reach : WasNotCutOff done → Ready → AreTablesInReach (cached_in mid) × AreBlocksInReach (cached_in mid)
-    pub why : IfErr done (WhyNotNamed Ready s0.faults s1.faults)
+    pub why : IfErr done (HasCause (writing_causes Ready s0.faults s1.faults))
     pub waits : Ready → result ≡ Ok tt → c'.space.to_free.entries ≡ c.space.to_free.entries ++ dropped
     pub progress : Ready → Progresses (result ≡ Ok tt) (naming_run m0 guest x n) s0 m0 s2 m2
     pub l1 : Ready → result ≡ Ok tt → (l1 : TableValue) → IsL1Of m0.file c.file.header.fields l1 → IsL1Of m2.file c'.file.header.fields l1
@@ -127,15 +107,15 @@ module _ {S : Type 0} (state : S → StorageState) (table guest x n : ℕ) (c c'
     behind : Later s1 s2
     behind = (settles.quiet (table_of c'.space.allocator) c'.space.to_free.entries).later
 
-    why-refused : Begun → IfErr result (WhyNotNamed Ready s0.faults s2.faults)
-    why-refused begun = settled-cause state done between mid result c'.file c'.caches settles (WhyNotNamed Ready s0.faults) begun.why
-        (λ whole fault. why-settled _ Ready s0.faults s1.faults s2.faults fault (begun.reach whole) begun.later.faults)
+    why-refused : Begun → IfErr result (HasCause (writing_causes Ready s0.faults s2.faults))
+    why-refused begun = settled-cause state done between mid result c'.file c'.caches settles (λ count. HasCause (writing_causes Ready s0.faults count)) begun.why
+        (λ whole fault why. cause-weaker (writing-implies _ begun.later.faults (omega arith) (λ far ready. far (begun.reach whole ready))) fault why)
 
     succeeded : Begun → Ready → WasNotCutOff result → result ≡ Ok tt
     succeeded begun ready whole = by result (why-refused begun) whole where
-      by : (r : Result Unit Fault) → IfErr r (WhyNotNamed Ready s0.faults s2.faults) → WasNotCutOff r → r ≡ Ok tt
+      by : (r : Result Unit Fault) → IfErr r (HasCause (writing_causes Ready s0.faults s2.faults)) → WasNotCutOff r → r ≡ Ok tt
       by (Ok v) why whole = refl
-      by (Err fault) why mild = absurd (never-mild Ready s0.faults s2.faults fault ready why mild)
+      by (Err fault) why mild = absurd (never-refused Ready s0.faults s2.faults fault ready mild why)
 
     on-ok : (r : Result Unit Fault) (P : Type 0) → (r ≡ Ok tt → P) → OnOk r P
     on-ok (Ok v) P from = from refl
@@ -192,18 +172,23 @@ module _ {S : Type 0} (state : S → StorageState) (table guest x n : ℕ) (c c'
     -- It was refused.
     module _ (fault : Fault) (found : TableFound state table c.caches c.file (Err fault) mid between) (is : done ≡ Err fault)
         (held : c'.space.to_free.held ≡ c.space.to_free.held) (settles : Settles state done between mid result c'.file c'.caches) where
-      refused-why : WhyNotNamed Ready s0.faults s1.faults fault
-      refused-why = why-found _ _ Ready s0.faults s1.faults fault
-          (λ ready. (
-            table-fine m0 table (guest + 0) (x + 0) ready.0.sound (ready.1 0 any) (bytes_of s1.bytes)
-                (ap bytes_of (only-read state table c.caches c.file rest (Err fault) mid between found).bytes),
-            reach-of-none.0,
-            reach-of-none.1,
-          ))
-          (never-full state table c.caches c.file rest room) found.cause
+      refused-why : HasCause (writing_causes Ready s0.faults s1.faults) fault
+      refused-why = cause-weaker (record {
+        before = omega arith;
+        after = omega arith;
+        damaged = λ wrong ready. wrong (
+          table-fine m0 table (guest + 0) (x + 0) ready.0.sound (ready.1 0 any) (bytes_of s1.bytes)
+              (ap bytes_of (only-read state table c.caches c.file rest (Err fault) mid between found).bytes),
+          reach-of-none.0,
+          reach-of-none.1,
+        );
+        counter = absurd;
+        full = λ full. absurd (never-full state table c.caches c.file rest room full);
+        limit = λ number. absurd;
+      }) fault found.cause
 
       refused-cut : Ready → (result ≡ done) × (c'.file ≡ between)
-      refused-cut ready = settles.cut (λ whole. never-mild Ready s0.faults s1.faults fault ready refused-why (subst WasNotCutOff is whole))
+      refused-cut ready = settles.cut (λ whole. never-refused Ready s0.faults s1.faults fault ready (subst WasNotCutOff is whole) refused-why)
 
       refused-never : Ready → result ≡ Ok tt → ⊥
       refused-never ready ok = let bad : Ok tt ≡ Err fault = sym ok ∙ (refused-cut ready).0 ∙ is in absurd cc
@@ -225,7 +210,7 @@ module _ {S : Type 0} (state : S → StorageState) (table guest x n : ℕ) (c c'
         room = found.room;
         held = held;
         reach = λ whole ready. subst (λ (k : Cached). AreTablesInReach k × AreBlocksInReach k) (sym (refused-empty state table c.caches c.file rest fault mid between found)) (tt, tt);
-        why = subst (λ r. IfErr r (WhyNotNamed Ready s0.faults s1.faults)) (sym is) refused-why;
+        why = subst (λ r. IfErr r (HasCause (writing_causes Ready s0.faults s1.faults))) (sym is) refused-why;
         waits = λ ready ok. absurd (refused-never ready ok);
         progress = refused-progress;
         l1 = λ ready ok. absurd (refused-never ready ok);
@@ -289,7 +274,7 @@ module _ {S : Type 0} (state : S → StorageState) (table guest x n : ℕ) (c c'
           room = room-same;
           held = held;
           reach = λ whole. absurd (subst WasNotCutOff is whole);
-          why = subst (λ r. IfErr r (WhyNotNamed Ready s0.faults s1.faults)) (sym is) tt;
+          why = subst (λ r. IfErr r (HasCause (writing_causes Ready s0.faults s1.faults))) (sym is) tt;
           waits = λ ready ok. absurd (unput-never ok);
           progress = λ ready. unput-progress;
           l1 = λ ready ok. absurd (unput-never ok);
@@ -454,7 +439,7 @@ module _ {S : Type 0} (state : S → StorageState) (table guest x n : ℕ) (c c'
           room = room-same;
           held = held;
           reach = λ whole. set-reach;
-          why = subst (λ r. IfErr r (WhyNotNamed Ready s0.faults s1.faults)) (sym is) tt;
+          why = subst (λ r. IfErr r (HasCause (writing_causes Ready s0.faults s1.faults))) (sym is) tt;
           waits = λ ready ok. (stood ready).waits;
           progress = set-progress;
           l1 = set-l1;

@@ -5,7 +5,6 @@ use Rattle.std.specs.List.{AllByRecursion}
 use Rattle.imago_storage.specs.Calls.{IsFaultless, Kept}
 use Rattle.imago_storage.specs.State.{StorageState}
 use Rattle.imago_storage.specs.declared.fault.Fault.{Fault}
-use Rattle.imago_storage.specs.declared.fault.Fault.TheVariants.{DamagedTable, Memory, Storage}
 use Rattle.imago_storage.proofs.Composing.{later_same, no_stops}
 use Rattle.qcow2_types.specs.Bytes.{Bytes, bytes_of}
 use Rattle.qcow2_types.specs.Counts.{count}
@@ -21,8 +20,9 @@ use Rattle.qcow2_alloc.specs.declared.file.ImageFile.{ImageFile}
 use Rattle.qcow2_alloc.specs.Allocators.{metadata_of}
 use Rattle.qcow2_alloc.specs.Cache.{kept_pinned}
 use Rattle.qcow2_alloc.specs.Caches.{HasRoomOf, cached_in}
+use Rattle.qcow2_alloc.specs.Causes.{HasCause, FailsFor}
+use Rattle.qcow2_alloc.specs.Going.{Always, AreBlocksInReach, AreTablesInReach, Going, InTurn, IsMild, IsNoShorter, WasNotCutOff, WritesBlocks, WritesTables, writing_causes}
 use Rattle.qcow2_alloc.specs.declared.cache.CacheDependency.{CacheDependency}
-use Rattle.qcow2_alloc.specs.Going.{Always, AreBlocksInReach, AreTablesInReach, CountsWrites, Going, InTurn, IsMild, IsNoShorter, WasNotCutOff, WhyNotWritten, WritesBlocks, WritesTables}
 use Rattle.qcow2_alloc.specs.Memory.{Cached, memory, written_block, written_table}
 use Rattle.qcow2_alloc.specs.Quiet.{IsIn, IsQuiet, IsSound, Metadata, Quietly, counted}
 use Rattle.qcow2_alloc.specs.Safety.{AreBlocksClean, AreTablesClean, IsLeft, IsSettled, Safe}
@@ -33,7 +33,7 @@ use Rattle.qcow2_alloc.proofs.Memory.SafeLaws.{clean-memory, safe-reach}
 use Rattle.qcow2_alloc.proofs.Quiet.QuietAnnouncing.{written-whole}
 use Rattle.qcow2_alloc.proofs.Quiet.QuietFlushes.{going-quietly, quietly-weaker, stays-quiet}
 use Rattle.qcow2_clusters.specs.Rest.{AreEmpty, nothing_cached}
-use Rattle.qcow2_clusters.specs.Settling.{AreUnpinned, Settles, WhyNotSettled, at_rest}
+use Rattle.qcow2_clusters.specs.Settling.{AreUnpinned, Settles, at_rest}
 
 -- None of these entries is pinned.
 abbrev pub Unpinned : {V : Type 0} → List (ℕ × Slot V) → Type 0
@@ -82,7 +82,7 @@ rest-quiet m old new cached' at sound settled tables blocks =
 -- So a flush that wasn't cut off leaves the image at rest quietly, once all is dropped.
 pub rests-quietly : (m : Metadata) (flushed : Result Unit Fault) (old new : StorageState) (cached' : Cached) → IsIn old m
     → Going m.header m.order Always (flushed ≡ Ok tt) old m.cached new cached'
-    → CountsWrites (AreTablesInReach m.cached × AreBlocksInReach m.cached) old.faults new.faults flushed
+    → FailsFor (writing_causes (AreTablesInReach m.cached × AreBlocksInReach m.cached) old.faults new.faults) flushed
     → OnOk flushed (AreTablesClean cached') → OnOk flushed (AreBlocksClean cached')
     → Quietly (WasNotCutOff flushed) (λ _. 0) (λ _. 0) old m new (at_rest (record m { file = bytes_of new.bytes }))
 rests-quietly m flushed old new cached' at going counts tables blocks = record {
@@ -106,7 +106,7 @@ counts-kept m old new cached' at settled tables blocks c = ap (λ (g : Bytes). c
 
 pub rests-counting : (m : Metadata) (flushed : Result Unit Fault) (old new : StorageState) (cached' : Cached) → IsIn old m
     → Going m.header m.order Always (flushed ≡ Ok tt) old m.cached new cached'
-    → CountsWrites (AreTablesInReach m.cached × AreBlocksInReach m.cached) old.faults new.faults flushed
+    → FailsFor (writing_causes (AreTablesInReach m.cached × AreBlocksInReach m.cached) old.faults new.faults) flushed
     → OnOk flushed (AreTablesClean cached') → OnOk flushed (AreBlocksClean cached')
     → IsTrue old.shape.keeps → IsSound m → WasNotCutOff flushed → (c : ℕ)
     → counted (at_rest (record m { file = bytes_of new.bytes })) c ≡ counted m c
@@ -142,13 +142,6 @@ flushed-still order a b c c' flushed blocks_first tables_first tables blocks = e
       let second = blocks-none t.mid b t.between c' flushed (t.second first.0) (subst AreBlocksClean (sym first.2) blocks) in
       subst (λ (s : StorageState). Kept a s) (sym (second.1 ∙ first.1)) (kept-same a)
 ]
-
--- why a flush was refused
-pub why-settled : (reach : Type 0) (before after : ℕ) (fault : Fault) → WhyNotWritten reach before after fault → WhyNotSettled reach before after fault
-why-settled reach before after Memory why = why
-why-settled reach before after Storage why = why
-why-settled reach before after DamagedTable why = why
-why-settled reach before after _ why = absurd why
 
 -- the answers of a flush
 abbrev pub done_so : Result Unit Fault
@@ -187,7 +180,7 @@ module _ {S T : Type 0} (state : S → StorageState) (given : Result T Fault) (b
       (still : AreTablesClean (cached_in old) → AreBlocksClean (cached_in old) → Kept (state before.image) (state after.image)) where
     module _ (flushed : Result Unit Fault)
         (going : Going before.header old.order Always (flushed ≡ Ok tt) (state before.image) (cached_in old) (state after.image) cached')
-        (counts : CountsWrites (AreTablesInReach (cached_in old) × AreBlocksInReach (cached_in old)) (state before.image).faults (state after.image).faults flushed)
+        (counts : FailsFor (writing_causes (AreTablesInReach (cached_in old) × AreBlocksInReach (cached_in old)) (state before.image).faults (state after.image).faults) flushed)
         (tables : OnOk flushed (AreTablesClean cached')) (blocks : OnOk flushed (AreBlocksClean cached')) where
       quietly-settled : (table : TableValue) (pending : List FreeEntry)
           → Quietly (WasNotCutOff flushed) (λ _. 0) (λ _. 0) (state before.image) (metadata_of state before old table pending) (state after.image) (at_rest (metadata_of state after old table pending))
@@ -226,7 +219,7 @@ module _ {S T : Type 0} (state : S → StorageState) (given : Result T Fault) (b
 
     -- and else with the fault of that.
     pub settled-refused : (fault : Fault) → Going before.header old.order Always (refused_so fault ≡ done_so) (state before.image) (cached_in old) (state after.image) cached'
-        → WhyNotWritten (AreTablesInReach (cached_in old) × AreBlocksInReach (cached_in old)) (state before.image).faults (state after.image).faults fault
+        → HasCause (writing_causes (AreTablesInReach (cached_in old) × AreBlocksInReach (cached_in old)) (state before.image).faults (state after.image).faults) fault
         → (IsMild fault → IsFaultless (state before.image) (state after.image)) → Settles state given before old (Err fault) after new
     settled-refused fault going counts faultless = record {
       empty = empty;
@@ -239,5 +232,5 @@ module _ {S T : Type 0} (state : S → StorageState) (given : Result T Fault) (b
       still = still;
       cut = λ cut. absurd (cut whole);
       ok = tt;
-      answer = inr (fault, refl, why-settled (AreTablesInReach (cached_in old) × AreBlocksInReach (cached_in old)) (state before.image).faults (state after.image).faults fault counts);
+      answer = inr (fault, refl, counts);
     }

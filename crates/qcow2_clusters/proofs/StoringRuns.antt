@@ -4,11 +4,10 @@ use Rattle.std.specs.Prelude.{⊤, slice_index}
 use Rattle.std.proofs.lemmas.Bool.{cases_lt}
 use Rattle.std.proofs.Math.Nat.{add-mul, mul-le-mul_right}
 use Rattle.imago_storage.specs.State.{StorageState}
-use Rattle.imago_storage.specs.Calls.{Cause, Spliced}
+use Rattle.imago_storage.specs.Calls.{Spliced}
 use Rattle.imago_storage.specs.Through.{Put}
 use Rattle.imago_storage.specs.declared.fault.Fault.{Fault}
-use Rattle.imago_storage.specs.declared.fault.Fault.TheVariants.{Memory, Storage}
-use Rattle.imago_storage.proofs.Composing.{keeps_on, later_both, rose_behind}
+use Rattle.imago_storage.proofs.Composing.{keeps_on, later_both}
 use Rattle.qcow2_types.specs.Bytes.{bytes_of}
 use Rattle.qcow2_types.specs.Header.{Header, cluster_size}
 use Rattle.qcow2_types.specs.Pending.{FreeEntry}
@@ -20,6 +19,7 @@ use Rattle.qcow2_alloc.specs.HandingOut.{AllocatesClusters}
 use Rattle.qcow2_alloc.specs.MakingRoom.{run_of}
 use Rattle.qcow2_alloc.specs.Quiet.{IsSound, IsUsed, Metadata, Quietly}
 use Rattle.qcow2_alloc.specs.Freeing.{IsMarked}
+use Rattle.qcow2_alloc.proofs.Causes.{storage-cause}
 use Rattle.qcow2_alloc.proofs.Flushing.Faultless.{faultless-then, never-mild, put-faultless}
 use Rattle.qcow2_alloc.proofs.Blocks.CountingRuns.{covers-behind}
 use Rattle.qcow2_alloc.proofs.Growth.GrownTables.{covers-before, covers-inside}
@@ -31,7 +31,7 @@ use Rattle.qcow2_steps.specs.Data.{WritesBeside}
 use Rattle.qcow2_steps.proofs.DataRuns.{beside-reserved, beside-words}
 use Rattle.qcow2_clusters.specs.Rest.{AreEmpty, Clusters, HasEntries, IsReady, changed, lent, resting, storage}
 use Rattle.qcow2_clusters.specs.Room.{LeavesRoom, mark_in}
-use Rattle.qcow2_clusters.specs.Storing.{AreReserved, StoresRunUnsettled, WhyNotAllocated}
+use Rattle.qcow2_clusters.specs.Storing.{AreReserved, StoresRunUnsettled}
 use Rattle.qcow2_clusters.proofs.AllocatingRuns.{run-leaves, run-marked, run-named, run-quietly-handed, run-reserved, run-room, run-size, run-unpinned, run-unused}
 use Rattle.qcow2_clusters.proofs.Ending.{begun, quiet-halted}
 use Rattle.qcow2_clusters.proofs.LeavingRoom.{leaves-as, marked-as}
@@ -41,13 +41,6 @@ pub whole-fits : (content : List ℕ) (n size : ℕ) → 0 < n → length conten
 whole-fits content n size some whole =
     let le : 1 * size ≤ n * size = mul-le-mul_right size (omega (arith, some)) in
     omega (arith, whole, le)
-
--- why it couldn't be written
-pub why-written : (ready : Type 0) (full : ℕ → Type 0) (before mid after : ℕ) → before ≤ mid → (fault : Fault) → Cause mid after fault
-    → WhyNotAllocated ready full before after fault
-why-written ready full before mid after later Memory why = tt
-why-written ready full before mid after later Storage why = rose_behind before mid after later why
-why-written ready full before mid after later _ why = absurd why
 
 module _ {S : Type 0} (state : S → StorageState) (c : Clusters S) (empty : AreEmpty c.caches) (room : HasEntries c.caches) (n : ℕ) (mid : Clusters S)
     (entry : FreeEntry) (a : AllocatesClusters state (mark_in c) n false (begun c) (Ok entry) (begun mid) (mark_in mid)) (some : 0 < n) (content : List ℕ)
@@ -184,7 +177,7 @@ module _ {S : Type 0} (state : S → StorageState) (c : Clusters S) (empty : Are
     stored = λ ready. tt;
     leaves = λ ready. tt;
     marked = λ ready whole. absurd (never whole);
-    cause = why-written (IsReady state c) _ (storage state c).faults (storage state mid).faults (state after.image).faults first.later.faults fault put.answer.cause;
+    cause = storage-cause _ _ _ first.later.faults (omega arith) fault put.answer.cause;
   }
     where
       never : IsMild fault → ⊥

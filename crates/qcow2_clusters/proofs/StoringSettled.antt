@@ -5,8 +5,7 @@ use Rattle.std.proofs.Math.Nat.{add-mul, div-lt_iff_lt-mul, div-mul-le_self, mod
 use Rattle.std.proofs.lemmas.Nat.{mod_below, pow_pos}
 use Rattle.imago_storage.specs.State.{StorageState}
 use Rattle.imago_storage.specs.declared.fault.Fault.{Fault}
-use Rattle.imago_storage.specs.declared.fault.Fault.TheVariants.{DamagedTable, Memory, Storage}
-use Rattle.imago_storage.proofs.Composing.{keeps_on, rose_behind}
+use Rattle.imago_storage.proofs.Composing.{keeps_on}
 use Rattle.qcow2_types.specs.Frames.{Same}
 use Rattle.qcow2_types.specs.Header.{Header, cluster_size}
 use Rattle.qcow2_metadata.specs.Places.{IsInReach}
@@ -14,11 +13,14 @@ use Rattle.qcow2_alloc.specs.declared.cache.MetadataCaches.{MetadataCaches}
 use Rattle.qcow2_alloc.specs.declared.file.ImageFile.{ImageFile}
 use Rattle.qcow2_alloc.specs.Allocators.{table_of}
 use Rattle.qcow2_alloc.specs.Caches.{cached_in}
+use Rattle.qcow2_alloc.specs.Causes.{HasCause}
 use Rattle.qcow2_alloc.specs.Crowding.{room_for, space}
 use Rattle.qcow2_alloc.specs.Going.{AreBlocksInReach, AreTablesInReach, IsMild, WasNotCutOff}
 use Rattle.qcow2_alloc.specs.MakingRoom.{run_of}
 use Rattle.qcow2_alloc.specs.Quiet.{IsQuiet, IsSound, Quietly, counted}
 use Rattle.qcow2_alloc.specs.Freeing.{IsMarked}
+use Rattle.qcow2_alloc.proofs.Flushing.Counting.{never-refused, writing-implies}
+use Rattle.qcow2_alloc.proofs.Causes.{cause-weaker}
 use Rattle.qcow2_alloc.proofs.Freeing.Listed.{covers-one}
 use Rattle.qcow2_alloc.proofs.Memory.SafeLaws.{safe-reach}
 use Rattle.qcow2_alloc.proofs.Quiet.QuietGiven.{quietly-given}
@@ -26,33 +28,19 @@ use Rattle.qcow2_steps.proofs.AddingUp.{reserved-still}
 use Rattle.qcow2_steps.proofs.Steps.{quiet-advances}
 use Rattle.qcow2_clusters.specs.Rest.{Clusters, IsReady, changed, lent, resting, storage}
 use Rattle.qcow2_clusters.specs.Room.{IsFull, LeavesRoom, mark_in}
-use Rattle.qcow2_clusters.specs.Settling.{Settles, WhyNotSettled}
-use Rattle.qcow2_clusters.specs.Storing.{AreReserved, Stores, StoresRun, StoresRunUnsettled, WhyNotAllocated, handed_by, held_by, run_handed_by}
+use Rattle.qcow2_clusters.specs.Settling.{Settles}
+use Rattle.qcow2_clusters.specs.Storing.{AreReserved, Stores, StoresRun, StoresRunUnsettled, handed_by, held_by, run_handed_by, storing_causes}
 use Rattle.qcow2_clusters.proofs.Adding.{progresses-weaker, quiet-progresses, wider-handing}
 use Rattle.qcow2_clusters.specs.Progress.{handing}
 use Rattle.qcow2_clusters.proofs.Ending.{quiet-halted, settled-cases, settled-cause, settled-faultless, settled-if-ok, settled-quietly}
-use Rattle.qcow2_clusters.proofs.LeavingRoom.{full-as, leaves-as, marked-as, why-as}
+use Rattle.qcow2_clusters.proofs.LeavingRoom.{full-as, leaves-as, marked-as, storing-as}
 use Rattle.qcow2_clusters.proofs.Resting.{l1-kept}
-
--- why what was stored couldn't be settled
-why-flushed : (reach ready : Type 0) (full : ℕ → Type 0) → (ready → reach) → (before mid after : ℕ) → before ≤ mid → (fault : Fault) → WhyNotSettled reach mid after fault → WhyNotAllocated ready full before after fault
-why-flushed reach ready full is before mid after later Memory why = tt
-why-flushed reach ready full is before mid after later Storage why = rose_behind before mid after later why
-why-flushed reach ready full is before mid after later DamagedTable why = λ here. why (is here)
-why-flushed reach ready full is before mid after later _ why = absurd why
-
--- A mild one comes only where something is out of reach.
-mild-reach : (reach : Type 0) (mid after : ℕ) (fault : Fault) → WhyNotSettled reach mid after fault → reach → IsMild fault → ⊥
-mild-reach reach mid after Memory why near mild = mild
-mild-reach reach mid after Storage why near mild = mild
-mild-reach reach mid after DamagedTable why near mild = why near
-mild-reach reach mid after _ why near mild = why
 
 -- A cause that says so only of a call that wasn't cut off says so.
 if-mild : (ready : Type 0) (full : ℕ → Type 0) (before after : ℕ) (r : Result ℕ Fault)
-    → IfErr r (WhyNotAllocated ready (λ number. WasNotCutOff r → full number) before after) → IfErr r (WhyNotAllocated ready full before after)
+    → IfErr r (HasCause (storing_causes ready (λ number. WasNotCutOff r → full number) before after)) → IfErr r (HasCause (storing_causes ready full before after))
 if-mild ready full before after (Ok x) why = tt
-if-mild ready full before after (Err fault) why = why-as ready ready (λ number. WasNotCutOff {T = ℕ} (Err fault) → full number) full (λ is. is) before after fault
+if-mild ready full before after (Err fault) why = storing-as (λ number. WasNotCutOff {T = ℕ} (Err fault) → full number) full before after (λ is. is) fault
     (λ number at is told. told (subst (λ (f : Fault). IsMild f) (sym at) tt)) why
 
 module _ {S : Type 0} (state : S → StorageState) (n : ℕ) (content : List ℕ) (c : Clusters S) (long : length content ≤ n * cluster_size c.file.header.fields) (was : Result ℕ Fault) (mid : Clusters S)
@@ -81,7 +69,7 @@ module _ {S : Type 0} (state : S → StorageState) (n : ℕ) (content : List ℕ
         subst (λ (r : Result ℕ Fault). Quietly (WasNotCutOff r) (run_handed_by n r) (λ _. 0) (storage state c) (resting state c) (storage state c') (resting state c')) (sym refused.2)
         (quietly-given (IsMild refused.1) (λ _. 0) (λ _. 0) (storage state c) (resting state c) (storage state c') (resting state c') as-was.shape as-was.later (λ keeps sound.
         quiet-halted (WasNotCutOff result) (IsMild refused.1) (run_handed_by n was) (λ _. 0) (λ _. 0) (λ _. 0) (storage state c) (resting state c) (storage state c') (resting state c') (resting state c')
-        (λ mild. mild-reach Reach (storage state mid).faults (storage state c').faults refused.1 refused.3 (in-reach (record { keeps = keeps; sound = sound }) refused.0) mild) as-was))
+        (λ mild. never-refused Reach (storage state mid).faults (storage state c').faults refused.1 (in-reach (record { keeps = keeps; sound = sound }) refused.0) mild refused.3) as-was))
   ]
 
   -- What is settled keeps what is reserved, with its bytes.
@@ -177,12 +165,12 @@ module _ {S : Type 0} (state : S → StorageState) (n : ℕ) (content : List ℕ
   full-if number = WasNotCutOff result → IsFull n (resting state c) (mark_in c) (resting state c') (mark_in mid) number
 
   full-was : (r : Result ℕ Fault) → was ≡ r
-      → IfErr r (WhyNotAllocated (IsReady state c) (IsFull n (resting state c) (mark_in c) (changed state mid) (mark_in mid)) (storage state c).faults (storage state mid).faults)
-      → IfErr r (WhyNotAllocated (IsReady state c) full-if (storage state c).faults (storage state mid).faults)
+      → IfErr r (HasCause (storing_causes (IsReady state c) (IsFull n (resting state c) (mark_in c) (changed state mid) (mark_in mid)) (storage state c).faults (storage state mid).faults))
+      → IfErr r (HasCause (storing_causes (IsReady state c) full-if (storage state c).faults (storage state mid).faults))
   full-was (Ok x) is why = tt
-  full-was (Err fault) is why = why-as (IsReady state c) (IsReady state c)
-      (IsFull n (resting state c) (mark_in c) (changed state mid) (mark_in mid)) full-if (λ ready. ready)
-      (storage state c).faults (storage state mid).faults fault (λ number at ready full done.
+  full-was (Err fault) is why = storing-as
+      (IsFull n (resting state c) (mark_in c) (changed state mid) (mark_in mid)) full-if
+      (storage state c).faults (storage state mid).faults (λ ready. ready) fault (λ number at ready full done.
       full-as n (resting state c) (changed state mid) (resting state c') (mark_in c) (mark_in mid) number (sym settles.header) refl
       (λ d. sym (counts-there ready (subst (λ (r : Result ℕ Fault). WasNotCutOff r) (sym is) (subst (λ (f : Fault). IsMild f) (sym at) tt)) done d)) full) why
 
@@ -206,9 +194,9 @@ module _ {S : Type 0} (state : S → StorageState) (n : ℕ) (content : List ℕ
     leaves = leaves-if result refl;
     marked = marked-there;
     cause = if-mild (IsReady state c) (IsFull n (resting state c) (mark_in c) (resting state c') (mark_in mid)) (storage state c).faults (storage state c').faults result
-        (settled-cause state was mid.file mid.caches result after new settles (WhyNotAllocated (IsReady state c) full-if (storage state c).faults)
+        (settled-cause state was mid.file mid.caches result after new settles (λ count. HasCause (storing_causes (IsReady state c) full-if (storage state c).faults count))
         (full-was was refl stored.cause) (λ whole fault why.
-        why-flushed Reach (IsReady state c) full-if (λ ready. in-reach ready whole) (storage state c).faults (storage state mid).faults (storage state c').faults stored.quiet.later.faults fault why));
+        cause-weaker (writing-implies _ stored.quiet.later.faults (omega arith) (λ far ready. far (in-reach ready whole))) fault why));
   }
 
 -- No room is held for what was refused before.

@@ -17,6 +17,7 @@ use Rattle.qcow2_alloc.specs.FreeList.{covers}
 use Rattle.qcow2_alloc.specs.MakingRoom.{run_of}
 use Rattle.qcow2_alloc.specs.Quiet.{IsSound, IsUsed, Metadata, Quietly, in_memory, referenced}
 use Rattle.qcow2_alloc.specs.Freeing.{IsMarked}
+use Rattle.qcow2_alloc.proofs.Causes.{storage-cause}
 use Rattle.qcow2_alloc.proofs.Flushing.Faultless.{faultless-then, never-mild, put-faultless}
 use Rattle.qcow2_alloc.proofs.Blocks.CountingRuns.{covers-behind}
 use Rattle.qcow2_alloc.proofs.Growth.GrownTables.{covers-before, covers-inside}
@@ -32,7 +33,6 @@ use Rattle.qcow2_clusters.specs.Storing.{AreReserved, StoresRun, run_handed_by}
 use Rattle.qcow2_clusters.proofs.Adding.{progresses-halted, progresses-otherwise, progresses-then-given, quiet-progresses, wider-both, wider-handing}
 use Rattle.qcow2_clusters.proofs.LeavingRoom.{leaves-as, marked-as}
 use Rattle.qcow2_clusters.proofs.Resting.{l1-kept}
-use Rattle.qcow2_clusters.proofs.StoringRuns.{why-written}
 
 module _ {S : Type 0} (state : S → StorageState) (n : ℕ) (some : 0 < n) (before : List ℕ) (x : ℕ) (c mid : Clusters S)
     (run : StoresRun state n before c (Ok x) mid) (after : ImageFile S) (header : after.header ≡ mid.file.header) (place : ℕ) (bytes : List ℕ)
@@ -177,8 +177,7 @@ module _ {S : Type 0} (state : S → StorageState) (n : ℕ) (some : 0 < n) (bef
     stored = λ ready. tt;
     leaves = λ ready. tt;
     marked = λ ready mild. absurd (never mild);
-    cause = why-written (IsReady state c) _ (storage state c).faults (storage state mid).faults (state after.image).faults run.rests.later.faults fault
-        put.answer.cause;
+    cause = storage-cause _ _ _ run.rests.later.faults (omega arith) fault put.answer.cause;
   }
     where
       never : IsMild fault → ⊥

@@ -1,21 +1,19 @@
 -- How what waits to be freed is freed.
-use Rattle.std.specs.Prelude.{◌≡◌, [], ⊤, ℕ, Result, OnOk, IfErr}
-use Rattle.imago_storage.specs.State.{StorageState, Rose}
+use Rattle.std.specs.Prelude.{◌≡◌, [], ℕ, Result, OnOk, IfErr}
+use Rattle.imago_storage.specs.State.{StorageState}
 use Rattle.imago_storage.specs.declared.fault.Fault.{Fault}
-use Rattle.imago_storage.specs.declared.fault.Fault.TheVariants.{Counter, DamagedTable, Memory, Storage}
+use Rattle.qcow2_alloc.specs.Causes.{HasCause, Causes}
 use Rattle.qcow2_alloc.specs.Going.{IsNoShorter, WasNotCutOff}
 use Rattle.qcow2_clusters.specs.Progress.{Progresses, handing}
 use Rattle.qcow2_clusters.specs.Rest.{Clusters, IsReady, KeepsL1, resting, storage}
 use Rattle.qcow2_clusters.specs.Storing.{Rests}
 use Rattle.qcow2_clusters.specs.Room.{KeepsMarked}
 
--- Why a call is refused that frees: for want of memory or by a storage that failed; else only where the image isn't ready.
-abbrev pub WhyNotFreed : (ready : Type 0) → (before after : ℕ) → Fault → Type 0
-WhyNotFreed ready before after Memory = ⊤
-WhyNotFreed ready before after Storage = Rose before after
-WhyNotFreed ready before after DamagedTable = ready → ⊥
-WhyNotFreed ready before after Counter = ready → ⊥
-WhyNotFreed ready before after fault = ⊥
+-- Calls that free fail, but for want of memory or by a storage, as a damaged table or for a counter that can't change, only where the image
+-- isn't ready.
+abbrev pub releasing_causes : (ready : Type 0) → (before after : ℕ) → Causes
+releasing_causes ready before after =
+    record { damaged = ready → ⊥; counter = ready → ⊥; full = ⊥; limit = λ number. ⊥; before = before; after = after }
 
 -- What waits is freed: the disk stays as it was. Whatever is answered, the file gets no shorter.
 pub record FreesWaiting {S : Type 0} (state : S → StorageState) (c : Clusters S) (result : Result Unit Fault)
@@ -29,4 +27,4 @@ pub record FreesWaiting {S : Type 0} (state : S → StorageState) (c : Clusters 
   pub header : c'.file.header ≡ c.file.header
   pub no_shorter : IsNoShorter (storage state c) (storage state c')
   pub marked : KeepsMarked state c result c'
-  pub cause : IfErr result (WhyNotFreed (IsReady state c) (storage state c).faults (storage state c').faults)
+  pub cause : IfErr result (HasCause (releasing_causes (IsReady state c) (storage state c).faults (storage state c').faults))

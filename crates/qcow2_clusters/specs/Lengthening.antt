@@ -13,6 +13,7 @@ use Rattle.qcow2_types.specs.Switched.{with_l1_table}
 use Rattle.qcow2_metadata.specs.Tables.{TableValue, IsPlacedTable, padded, table_place}
 use Rattle.qcow2_alloc.specs.declared.file.ImageFile.{ImageFile}
 use Rattle.qcow2_alloc.specs.Caches.{HasRoomOf}
+use Rattle.qcow2_alloc.specs.Causes.{HasCause}
 use Rattle.qcow2_alloc.specs.Crowding.{room_for}
 use Rattle.qcow2_alloc.specs.Going.{WasNotCutOff}
 use Rattle.qcow2_alloc.specs.MakingRoom.{run_of}
@@ -23,7 +24,7 @@ use Rattle.qcow2_steps.specs.LongerL1.{old_l1}
 use Rattle.qcow2_clusters.specs.Progress.{Kind, Progresses, handing}
 use Rattle.qcow2_clusters.specs.Rest.{AreEmpty, Clusters, IsReady, resting, storage}
 use Rattle.qcow2_clusters.specs.Room.{IsFull, KeepsMarked, LeavesRoom, mark_in}
-use Rattle.qcow2_clusters.specs.Storing.{WhyNotAllocated}
+use Rattle.qcow2_clusters.specs.Storing.{storing_causes}
 
 -- how many clusters so many words take, of which the last may be filled in part
 abbrev pub clusters_for : Fields → ℕ → ℕ
@@ -96,5 +97,5 @@ pub record LengthensL1 {S : Type 0} (state : S → StorageState) (top : TableVal
       × LeavesRoom (room_for c.file.header.fields (l1_clusters c.file.header.fields top i)) (resting state c) (mark_in c) (resting state c')
       (mark_in c'))
   pub marked : IsTop state top c → KeepsMarked state c result c'
-  pub cause : IfErr result (WhyNotAllocated (IsReady state c × IsTop state top c) (IsTooLong state top i c c')
-      (storage state c).faults (storage state c').faults)
+  pub cause : IfErr result (HasCause (storing_causes (IsReady state c × IsTop state top c) (IsTooLong state top i c c')
+      (storage state c).faults (storage state c').faults))

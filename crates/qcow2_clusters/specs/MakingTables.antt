@@ -15,6 +15,7 @@ use Rattle.qcow2_types.specs.Words.{is_copied, is_place, table_offset}
 use Rattle.qcow2_metadata.specs.Places.{IsInReach}
 use Rattle.qcow2_metadata.specs.Tables.{TableValue, IsPlacedTable, table_place}
 use Rattle.qcow2_alloc.specs.declared.file.ImageFile.{ImageFile}
+use Rattle.qcow2_alloc.specs.Causes.{HasCause}
 use Rattle.qcow2_alloc.specs.Crowding.{room_for}
 use Rattle.qcow2_alloc.specs.Going.{WasNotCutOff}
 use Rattle.qcow2_alloc.specs.Opening.{IsL1Of}
@@ -23,7 +24,7 @@ use Rattle.qcow2_steps.specs.NewTables.{old_table, slot_or_none}
 use Rattle.qcow2_clusters.specs.Progress.{Kind, Progresses, handing}
 use Rattle.qcow2_clusters.specs.Rest.{Clusters, IsReady, resting, storage}
 use Rattle.qcow2_clusters.specs.Room.{IsFull, KeepsMarked, LeavesRoom, mark_in}
-use Rattle.qcow2_clusters.specs.Storing.{Rests, WhyNotAllocated, handed_by, held_by}
+use Rattle.qcow2_clusters.specs.Storing.{Rests, handed_by, held_by, storing_causes}
 
 -- the cluster of the table that is replaced, which nothing names any more where it is
 abbrev pub given_up : Metadata → ℕ → Result ℕ Fault → ℕ → ℕ
@@ -112,8 +113,8 @@ pub record NamesNewTable {S : Type 0} (state : S → StorageState) (asked : Type
   pub leaves : IsReady state c → asked → OnOk result (LeavesRoom (room_for c.file.header.fields 1) (resting state c) (mark_in c)
       (resting state c') (mark_in c'))
   pub marked : asked → KeepsMarked state c result c'
-  pub cause : IfErr result (WhyNotAllocated (IsReady state c × asked)
-      (IsFull 1 (resting state c) (mark_in c) (resting state c') (mark_in c')) (storage state c).faults (storage state c').faults)
+  pub cause : IfErr result (HasCause (storing_causes (IsReady state c × asked)
+      (IsFull 1 (resting state c) (mark_in c) (resting state c') (mark_in c')) (storage state c).faults (storage state c').faults))
 
 -- A table of these bytes takes the place of the one that word i named, if it named one: nothing names that any more, and room is held for
 -- an entry of it on the list of clusters to free.

@@ -1,9 +1,9 @@
 -- How guest clusters in a row come to name clusters in a row that were reserved, or that they kept for their zeroes.
 use Rattle.std.specs.Prelude.{◌≡◌, ◌≢◌, ◌⊎◌, ⊤, ◌+◌, ◌*◌, ◌/◌, ◌%◌, ◌^◌, ◌<◌, ◌≤◌, ℕ, zero, suc, List, [], ◌∷◌, ◌++◌}
 use Rattle.std.specs.Prelude.{Option, Some, None, Result, Ok, Err, OnOk, IfErr, true}
-use Rattle.imago_storage.specs.State.{StorageState, Rose}
+use Rattle.imago_storage.specs.State.{StorageState}
 use Rattle.imago_storage.specs.declared.fault.Fault.{Fault}
-use Rattle.imago_storage.specs.declared.fault.Fault.TheVariants.{DamagedTable, Memory, Storage}
+use Rattle.imago_storage.specs.declared.fault.Fault.TheVariants.{DamagedTable, Memory}
 use Rattle.qcow2_types.specs.Entries.{entry, l2_table}
 use Rattle.qcow2_types.specs.Header.{cluster_size, words_of_cluster}
 use Rattle.qcow2_types.specs.Pending.{FreeEntry}
@@ -12,8 +12,9 @@ use Rattle.qcow2_types.specs.Words as words
 use Rattle.qcow2_types.specs.Frames.{Same}
 use Rattle.qcow2_metadata.specs.Allocations.{Conserves, allocation_of, freed, holds, newly, replaced}
 use Rattle.qcow2_metadata.specs.Tables.{TableValue, mapping_in, with_word}
+use Rattle.qcow2_alloc.specs.Causes.{HasCause}
 use Rattle.qcow2_alloc.specs.FreeList.{FreeList}
-use Rattle.qcow2_alloc.specs.Going.{IsNoShorter}
+use Rattle.qcow2_alloc.specs.Going.{IsNoShorter, writing_causes}
 use Rattle.qcow2_alloc.specs.Quiet.{IsUsed, Metadata}
 use Rattle.qcow2_steps.specs.Data.{IsKeptFor}
 use Rattle.qcow2_steps.specs.Words.{GivesWord, IsOfWord, IsReserved}
@@ -113,13 +114,6 @@ unfoldable pub naming_run : Metadata → (guest x n : ℕ) → Kind
 naming_run m guest x zero = handing (λ _. 0) (λ _. 0)
 naming_run m guest x (suc n) = both (naming_run m guest x n) (naming m (guest + n) (x + n))
 
--- Why it can't be: for want of memory or by a storage that failed; as a damaged table only where the image isn't as it has to be.
-abbrev pub WhyNotNamed : (ready : Type 0) → (before after : ℕ) → Fault → Type 0
-WhyNotNamed ready before after Memory = ⊤
-WhyNotNamed ready before after Storage = Rose before after
-WhyNotNamed ready before after DamagedTable = ready → ⊥
-WhyNotNamed ready before after fault = ⊥
-
 -- Each of n guest clusters in a row comes to name its own of n clusters in a row as its data, as copied. Their bytes stay what they were,
 -- and so do those of each cluster that was used, what comes to wait too. Whatever is answered, the file gets no shorter.
 pub record NamesRun {S : Type 0} (state : S → StorageState) (table guest x n : ℕ) (c : Clusters S) (result : Result Unit Fault)
@@ -142,5 +136,5 @@ pub record NamesRun {S : Type 0} (state : S → StorageState) (table guest x n :
   pub used : IsReady state c → AreNameable n (resting state c) table guest x
       → OnOk result ((d : ℕ) → IsUsed (resting state c) d → Same (resting state c).file (resting state c').file
       (d * cluster_size c.file.header.fields) (cluster_size c.file.header.fields))
-  pub cause : IfErr result (WhyNotNamed (IsReady state c × AreNameable n (resting state c) table guest x)
-      (storage state c).faults (storage state c').faults)
+  pub cause : IfErr result (HasCause (writing_causes (IsReady state c × AreNameable n (resting state c) table guest x)
+      (storage state c).faults (storage state c').faults))

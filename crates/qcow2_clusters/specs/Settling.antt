@@ -1,10 +1,9 @@
 -- How changes end at rest.
-use Rattle.std.specs.Prelude.{◌≡◌, ◌⊎◌, ⊤, ℕ, List, IsTrue, Result, Err, OnOk}
+use Rattle.std.specs.Prelude.{◌≡◌, ◌⊎◌, ℕ, List, IsTrue, Result, Err, OnOk}
 use Rattle.std.specs.List.{AllByRecursion}
-use Rattle.imago_storage.specs.State.{StorageState, Rose}
+use Rattle.imago_storage.specs.State.{StorageState}
 use Rattle.imago_storage.specs.Calls.{IsFaultless, Kept}
 use Rattle.imago_storage.specs.declared.fault.Fault.{Fault}
-use Rattle.imago_storage.specs.declared.fault.Fault.TheVariants.{DamagedTable, Memory, Storage}
 use Rattle.qcow2_types.specs.Pending.{FreeEntry}
 use Rattle.qcow2_metadata.specs.Tables.{TableValue}
 use Rattle.qcow2_alloc.specs.declared.cache.CacheDependency.TheVariants.{Unset}
@@ -12,7 +11,8 @@ use Rattle.qcow2_alloc.specs.declared.cache.MetadataCaches.{MetadataCaches}
 use Rattle.qcow2_alloc.specs.declared.file.ImageFile.{ImageFile}
 use Rattle.qcow2_alloc.specs.Allocators.{metadata_of}
 use Rattle.qcow2_alloc.specs.Caches.{cached_in, HasRoomOf}
-use Rattle.qcow2_alloc.specs.Going.{AreBlocksInReach, AreTablesInReach, IsNoShorter, WasNotCutOff}
+use Rattle.qcow2_alloc.specs.Causes.{HasCause}
+use Rattle.qcow2_alloc.specs.Going.{AreBlocksInReach, AreTablesInReach, IsNoShorter, WasNotCutOff, writing_causes}
 use Rattle.qcow2_alloc.specs.Quiet.{IsSound, Metadata, Quietly, counted}
 use Rattle.qcow2_alloc.specs.Safety.{AreBlocksClean, AreTablesClean}
 use Rattle.qcow2_clusters.specs.Rest.{AreEmpty, nothing_cached}
@@ -25,13 +25,6 @@ pub record AreUnpinned {S : Type 0} (caches : MetadataCaches S) : Type 0 where
 -- the image with nothing cached
 abbrev pub at_rest : Metadata → Metadata
 at_rest m = record m { cached = nothing_cached; order = Unset }
-
--- Why what is modified can't be written, of an image whose tables and blocks words can name or not.
-abbrev pub WhyNotSettled : Type 0 → (before after : ℕ) → Fault → Type 0
-WhyNotSettled reach before after Memory = ⊤
-WhyNotSettled reach before after Storage = Rose before after
-WhyNotSettled reach before after DamagedTable = reach → ⊥
-WhyNotSettled reach before after fault = ⊥
 
 -- A change that was answered so ends: unless it was cut off, what is modified is written, and a fault of that takes the place of the
 -- answer; then nothing is cached. The disk stays as it was, each cluster is counted as often, and the file gets no shorter. Where nothing
@@ -52,5 +45,5 @@ pub record Settles {S T : Type 0} (state : S → StorageState) (given : Result T
   pub cut : (WasNotCutOff given → ⊥) → (result ≡ given) × (after ≡ before)
   pub ok : OnOk result (result ≡ given)
   pub answer : (result ≡ given) ⊎ ((fault : Fault) × (result ≡ Err fault)
-      × WhyNotSettled (AreTablesInReach (cached_in old) × AreBlocksInReach (cached_in old)) (state before.image).faults
-      (state after.image).faults fault)
+      × HasCause (writing_causes (AreTablesInReach (cached_in old) × AreBlocksInReach (cached_in old)) (state before.image).faults
+      (state after.image).faults) fault)

@@ -1,15 +1,15 @@
 -- How bytes are stored in a cluster that was free.
-use Rattle.std.specs.Prelude.{◌≡◌, ◌≢◌, ⊤, ◌+◌, ◌-◌, ◌*◌, ◌<◌, ◌≤◌, ℕ, List, length, slice_index, Result, Ok, Err, IfOk, IfErr, IsTrue, OnOk}
-use Rattle.imago_storage.specs.State.{StorageState, Rose}
+use Rattle.std.specs.Prelude.{◌≡◌, ◌≢◌, ◌+◌, ◌-◌, ◌*◌, ◌<◌, ◌≤◌, ℕ, List, length, slice_index, Result, Ok, Err, IfOk, IfErr, IsTrue, OnOk}
+use Rattle.imago_storage.specs.State.{StorageState}
 use Rattle.imago_storage.specs.Calls.{IsFaultless, Later}
 use Rattle.imago_storage.specs.Through.{Put}
 use Rattle.imago_storage.specs.declared.fault.Fault.{Fault}
-use Rattle.imago_storage.specs.declared.fault.Fault.TheVariants.{Counter, DamagedTable, Limit, Memory, Storage}
 use Rattle.qcow2_types.specs.Header.{cluster_size}
 use Rattle.qcow2_metadata.specs.Places.{IsInReach}
 use Rattle.qcow2_alloc.specs.declared.file.ImageFile.{ImageFile}
 use Rattle.qcow2_alloc.specs.Allocating.{MovedTable}
 use Rattle.qcow2_alloc.specs.Caches.{HasRoomOf}
+use Rattle.qcow2_alloc.specs.Causes.{HasCause, Causes}
 use Rattle.qcow2_alloc.specs.Crowding.{room_for}
 use Rattle.qcow2_alloc.specs.FreeList.{covers}
 use Rattle.qcow2_alloc.specs.Going.{WasNotCutOff}
@@ -22,15 +22,17 @@ use Rattle.qcow2_clusters.specs.Rest.{Clusters, AreEmpty, IsReady, KeepsL1, chan
 use Rattle.qcow2_clusters.specs.Room.{IsFull, KeepsMarked, LeavesRoom, mark_in}
 use Rattle.qcow2_clusters.specs.Settling.{AreUnpinned}
 
--- Why a call is refused that allocates: for want of memory, by a storage that failed, or since there is no place left, of which `full` says
--- what number tells it where the image is ready; as a damaged table or a counter that can't change only where it isn't.
-abbrev pub WhyNotAllocated : (ready : Type 0) → (full : ℕ → Type 0) → (before after : ℕ) → Fault → Type 0
-WhyNotAllocated ready full before after Memory = ⊤
-WhyNotAllocated ready full before after Storage = Rose before after
-WhyNotAllocated ready full before after (Limit number) = ready → full number
-WhyNotAllocated ready full before after DamagedTable = ready → ⊥
-WhyNotAllocated ready full before after Counter = ready → ⊥
-WhyNotAllocated ready full before after fault = ⊥
+-- Calls that allocate fail, but for want of memory or by a storage, since there is no place left, of which `full` says what number tells it
+-- where the image is ready; as a damaged table or for a counter that can't change only where it isn't.
+abbrev pub storing_causes : (ready : Type 0) → (full : ℕ → Type 0) → (before after : ℕ) → Causes
+storing_causes ready full before after = record {
+  damaged = ready → ⊥;
+  counter = ready → ⊥;
+  full = ⊥;
+  limit = λ number. ready → full number;
+  before = before;
+  after = after;
+}
 
 -- what a call hands out that answers a cluster
 abbrev pub handed_by : Result ℕ Fault → ℕ → ℕ
@@ -83,8 +85,8 @@ pub record StoresRunUnsettled {S : Type 0} (state : S → StorageState) (n : ℕ
       (mark_in c'))
   pub marked : IsReady state c → WasNotCutOff result
       → IsMarked (resting state c) (mark_in c) → IsMarked (changed state c') (mark_in c')
-  pub cause : IfErr result (WhyNotAllocated (IsReady state c) (IsFull n (resting state c) (mark_in c) (changed state c') (mark_in c'))
-      (storage state c).faults (storage state c').faults)
+  pub cause : IfErr result (HasCause (storing_causes (IsReady state c)
+      (IsFull n (resting state c) (mark_in c) (changed state c') (mark_in c')) (storage state c).faults (storage state c').faults))
 
 -- The same once that is settled: they are reserved, nothing names them, and the disk stays as it was.
 pub record StoresRun {S : Type 0} (state : S → StorageState) (n : ℕ) (content : List ℕ) (c : Clusters S) (result : Result ℕ Fault)
@@ -102,8 +104,8 @@ pub record StoresRun {S : Type 0} (state : S → StorageState) (n : ℕ) (conten
   pub leaves : IsReady state c → OnOk result (LeavesRoom (room_for c.file.header.fields n) (resting state c) (mark_in c) (resting state c')
       (mark_in c'))
   pub marked : KeepsMarked state c result c'
-  pub cause : IfErr result (WhyNotAllocated (IsReady state c) (IsFull n (resting state c) (mark_in c) (resting state c') (mark_in c'))
-      (storage state c).faults (storage state c').faults)
+  pub cause : IfErr result (HasCause (storing_causes (IsReady state c)
+      (IsFull n (resting state c) (mark_in c) (resting state c') (mark_in c')) (storage state c).faults (storage state c').faults))
 
 -- The same of one cluster.
 pub record Stores {S : Type 0} (state : S → StorageState) (content : List ℕ) (c : Clusters S) (result : Result ℕ Fault)
@@ -120,8 +122,8 @@ pub record Stores {S : Type 0} (state : S → StorageState) (content : List ℕ)
   pub leaves : IsReady state c → OnOk result (LeavesRoom (room_for c.file.header.fields 1) (resting state c) (mark_in c) (resting state c')
       (mark_in c'))
   pub marked : KeepsMarked state c result c'
-  pub cause : IfErr result (WhyNotAllocated (IsReady state c) (IsFull 1 (resting state c) (mark_in c) (resting state c') (mark_in c'))
-      (storage state c).faults (storage state c').faults)
+  pub cause : IfErr result (HasCause (storing_causes (IsReady state c)
+      (IsFull 1 (resting state c) (mark_in c) (resting state c') (mark_in c')) (storage state c).faults (storage state c').faults))
 
 -- The file is at least as long as the end of n clusters in a row.
 abbrev pub ReachesEnd : {S : Type 0} → (S → StorageState) → (x n : ℕ) → (before after : ImageFile S) → Type 0
