@@ -22,9 +22,10 @@ use Rattle.qcow2_types.specs.Entries.{entry}
 use Rattle.qcow2_metadata.specs.MappingView.{mapping_seen, IsNamed}
 use Rattle.qcow2_metadata.specs.declared.mapping.L2Mapping.{L2Mapping}
 use Rattle.qcow2_metadata.specs.declared.mapping.L2Mapping.TheVariants.{DataFile, Backing, Zero, Compressed}
+use Rattle.qcow2_alloc.specs.Causes.{HasCause}
 use Rattle.qcow2_image.specs.ImageLayer.{blank_of, cell_by, cells, home_by, qcow2_layer, shallow_of, unmapped_answer, homes}
 use Rattle.qcow2_image.specs.declared.mode.OpenMode.{OpenMode}
-use Rattle.qcow2_image.specs.Looking.{EndsNear, Follows, IsRunOf, WhyNotLooked}
+use Rattle.qcow2_image.specs.Looking.{EndsNear, Follows, IsRunOf, looking_causes}
 use Rattle.qcow2_clusters.specs.Naming.{TakesNone}
 use Rattle.qcow2_image.specs.HeldHomes.{free-homes, words-first}
 use Rattle.qcow2_image.specs.Holding.{Holding}
@@ -295,7 +296,7 @@ module _ (s : StorageState) (words-there : Bytes) (h : Fields) (mode : OpenMode)
 
 -- Why a lookup is refused.
 pub look-cause : (s s' : StorageState) (ss ss' : List StorageState) (words-there : Bytes) (h : Fields) (mode : OpenMode) (number : ℕ) (failed : Bool) (hold : Option Holding) (offset asked : ℕ) (fault : Fault) → words-there ≡ bytes_of s.bytes → offset < h.size → 0 < asked
-    → WhyNotLooked (entry (bytes_of s.bytes) h (offset / cluster_size h) ≡ damaged) s.faults s'.faults fault → LookCause (qcow2_layer s words-there h mode number failed hold) offset asked (s ∷ ss) (s' ∷ ss') fault
+    → HasCause (looking_causes (entry (bytes_of s.bytes) h (offset / cluster_size h) ≡ damaged) s.faults s'.faults) fault → LookCause (qcow2_layer s words-there h mode number failed hold) offset asked (s ∷ ss) (s' ∷ ss') fault
 look-cause s s' ss ss' words-there h mode number failed hold offset asked DamagedTable clean lt some why =
     let there = lt-ltb offset h.size lt in
     let here : cells (blank_of mode.backing) words-there (bytes_of s.bytes) h offset ≡ own damaged_place = rw there (rw clean (ap (cell_by (blank_of mode.backing) (bytes_of s.bytes) h offset) why)) in

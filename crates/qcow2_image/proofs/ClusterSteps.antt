@@ -4,12 +4,12 @@ use Rattle.std.proofs.Math.Nat.{le-max_left, le-max_right}
 use Rattle.std.proofs.lemmas.Bool.{cases_eq, cases_lt, le-ltb, ne_eqb}
 use Rattle.std.proofs.lemmas.Nat.{pow_pos}
 use Rattle.std.specs.Prelude.{⊤, ◌⊎◌, IsSome, IfSome, is_some, IfOk, IfErr, OnOk, max, min, slice_index, ◌==◌, if◌then◌else◌}
-use Rattle.imago_storage.specs.State.{Rose, StorageState}
+use Rattle.imago_storage.specs.State.{StorageState}
 use Rattle.imago_storage.specs.Calls.{Cause}
 use Rattle.imago_storage.specs.Disk.{Value}
 use Rattle.qcow2_metadata.specs.Places.{IsInReach}
 use Rattle.imago_storage.specs.declared.fault.Fault.{Fault}
-use Rattle.imago_storage.specs.declared.fault.Fault.TheVariants.{Counter, DamagedTable, Limit, Memory, Storage}
+use Rattle.imago_storage.specs.declared.fault.Fault.TheVariants.{DamagedTable, Limit, Memory, Storage}
 use Rattle.imago_storage.specs.declared.storage.Storage.{Ghosts}
 use Rattle.imago_access.specs.Files.{WasNotCutOff}
 use Rattle.qcow2_types.specs.Bytes.{Bytes, bytes_of, word}
@@ -19,12 +19,15 @@ use Rattle.qcow2_types.specs.Words.{is_copied, table_offset}
 use Rattle.qcow2_metadata.specs.Tables.{TableValue, padded}
 use Rattle.qcow2_alloc.specs.Allocating.{MovedTable}
 use Rattle.qcow2_alloc.specs.Allocators.{LoadsAllocator, mark_of}
+use Rattle.qcow2_alloc.specs.Causes.{HasCause}
 use Rattle.qcow2_alloc.specs.Crowding.{space as space_of}
 use Rattle.qcow2_alloc.specs.Going as going
 use Rattle.qcow2_alloc.specs.Opening.{IsL1Of}
 use Rattle.qcow2_alloc.specs.Quiet.{Metadata}
 use Rattle.qcow2_alloc.specs.declared.allocation.Allocator.{Allocator}
 use Rattle.qcow2_alloc.specs.declared.cache.MetadataCaches.{MetadataCaches}
+use Rattle.qcow2_alloc.proofs.Flushing.Counting.{writing-implies}
+use Rattle.qcow2_alloc.proofs.Causes.{Implies, cause-weaker, cause-told, storage-cause}
 use Rattle.qcow2_alloc.proofs.Growth.LoadingTable.{allocator-refused}
 use Rattle.qcow2_alloc.proofs.Memory.Patches.{place-there}
 use Rattle.qcow2_steps.specs.Data.{IsKeptFor}
@@ -33,17 +36,15 @@ use Rattle.qcow2_clusters.specs.Filling.{Fills, filling}
 use Rattle.qcow2_steps.specs.LongerL1.{old_l1}
 use Rattle.qcow2_steps.proofs.Headers.{header-counts}
 use Rattle.qcow2_clusters.specs.Freeing.{FreesWaiting}
-use Rattle.qcow2_clusters.specs.Freeing as freeing
-use Rattle.qcow2_clusters.specs.Lengthening.{IsTooLong, IsTop, LengthensL1, clusters_for, l1_clusters}
+use Rattle.qcow2_clusters.specs.Lengthening.{IsTooLong, LengthensL1, clusters_for, l1_clusters}
 use Rattle.qcow2_clusters.specs.MakingTables.{CopiesTable, HasTable, IsTableless, IsTopWord, MakesTable, NamesNewTable, given_up}
 use Rattle.qcow2_clusters.specs.Progress.{Kind, Progresses, handing}
 use Rattle.qcow2_clusters.specs.Rest.{Clusters, IsReady, lent, resting}
 use Rattle.qcow2_clusters.specs.Room as room
-use Rattle.qcow2_clusters.specs.Storing.{AreReserved, ReachesEnd, Rests, StoresRun, handed_by, held_by, run_handed_by}
-use Rattle.qcow2_clusters.specs.Storing as clusters
+use Rattle.qcow2_clusters.specs.Storing.{AreReserved, ReachesEnd, Rests, StoresRun, handed_by, held_by, run_handed_by, storing_causes}
 use Rattle.qcow2_clusters.specs.declared.space.Space.{Space}
 use Rattle.qcow2_image.proofs.Beginning.{still-cut, whole-cut}
-use Rattle.qcow2_image.specs.Allocating.{EnsuresTable, EnsuresWord, FillsContent, FreesPending, HasKept, KeepsTop, LoadsSpace, PlacesContent, StoresContent, StoresMost, WhyNotAllocated, WhyNotFilled, WhyNotFreed, failed_cut, full_by, placed_by, waits_in}
+use Rattle.qcow2_image.specs.Allocating.{EnsuresTable, EnsuresWord, FillsContent, FreesPending, HasKept, KeepsTop, LoadsSpace, PlacesContent, StoresContent, StoresMost, failed_cut, full_by, placed_by, waits_in, allocation_causes, filling_causes, pending_causes}
 use Rattle.qcow2_image.specs.Holding.{AreOwnAs, Holding, IsOwnAs}
 use Rattle.qcow2_image.specs.KeepsDisk.{KeepsDisk, KeepsDiskWhere}
 use Rattle.qcow2_image.specs.Leaking.{KeepsLeaks, KeepsLeaksBut}
@@ -51,7 +52,7 @@ use Rattle.qcow2_metadata.proofs.TableSteps.{padded_at}
 use Rattle.qcow2_clusters.specs.Room.{KeepsMarked}
 use Rattle.qcow2_clusters.proofs.LengtheningL1.{padded-long, some-taken}
 use Rattle.qcow2_image.specs.FreeSpace.{HasNoPlace, IsForTable, IsForWord, LacksFreeRun, LacksTable, LeavesFree, enough_for_one, enough_for_run, enough_for_table, enough_for_word}
-use Rattle.qcow2_image.proofs.FreeRuns.{full-behind, full-in-run, full-more, lacks-as-words, lacks-in-file, leaves-in-run, leaves-more, leaves-none, leaves-then, run-fewer, run-same, safe-short, some-enough, why-full}
+use Rattle.qcow2_image.proofs.FreeRuns.{full-behind, full-in-run, full-more, lacks-as-words, lacks-in-file, leaves-in-run, leaves-more, leaves-none, leaves-then, run-fewer, run-same, safe-short, some-enough, full-implies}
 use Rattle.qcow2_image.specs.Looking.{place_of_table}
 use Rattle.qcow2_image.specs.Rooms.{IsSafe, rest_of}
 use Rattle.qcow2_image.specs.Seen.{file_of}
@@ -108,7 +109,7 @@ module _ {S : Type 0} (g : Ghosts S) (old new : Qcow2 S g) (fault : Fault) (mid 
       }) is
 
   why-from : (e : Fault) → (IsSafe g old → Cause unloaded_from.faults (g.state new.tables.file.image).faults e)
-      → WhyNoSpace unloaded_from.faults (g.state new.tables.file.image).faults e → WhyNotAllocated g (λ number. ⊥) old new e
+      → WhyNoSpace unloaded_from.faults (g.state new.tables.file.image).faults e → HasCause (allocation_causes g (λ number. ⊥) old new) e
   why-from Memory safely why = tt
   why-from Storage safely why = why
   why-from (Limit number) safely why = λ safe. safely safe
@@ -267,16 +268,16 @@ module _ {S T : Type 0} (g : Ghosts S) (old : Qcow2 S g) (begun : Bool) (mid : T
 none-spared : {S : Type 0} (g : Ghosts S) (old : Qcow2 S g) (P : Holding → Type 0) → old.unspent ≡ None → IfSome (holding_in g old.unspent) P
 none-spared g old P free = subst (λ u. IfSome (holding_in g u) P) (sym free) tt
 
-allocated-why : {S : Type 0} (g : Ghosts S) (old new : Qcow2 S g) (is-ready : Type 0) (full full' : ℕ → Type 0) (before after : ℕ) (fault : Fault)
-    → (IsSafe g old → is-ready) → before ≡ (g.state old.tables.file.image).faults → after ≡ (g.state new.tables.file.image).faults
-    → ((number : ℕ) → IsSafe g old → full number → full' number)
-    → clusters.WhyNotAllocated is-ready full before after fault → WhyNotAllocated g full' old new fault
-allocated-why g old new is-ready full full' before after Memory from was is told why = tt
-allocated-why g old new is-ready full full' before after Storage from was is told why = rw (sym was, sym is) why
-allocated-why g old new is-ready full full' before after (Limit number) from was is told why = λ safe. told number safe (why (from safe))
-allocated-why g old new is-ready full full' before after DamagedTable from was is told why = λ known. why (from known.0)
-allocated-why g old new is-ready full full' before after Counter from was is told why = λ known. why (from known.0)
-allocated-why g old new is-ready full full' before after fault from was is told why = absurd why
+storing-allocates : {S : Type 0} (g : Ghosts S) (old new : Qcow2 S g) {is-ready : Type 0} {full full' : ℕ → Type 0} → (IsSafe g old → is-ready)
+    → ((number : ℕ) → IsSafe g old → full number → full' number) → Implies (storing_causes is-ready full (g.state old.tables.file.image).faults (g.state new.tables.file.image).faults) (allocation_causes g full' old new)
+storing-allocates g old new from told = record {
+  before = omega arith;
+  after = omega arith;
+  damaged = λ wrong known. wrong (from known.0);
+  counter = λ wrong known. wrong (from known.0);
+  full = absurd;
+  limit = λ number at safe. told number safe (at (from safe));
+}
 
 on-ok : {T : Type 0} (r : Result T Fault) (P Q : Type 0) → (P → Q) → OnOk r P → OnOk r Q
 on-ok (Ok v) P Q each holds = each holds
@@ -321,13 +322,8 @@ module _ {S : Type 0} (g : Ghosts S) (old : Qcow2 S g) (begun : Bool) (mid : Tab
     reserved = λ safe. reserved-now result (stores.reserved (ready g old begun mid space space' caches result there there' stores.rests safe)) stores.held;
     reaches = reaches;
     content = λ safe. stores.stored (ready g old begun mid space space' caches result there there' stores.rests safe);
-    cause = if-err result _ (WhyNotAllocated g (LacksFreeRun g n (enough_for_run old.tables n) old.tables mid) old stored_now) (λ e.
-        allocated-why g old stored_now (IsReady g.state (lent old.tables.file caches space))
-        (room.IsFull n (rest_of g old.tables space) (mark_of space.allocator) (rest_of g mid space') (mark_of space'.allocator))
-        (LacksFreeRun g n (enough_for_run old.tables n) old.tables mid)
-        (g.state old.tables.file.image).faults (g.state mid.file.image).faults e
-        (ready g old begun mid space space' caches result there there' stores.rests) refl refl
-        (λ number safe full. full-in-run g old.tables mid space space' there there' safe.searched n number some full)) stores.cause;
+    cause = if-err result _ (HasCause (allocation_causes g (LacksFreeRun g n (enough_for_run old.tables n) old.tables mid) old stored_now)) (λ e.
+        cause-weaker (storing-allocates g old stored_now (ready g old begun mid space space' caches result there there' stores.rests) (λ number safe full. full-in-run g old.tables mid space space' there there' safe.searched n number some full)) e) stores.cause;
   }
 
 -- They were stored in as many clusters as were asked for, or in one alone, or nowhere.
@@ -348,16 +344,19 @@ module _ {S : Type 0} (g : Ghosts S) (n : ℕ) (bytes : List ℕ) (old : Qcow2 S
   }
 
   most-why : (new : Qcow2 S g) (e : Fault) → (n ≡ 1) ⊎ (full_by (Err e) ≡ false)
-      → WhyNotAllocated g (LacksFreeRun g n (enough_for_run old.tables n) old.tables new.tables) old new e
-      → WhyNotAllocated g (LacksFreeRun g 1 (enough_for_run old.tables n) old.tables new.tables) old new e
-  most-why new (Limit number) (inl one) why = λ safe.
-      subst (λ k. LacksFreeRun g k (enough_for_run old.tables n) old.tables new.tables number) one (why safe)
-  most-why new (Limit number) (inr other) why = absurd (cc other)
-  most-why new Memory is why = why
-  most-why new Storage is why = why
-  most-why new DamagedTable is why = why
-  most-why new Counter is why = why
-  most-why new _ is why = absurd why
+      → HasCause (allocation_causes g (LacksFreeRun g n (enough_for_run old.tables n) old.tables new.tables) old new) e
+      → HasCause (allocation_causes g (LacksFreeRun g 1 (enough_for_run old.tables n) old.tables new.tables) old new) e
+  most-why new e is why = cause-weaker (record {
+    before = omega arith;
+    after = omega arith;
+    damaged = λ wrong. wrong;
+    counter = λ wrong. wrong;
+    full = absurd;
+    limit = λ number at safe. elim is [
+      | inl one ↦ subst (λ k. LacksFreeRun g k (enough_for_run old.tables n) old.tables new.tables number) one (at.1 safe)
+      | inr other ↦ absurd (let no = subst (λ (f : Fault). full_by (Err f) ≡ false) at.0 other in cc no)
+    ];
+  }) e (cause-told _ e why)
 
   pub most-unstored : (new : Qcow2 S g) (e : Fault) → (n ≡ 1) ⊎ (full_by (Err e) ≡ false) → StoresContent g n bytes old (Err e) new
       → StoresMost g n bytes old (Err e) new
@@ -402,17 +401,19 @@ module _ {S : Type 0} (g : Ghosts S) (n : ℕ) (bytes : List ℕ) (old : Qcow2 S
     known-full : IsSafe g old → IsSome mid.tables.space
     known-full safe = let lacks = full.cause safe in subst IsSome (sym lacks.there) refl
 
-    alone-why : (e : Fault) → WhyNotAllocated g (LacksFreeRun g 1 (enough_for_run mid.tables 1) mid.tables new.tables) mid new e
-        → WhyNotAllocated g (LacksFreeRun g 1 (enough_for_run old.tables n) old.tables new.tables) old new e
-    alone-why Memory why = tt
-    alone-why Storage why = subst (λ k. Rose k (g.state new.tables.file.image).faults) (full.keeps.faults tt).0 why
-    alone-why (Limit another) why = λ safe.
-        let first = full.cause safe in
-        let second = why (full.keeps.safely safe tt) in
-        record { crowded = first.crowded; free = second.free; there = second.there; told = second.told }
-    alone-why DamagedTable why = λ known. why (full.keeps.safely known.0 tt, known-full known.0)
-    alone-why Counter why = λ known. why (full.keeps.safely known.0 tt, known-full known.0)
-    alone-why _ why = absurd why
+    alone-implies : Implies (allocation_causes g (LacksFreeRun g 1 (enough_for_run mid.tables 1) mid.tables new.tables) mid new)
+        (allocation_causes g (LacksFreeRun g 1 (enough_for_run old.tables n) old.tables new.tables) old new)
+    alone-implies = let same = (full.keeps.faults tt).0 in record {
+      before = omega (arith, same);
+      after = omega arith;
+      damaged = λ wrong known. wrong (full.keeps.safely known.0 tt, known-full known.0);
+      counter = λ wrong known. wrong (full.keeps.safely known.0 tt, known-full known.0);
+      full = absurd;
+      limit = λ another at safe.
+          let first = full.cause safe in
+          let second = at (full.keeps.safely safe tt) in
+          record { crowded = first.crowded; free = second.free; there = second.there; told = second.told };
+    }
 
     pub most-neither : (e : Fault) → StoresContent g 1 bytes mid (Err e) new → StoresMost g n bytes old (Err e) new
     most-neither e s = record {
@@ -425,7 +426,7 @@ module _ {S : Type 0} (g : Ghosts S) (n : ℕ) (bytes : List ℕ) (old : Qcow2 S
       reserved = λ safe. tt;
       reaches = tt;
       content = λ safe. tt;
-      cause = alone-why e s.cause;
+      cause = cause-weaker alone-implies e s.cause;
     }
 
   -- By what was answered first, and then.
@@ -465,11 +466,6 @@ module _ {S : Type 0} (g : Ghosts S) (old : Qcow2 S g) (begun : Bool) (mid : Tab
   l1-filled : sure-kept → WasNotCutOff result → IsL1Of (file_of g mid) mid.file.header.fields old.tables.l1
   l1-filled known whole = fills.l1 (kept-then known) (fill-ready known) (whole-below result whole) old.tables.l1 known.safe.seen.l1
 
-  fill-why : (e : Fault) → Cause (g.state old.tables.file.image).faults (g.state mid.file.image).faults e → WhyNotFilled g old filled_now e
-  fill-why Memory why = tt
-  fill-why Storage why = why
-  fill-why e why = absurd why
-
   known-now : (r : Result Unit Fault) → OnOk r (IsSome mid.space)
   known-now (Ok v) = subst IsSome (sym there') refl
   known-now (Err e) = tt
@@ -493,7 +489,7 @@ module _ {S : Type 0} (g : Ghosts S) (old : Qcow2 S g) (begun : Bool) (mid : Tab
     known = known-now result;
     reaches = reaches;
     content = λ known. fills.stored known.safe.keeps;
-    cause = if-err result _ (WhyNotFilled g old filled_now) fill-why fills.cause;
+    cause = if-err result _ (HasCause (filling_causes g old filled_now)) (λ e. storage-cause _ _ _ (omega arith) (omega arith) e) fills.cause;
   }
 
 -- The content was put in what was kept, or in what was free, or nowhere.
@@ -538,12 +534,6 @@ module _ {S : Type 0} (g : Ghosts S) (guest : ℕ) (bytes : List ℕ) (old new :
   abbrev lacks-beside : ℕ → Option ℕ → ℕ → Type 0
   lacks-beside n kept number = (kept ≡ None) × LacksFreeRun g 1 (enough_for_run old.tables n) old.tables new.tables number
 
-  filling-why : (full : ℕ → Type 0) (e : Fault) → WhyNotFilled g old new e → WhyNotAllocated g full old new e
-  filling-why full Memory why = why
-  filling-why full Storage why = why
-  filling-why full DamagedTable why = why
-  filling-why full e why = absurd why
-
   pub unfilled : (host n : ℕ) (e : Fault) → FillsContent g guest host bytes old (Err e) new → PlacesContent g guest (Some host) n bytes old (Err e) new
   unfilled host n e f = record {
     keeps = f.keeps;
@@ -555,7 +545,7 @@ module _ {S : Type 0} (g : Ghosts S) (guest : ℕ) (bytes : List ℕ) (old new :
     own = λ known. tt;
     reaches = tt;
     content = λ known. tt;
-    cause = filling-why (lacks-beside n (Some host)) e f.cause;
+    cause = cause-weaker (writing-implies _ (omega arith) (omega arith) (λ wrong. wrong)) e f.cause;
   }
 
   -- Clusters are stored in where none is kept.
@@ -609,8 +599,7 @@ module _ {S : Type 0} (g : Ghosts S) (guest : ℕ) (bytes : List ℕ) (old new :
     own = λ known. tt;
     reaches = tt;
     content = λ known. tt;
-    cause = why-full g (LacksFreeRun g 1 (enough_for_run old.tables n) old.tables new.tables) (lacks-beside n None) old new e
-        (λ number safe full. (refl, full)) s.cause;
+    cause = cause-weaker (full-implies g old new (λ number safe full. (refl, full))) e s.cause;
   }
 
 -- In a safe image the L1 table in memory is the file's, and what it names over a guest cluster, if anything, is a table.
@@ -728,13 +717,10 @@ module _ {S : Type 0} (g : Ghosts S) (old : Qcow2 S g) (begun : Bool) (mid : Tab
     long = long-now result refl;
     leaves = λ safe. on-ok result _ (LeavesFree g (enough_for_one old.tables) old.tables mid)
         (leaves-in-run g old.tables mid space space' there there' safe.searched (enough_for_one old.tables)) (names.leaves (is-ready safe) (as-asked safe));
-    cause = if-err result _ (WhyNotAllocated g
+    cause = if-err result _ (HasCause (allocation_causes g
         (HasNoPlace g (IsForTable g guest old.tables) (guest / words_of_cluster was) (enough_for_one old.tables) old.tables mid)
-        old made_now) (λ e.
-        allocated-why g old made_now (IsReady g.state (lent old.tables.file caches space) × asked)
-        (room.IsFull 1 (rest_of g old.tables space) (mark_of space.allocator) (rest_of g mid space') (mark_of space'.allocator))
-        (HasNoPlace g (IsForTable g guest old.tables) (guest / words_of_cluster was) (enough_for_one old.tables) old.tables mid)
-        (g.state old.tables.file.image).faults (g.state mid.file.image).faults e (λ safe. (is-ready safe, as-asked safe)) refl refl no-place) names.cause;
+        old made_now)) (λ e.
+        cause-weaker (storing-allocates g old made_now (λ safe. (is-ready safe, as-asked safe)) no-place) e) names.cause;
   }
 
 -- It is a copy where there was a table, and else one in which nothing is mapped.
@@ -820,14 +806,6 @@ if-each (Some a) P each = each a
 pub none-freed : {S : Type 0} (g : Ghosts S) (d : Qcow2 S g) → waits_in d.tables.space ≡ false → FreesPending g d (Ok tt) d
 none-freed g d none = record { keeps = keeps-disk-same g ⊤ d; leaks = λ safe whole c. refl; marks = refl; no_shorter = omega arith; idle = λ untouched. (refl, refl); emptied = none; cause = tt }
 
-freed-why : {S : Type 0} (g : Ghosts S) (old new : Qcow2 S g) (is-ready : Type 0) (fault : Fault) → (IsSafe g old → is-ready)
-    → freeing.WhyNotFreed is-ready (g.state old.tables.file.image).faults (g.state new.tables.file.image).faults fault → WhyNotFreed g old new fault
-freed-why g old new is-ready Memory from why = tt
-freed-why g old new is-ready Storage from why = why
-freed-why g old new is-ready DamagedTable from why = λ safe. why (from safe)
-freed-why g old new is-ready Counter from why = λ safe. why (from safe)
-freed-why g old new is-ready fault from why = absurd why
-
 -- What waited was freed.
 module _ {S : Type 0} (g : Ghosts S) (old : Qcow2 S g) (mid : Tables S g) (space space' : Space) (caches : MetadataCaches S)
     (result : Result Unit Fault) (there : old.tables.space ≡ Some space) (there' : mid.space ≡ Some space') (l1 : mid.l1 ≡ old.tables.l1)
@@ -864,8 +842,15 @@ module _ {S : Type 0} (g : Ghosts S) (old : Qcow2 S g) (mid : Tables S g) (space
     no_shorter = frees.no_shorter;
     idle = λ untouched. absurd (cc (sym (idle-waits old.tables.space untouched.1) ∙ waits));
     emptied = emptied-waits result mid.space space' there' frees.emptied;
-    cause = if-err result _ (WhyNotFreed g old freed_now)
-        (λ e. freed-why g old freed_now (IsReady g.state (lent old.tables.file caches space)) e freed-ready) frees.cause;
+    cause = if-err result _ (HasCause (pending_causes g old freed_now))
+        (λ e. cause-weaker (record {
+          before = omega arith;
+          after = omega arith;
+          damaged = λ wrong safe. wrong (freed-ready safe);
+          counter = λ wrong safe. wrong (freed-ready safe);
+          full = absurd;
+          limit = λ number. absurd;
+        }) e) frees.cause;
   }
 
 -- The L1 table was lengthened.
@@ -963,24 +948,21 @@ module _ {S : Type 0} (g : Ghosts S) (old : Qcow2 S g) (begun : Bool) (mid : Tab
     inside = tt;
     words = tt;
     leaves = λ safe. tt;
-    cause = allocated-why g old (with_l1 (Err fault)) (IsReady g.state (lent old.tables.file caches space) × IsTop g.state old.tables.l1 (lent old.tables.file caches space))
-        (IsTooLong g.state old.tables.l1 i (lent old.tables.file caches space) (lent mid.file mid.caches space'))
-        (HasNoPlace g (IsForWord g i old.tables) i (enough_for_word old.tables i) old.tables mid)
-        (g.state old.tables.file.image).faults (g.state mid.file.image).faults fault (λ safe. (longer-ready safe, safe.seen.l1)) refl refl
-        no-word longer.cause;
+    cause = cause-weaker (storing-allocates g old (with_l1 (Err fault)) (λ safe. (longer-ready safe, safe.seen.l1)) no-word) fault longer.cause;
   }
 
 -- A table of its own is ensured once there is a word for it.
 module _ {S : Type 0} (g : Ghosts S) (guest i : ℕ) (old mid new : Qcow2 S g) (index : i ≡ guest / words_of_cluster old.tables.file.header.fields)
     (word : EnsuresWord g i old (Ok tt) mid) where
-  why-behind : (full full' : ℕ → Type 0) (fault : Fault) → ((number : ℕ) → IsSafe g old → full number → full' number)
-      → WhyNotAllocated g full mid new fault → WhyNotAllocated g full' old new fault
-  why-behind full full' Memory told why = tt
-  why-behind full full' Storage told why = subst (λ n. Rose n (g.state new.tables.file.image).faults) (word.keeps.faults tt).0 why
-  why-behind full full' (Limit number) told why = λ safe. told number safe (why (word.keeps.safely safe tt))
-  why-behind full full' DamagedTable told why = λ is. why (word.keeps.safely is.0 tt, word.known is.1)
-  why-behind full full' Counter told why = λ is. why (word.keeps.safely is.0 tt, word.known is.1)
-  why-behind full full' fault told why = absurd why
+  table-behind : {full full' : ℕ → Type 0} → ((number : ℕ) → IsSafe g old → full number → full' number) → Implies (allocation_causes g full mid new) (allocation_causes g full' old new)
+  table-behind told = let same = (word.keeps.faults tt).0 in record {
+    before = omega (arith, same);
+    after = omega arith;
+    damaged = λ wrong is. wrong (word.keeps.safely is.0 tt, word.known is.1);
+    counter = λ wrong is. wrong (word.keeps.safely is.0 tt, word.known is.1);
+    full = absurd;
+    limit = λ number at safe. told number safe (at (word.keeps.safely safe tt));
+  }
 
   row-still : guest / words_of_cluster mid.tables.file.header.fields ≡ guest / words_of_cluster old.tables.file.header.fields
   row-still = ap (λ b. guest / (2 ^ b / 8)) word.keeps.bits
@@ -1050,13 +1032,9 @@ module _ {S : Type 0} (g : Ghosts S) (guest i : ℕ) (old mid new : Qcow2 S g) (
         old.tables mid.tables new.tables (leaves-word safe)
         (subst (λ n. LeavesFree g n mid.tables new.tables) (one-still safe) leaves)) (table.leaves (word.keeps.safely safe tt));
     cause = if-err result _
-        (WhyNotAllocated g (HasNoPlace g (IsForTable g guest old.tables) (guest / words_of_cluster old.tables.file.header.fields)
-        (enough_for_table old.tables guest) old.tables new.tables) old new)
-        (λ e. why-behind
-        (HasNoPlace g (IsForTable g guest mid.tables) (guest / words_of_cluster mid.tables.file.header.fields) (enough_for_one mid.tables)
-        mid.tables new.tables)
-        (HasNoPlace g (IsForTable g guest old.tables) (guest / words_of_cluster old.tables.file.header.fields)
-        (enough_for_table old.tables guest) old.tables new.tables) e no-place-behind)
+        (HasCause (allocation_causes g (HasNoPlace g (IsForTable g guest old.tables) (guest / words_of_cluster old.tables.file.header.fields)
+        (enough_for_table old.tables guest) old.tables new.tables) old new))
+        (λ e. cause-weaker (table-behind no-place-behind) e)
         table.cause;
   }
 
@@ -1092,8 +1070,5 @@ module _ {S : Type 0} (g : Ghosts S) (guest i : ℕ) (old new : Qcow2 S g) (inde
     own = λ safe some. tt;
     long = λ safe. tt;
     leaves = λ safe. tt;
-    cause = why-full g (HasNoPlace g (IsForWord g i old.tables) i (enough_for_word old.tables i) old.tables new.tables)
-        (HasNoPlace g (IsForTable g guest old.tables) (guest / words_of_cluster old.tables.file.header.fields)
-        (enough_for_table old.tables guest) old.tables new.tables) old new e
-        (λ number safe none. more-needed number none) word.cause;
+    cause = cause-weaker (full-implies g old new (λ number safe none. more-needed number none)) e word.cause;
   }

@@ -25,17 +25,20 @@ use Rattle.qcow2_types.specs.Consistency.{IsConsistent}
 use Rattle.qcow2_types.proofs.Counting.Consistent.{header-reading}
 use Rattle.qcow2_metadata.proofs.TableSteps.{past_end}
 use Rattle.qcow2_alloc.specs.Allocators.{table_of, mark_of}
-use Rattle.qcow2_alloc.specs.Going.{WasNotCutOff}
+use Rattle.qcow2_alloc.specs.Causes.{HasCause}
+use Rattle.qcow2_alloc.specs.Going.{WasNotCutOff, writing_causes}
 use Rattle.qcow2_alloc.specs.Memory.{Cached}
 use Rattle.qcow2_alloc.specs.Opening.{IsL1Of}
 use Rattle.qcow2_alloc.specs.Quiet.{Metadata, IsSound, in_memory}
+use Rattle.qcow2_alloc.proofs.Flushing.Counting.{writing-implies}
+use Rattle.qcow2_alloc.proofs.Causes.{cause-weaker}
 use Rattle.qcow2_alloc.proofs.Memory.SafeLaws.{clean-memory}
 use Rattle.qcow2_steps.specs.Advancing.{Advances, MayBeLeft}
 use Rattle.qcow2_steps.specs.Values.{own_value, own_value_by}
 use Rattle.qcow2_steps.specs.Data.{IsKeptFor}
 use Rattle.qcow2_steps.specs.Words.{IsReserved}
 use Rattle.qcow2_alloc.specs.declared.cache.MetadataCaches.{MetadataCaches}
-use Rattle.qcow2_clusters.specs.Naming.{AreNameable, NamesRun, WhyNotNamed, naming_run}
+use Rattle.qcow2_clusters.specs.Naming.{AreNameable, NamesRun, naming_run}
 use Rattle.qcow2_clusters.specs.Progress.{Kind, Progresses}
 use Rattle.qcow2_clusters.specs.declared.space.Space.{Space}
 use Rattle.qcow2_clusters.proofs.NamedRuns.{run-gives, run-sets}
@@ -187,10 +190,10 @@ module _ {S : Type 0} (g : Ghosts S) (claim : ℕ) (old new : Qcow2 S g)
     -- It is refused for want of memory or by a storage alone.
     pub refused-hard : (fault : Fault) → s.named ≡ Err fault → IsMild fault → ⊥
     refused-hard fault is mild =
-        never fault (subst (λ r. IfErr r (WhyNotNamed (IsReady g.state c × AreNameable hold.count before hold.table hold.guest hold.host)
-        (g.state old.tables.file.image).faults (g.state new.tables.file.image).faults)) is with-space.names.cause) mild where
-          never : (e : Fault) → WhyNotNamed (IsReady g.state c × AreNameable hold.count before hold.table hold.guest hold.host)
-              (g.state old.tables.file.image).faults (g.state new.tables.file.image).faults e → IsMild e → ⊥
+        never fault (subst (λ r. IfErr r (HasCause (writing_causes (IsReady g.state c × AreNameable hold.count before hold.table hold.guest hold.host)
+        (g.state old.tables.file.image).faults (g.state new.tables.file.image).faults))) is with-space.names.cause) mild where
+          never : (e : Fault) → HasCause (writing_causes (IsReady g.state c × AreNameable hold.count before hold.table hold.guest hold.host)
+              (g.state old.tables.file.image).faults (g.state new.tables.file.image).faults) e → IsMild e → ⊥
           never Memory why mild = mild
           never Storage why mild = mild
           never DamagedTable why mild = why (ready, able)
@@ -476,12 +479,6 @@ module _ {S : Type 0} (g : Ghosts S) (r : Reserved) (guest : ℕ) (old new : Tab
     (there' : new.space ≡ Some after) (allocator : after.allocator ≡ between.allocator)
     (entries : after.to_free.entries ≡ between.to_free.entries)
     (let_go : OnOk result (after.to_free.held ≡ held_behind r.is_kept between.to_free.held)) where
-  why-any : (sure : Type 0) (a b : ℕ) (fault : Fault) → WhyNotNamed sure a b fault → WhyNotNamed ⊥ a b fault
-  why-any sure a b Memory why = tt
-  why-any sure a b Storage why = why
-  why-any sure a b DamagedTable why = λ none. none
-  why-any sure a b fault why = absurd why
-
   if-err : (r : Result Unit Fault) (P Q : Fault → Type 0) → ((fault : Fault) → P fault → Q fault) → IfErr r P → IfErr r Q
   if-err (Ok done) P Q each is = tt
   if-err (Err fault) P Q each is = each fault is
@@ -505,7 +502,7 @@ module _ {S : Type 0} (g : Ghosts S) (r : Reserved) (guest : ℕ) (old new : Tab
       entries = entries;
       let_go = let_go;
     };
-    cause = if-err result _ _ (why-any _ (g.state old.file.image).faults (g.state new.file.image).faults) names.cause;
+    cause = if-err result _ _ (λ fault. cause-weaker (writing-implies _ (omega arith) (omega arith) (λ far none. none)) fault) names.cause;
   } where
     some-same : (a b : Space) → Some a ≡ Some b → b ≡ a
     some-same a b is = cc (sym is)

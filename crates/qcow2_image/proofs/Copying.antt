@@ -8,7 +8,7 @@ use Rattle.std.proofs.lemmas.Nat.{div-add-mod', div-mul-add, mod_below, pow_pos}
 use Rattle.std.proofs.Math.Nat.{pow-le-pow_right}
 use borrow.Rule.Slice.PartMut.{mid_len, mid_of, post_of, put_mid}
 use Rattle.imago_storage.specs.Calls.{Cause, Reads}
-use Rattle.imago_storage.specs.State.{IsAlignment, Rose, StorageState, unit_of}
+use Rattle.imago_storage.specs.State.{IsAlignment, StorageState, unit_of}
 use Rattle.imago_storage.specs.Through.{NotRead, Overflows}
 use Rattle.imago_storage.specs.Disk.{Value, barred, byte, damaged_place}
 use Rattle.imago_storage.specs.declared.fault.Fault.{Fault}
@@ -28,14 +28,16 @@ use Rattle.qcow2_types.specs.Header.{Fields, cluster_size}
 use Rattle.qcow2_types.specs.Words.{Mapping, damaged}
 use Rattle.qcow2_types.proofs.Fields.HeaderLimits.{header-limited}
 use Rattle.qcow2_metadata.specs.Places.{IsInReach}
-use Rattle.qcow2_image.specs.Allocating.{TellsShown, WhyNotReserved, shown_cell}
+use Rattle.qcow2_alloc.specs.Causes.{HasCause}
+use Rattle.qcow2_alloc.proofs.Causes.{storage-cause}
+use Rattle.qcow2_image.specs.Allocating.{TellsShown, shown_cell, reserving_causes}
 use Rattle.qcow2_image.specs.Filling.{CopiesPart, CopiesShown, IsInFirst, IsNeededFor, MakesContent, NeedsShown, RefusesPart, WhyNotCopied, first_places, shown_over}
 use Rattle.qcow2_image.specs.Holding.{place_in}
 use Rattle.qcow2_image.specs.Homes.{memory_is}
 use Rattle.qcow2_image.specs.ImageLayer.{blank_of, cell_by}
-use Rattle.qcow2_image.specs.Looking.{WhyNotLooked}
+use Rattle.qcow2_image.specs.Looking.{looking_causes}
 use Rattle.qcow2_image.specs.Rooms.{IsSafe}
-use Rattle.qcow2_image.specs.Seen.{file_of, layer_of}
+use Rattle.qcow2_image.specs.Seen.{file_of, layer_of, IsSeen}
 use Rattle.qcow2_image.specs.Steps.{KeepsImage}
 use Rattle.qcow2_image.specs.declared.allocating.Shown.{Shown}
 use Rattle.qcow2_image.specs.declared.allocating.Shown.TheVariants as variant
@@ -210,14 +212,14 @@ module _ {S B : Type 0} (g : Ghosts S) (u : GhostsBelow B) where
 
 module _ {S : Type 0} (g : Ghosts S) where
   -- A lookup of a safe image isn't refused since a word is damaged.
-  why-looked : (old new : Qcow2 S g) (guest : ℕ) (e : Fault)
-      → (IsSafe g old → WhyNotLooked (entry (file_of g old.tables) old.tables.file.header.fields guest ≡ damaged)
-      (g.state old.tables.file.image).faults (g.state new.tables.file.image).faults e)
-      → WhyNotLooked ⊤ (g.state old.tables.file.image).faults (g.state new.tables.file.image).faults e → WhyNotReserved g (λ number. ⊥) old new e
-  why-looked old new guest Memory known why = tt
-  why-looked old new guest Storage known why = why
-  why-looked old new guest DamagedTable known why = λ safe. never-damaged (file_of g old.tables) old.tables.file.header safe.consistent guest (known safe)
-  why-looked old new guest e known why = absurd why
+  pub why-looked : (full : ℕ → Type 0) (old new : Qcow2 S g) (guest : ℕ) (e : Fault)
+      → (IsSeen g old.tables → HasCause (looking_causes (entry (file_of g old.tables) old.tables.file.header.fields guest ≡ damaged)
+      (g.state old.tables.file.image).faults (g.state new.tables.file.image).faults) e)
+      → HasCause (looking_causes ⊤ (g.state old.tables.file.image).faults (g.state new.tables.file.image).faults) e → HasCause (reserving_causes g full old new) e
+  why-looked full old new guest Memory known why = tt
+  why-looked full old new guest Storage known why = why
+  why-looked full old new guest DamagedTable known why = λ safe. never-damaged (file_of g old.tables) old.tables.file.header safe.consistent guest (known safe.seen)
+  why-looked full old new guest e known why = absurd why
 
   module _ {B : Type 0} (u : GhostsBelow B) (asked : Asked) (guest : ℕ) (old mid : Qcow2 S g) (x : B) where
     -- No content is made where the word of the guest cluster can't be read,
@@ -226,7 +228,7 @@ module _ {S : Type 0} (g : Ghosts S) where
       below = looked_under_same u (WasNotCutOff {T = Vec ℕ Global} (Err e)) x;
       keeps = keeps-as {T = Shown} {U = Vec ℕ Global} g old mid (Err e) (Err e) (λ w. w) (λ f. refl) t.keeps;
       ok = tt;
-      err = inl (why-looked old mid guest e (λ safe. t.known_cause safe.seen) t.cause);
+      err = inl (why-looked (λ number. ⊥) old mid guest e t.known_cause t.cause);
     }
 
     -- and for want of memory.
@@ -328,7 +330,7 @@ module _ {S : Type 0} (g : Ghosts S) where
             (keeps-both {T = Unit} g old mid new (Err e) told done.keeps);
         ok = tt;
         err = elim done.err [
-          | inl own ↦ inl (own-why e own)
+          | inl own ↦ inl (let same = (told.tables.faults tt).0 in storage-cause _ _ _ (omega (arith, same)) (omega arith) e own)
           | inr below ↦ inr (record {
             failed = below.failed;
             cause = λ safe under. why safe e
@@ -337,11 +339,6 @@ module _ {S : Type 0} (g : Ghosts S) where
           })
         ];
       } where
-        own-why : (f : Fault) → Cause (g.state mid.tables.file.image).faults (g.state new.tables.file.image).faults f → WhyNotReserved g (λ number. ⊥) old new f
-        own-why Memory is = tt
-        own-why Storage is = subst (λ (n : ℕ). Rose n (g.state new.tables.file.image).faults) (told.tables.faults tt).0 is
-        own-why f is = absurd is
-
         read-at : IsSafe g old → (v : Value) → SomeIs (shown_over g u shown (mid, x)) part.0 (part.1 - part.0) v → NeedsShown g u asked (old, x) v
         read-at safe v which =
             let from : part.0 ≤ part.0 + which.0 = omega arith in

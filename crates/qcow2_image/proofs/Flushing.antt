@@ -13,8 +13,9 @@ use Rattle.imago_access.specs.Going.{Marks, Went}
 use Rattle.imago_access.specs.Layer.{IsLike}
 use Rattle.imago_access.specs.Stops.{IsWritten}
 use Rattle.imago_access.specs.declared.seen.Seen.{Ghosts as SeenGhosts}
+use Rattle.qcow2_alloc.specs.Causes.{HasCause}
 use Rattle.qcow2_alloc.specs.Going.{IsNoShorter}
-use Rattle.qcow2_image.specs.Allocating.{FlushesFreed, FreesPending, WhyNotFreed, failed_cut, waits_in}
+use Rattle.qcow2_image.specs.Allocating.{FlushesFreed, FreesPending, failed_cut, waits_in, pending_causes}
 use Rattle.qcow2_image.specs.Holding.{claim_held}
 use Rattle.qcow2_image.specs.ImageLayer.{qcow2_fixed}
 use Rattle.qcow2_image.specs.KeepsDisk.{KeepsDisk}
@@ -76,7 +77,7 @@ flushes-freed g old mid new result freed k leaks counts failed space long = reco
   emptied = on-ok result _ (ap waits_in space ∙ freed.emptied);
   cause = from result counts;
 } where
-  from : (r : Result Unit Fault) → CountsFaults (g.state mid.tables.file.image).faults (g.state new.tables.file.image).faults r → IfErr r (WhyNotFreed g old new)
+  from : (r : Result Unit Fault) → CountsFaults (g.state mid.tables.file.image).faults (g.state new.tables.file.image).faults r → IfErr r (HasCause (pending_causes g old new))
   from (Ok done) counts = tt
   from (Err Memory) counts = tt
   from (Err Storage) counts = subst (λ n. Rose n (g.state new.tables.file.image).faults) (freed.keeps.faults tt).0 counts
@@ -149,7 +150,7 @@ module _ (R : RattleType) (st : Ghosts R.Denot) (sd : mir.Syntax.Dict) (dd : mir
 
   pub freed-failed : IfErr result (Fails driver old new)
   freed-failed = from result freed.cause where
-    from : (r : Result Unit Fault) → IfErr r (WhyNotFreed st old new) → IfErr r (Fails driver old new)
+    from : (r : Result Unit Fault) → IfErr r (HasCause (pending_causes st old new)) → IfErr r (Fails driver old new)
     from (Ok done) why = tt
     from (Err Memory) why = tt
     from (Err Storage) why = inl why
@@ -159,7 +160,7 @@ module _ (R : RattleType) (st : Ghosts R.Denot) (sd : mir.Syntax.Dict) (dd : mir
 
   pub freed-cause : IsSafe st old → IfErr result (RefusesFlush driver old new)
   freed-cause safe = from result freed.cause where
-    from : (r : Result Unit Fault) → IfErr r (WhyNotFreed st old new) → IfErr r (RefusesFlush driver old new)
+    from : (r : Result Unit Fault) → IfErr r (HasCause (pending_causes st old new)) → IfErr r (RefusesFlush driver old new)
     from (Ok done) why = tt
     from (Err Memory) why = tt
     from (Err Storage) why = inl why

@@ -6,7 +6,7 @@ use Rattle.std.proofs.lemmas.Nat.{div-mul-add, div-add-mod', mod_below}
 use Rattle.imago_storage.specs.State.{StorageState}
 use Rattle.imago_storage.specs.Calls.{Kept}
 use Rattle.imago_storage.specs.declared.fault.Fault.{Fault}
-use Rattle.imago_storage.specs.declared.fault.Fault.TheVariants.{DamagedTable, CacheFull, Memory, Storage}
+use Rattle.imago_storage.specs.declared.fault.Fault.TheVariants.{Memory, Storage}
 use Rattle.imago_storage.specs.declared.storage.Storage.{Ghosts}
 use Rattle.imago_access.specs.Files.{IsMild}
 use Rattle.qcow2_types.specs.Bytes.{bytes_of}
@@ -21,31 +21,29 @@ use Rattle.qcow2_metadata.specs.declared.mapping.L2Mapping.TheVariants.{Backing}
 use Rattle.qcow2_alloc.specs.Cache.{hit}
 use Rattle.qcow2_alloc.specs.Caches.{cached_in, cached_file}
 use Rattle.qcow2_alloc.specs.CachesLending.{with_tables}
-use Rattle.qcow2_alloc.specs.Finding.{TableFound, WhyNotFound, IsPinnedFull, IsTableFine, Sought}
+use Rattle.qcow2_alloc.specs.Finding.{TableFound, IsPinnedFull, IsTableFine, Sought, search_causes}
 use Rattle.qcow2_alloc.specs.Going as Going
 use Rattle.qcow2_alloc.specs.Going.{AreTablesInReach, AreBlocksInReach}
 use Rattle.qcow2_alloc.specs.Allocators.{UsesTable, TableUsed}
+use Rattle.qcow2_alloc.specs.Causes.{HasCause}
 use Rattle.qcow2_alloc.specs.Memory.{Cached, written_table, written_block}
 use Rattle.qcow2_alloc.specs.Safety.{AreTablesClean, AreBlocksClean}
 use Rattle.qcow2_alloc.specs.declared.async_lru_cache.Slot.{Slot}
 use Rattle.qcow2_alloc.specs.declared.cache.MetadataCaches.{MetadataCaches}
 use Rattle.qcow2_alloc.specs.declared.file.ImageFile.{ImageFile}
+use Rattle.qcow2_alloc.proofs.Causes.{Implies, cause-weaker}
 use Rattle.qcow2_alloc.proofs.Caching.Pins.{pins-hit, pins-written, full-pinned}
 use Rattle.qcow2_image.specs.declared.tables.Tables.{Tables}
 use Rattle.qcow2_image.specs.Caching.{IsUnpinned}
 use Rattle.qcow2_image.specs.Seen.{IsOfFile, IsSeen, file_of}
-use Rattle.qcow2_image.specs.Looking.{cluster_named, place_of_table, ReadsRun, LooksAt, WhyNotLooked}
+use Rattle.qcow2_image.specs.Looking.{cluster_named, place_of_table, ReadsRun, LooksAt, looking_causes}
 use Rattle.qcow2_image.proofs.Runs.{run-same}
 use Rattle.qcow2_image.proofs.FileWords.{table-named, entry-of-file, entry-of-unsound, entry-of-none, named-in-reach}
 use Rattle.qcow2_image.proofs.CachedTables.{all-hit, one-hit, of-search}
 
 -- Why it was refused: no cache is ever full.
-why-cause : (fine full damage : Type 0) (a b : ℕ) (fault : Fault) → ((fine → ⊥) → damage) → (full → ⊥) → WhyNotFound fine full a b fault → WhyNotLooked damage a b fault
-why-cause fine full damage a b Memory broken never why = tt
-why-cause fine full damage a b Storage broken never why = why
-why-cause fine full damage a b DamagedTable broken never why = broken why
-why-cause fine full damage a b CacheFull broken never why = absurd (never why)
-why-cause fine full damage a b fault broken never why = absurd why
+looking-found : {fine full damage : Type 0} {a b : ℕ} → ((fine → ⊥) → damage) → (full → ⊥) → Implies (search_causes fine full a b) (looking_causes damage a b)
+looking-found broken never = record { before = omega arith; after = omega arith; damaged = broken; counter = absurd; full = λ full. absurd (never full); limit = λ number. absurd }
 
 -- It was cut off by what cut off the search.
 cut-off : (fault : Fault) → IsMild fault → Going.IsMild fault
@@ -168,8 +166,8 @@ module _ {S : Type 0} (g : Ghosts S) (guest most table : ℕ) (old new : Tables 
         seen = λ seen. seen-then new.caches (Err fault) found (tables-found new.caches (Err fault) found seen) seen;
         says = λ seen. tt;
         named = tt;
-        failed = why-cause _ _ ⊤ (g.state old.file.image).faults (g.state new.file.image).faults fault (λ x. tt) never-full found.cause;
-        cause = λ seen. why-cause _ _ _ (g.state old.file.image).faults (g.state new.file.image).faults fault (not-fine kept seen) never-full found.cause;
+        failed = cause-weaker (looking-found (λ x. tt) never-full) fault found.cause;
+        cause = λ seen. cause-weaker (looking-found (not-fine kept seen) never-full) fault found.cause;
       }
   looks-refused fault (inr u) =
       let err = u.used.err in record {
@@ -182,7 +180,7 @@ module _ {S : Type 0} (g : Ghosts S) (guest most table : ℕ) (old new : Tables 
         seen = seen-used (ReadsRun H.fields.cluster_bits guest most) (Err fault) u u.used.same;
         says = λ seen. tt;
         named = tt;
-        failed = subst (WhyNotLooked ⊤ (g.state old.file.image).faults (g.state new.file.image).faults) (sym err.0) tt;
+        failed = subst (HasCause (looking_causes ⊤ (g.state old.file.image).faults (g.state new.file.image).faults)) (sym err.0) tt;
         cause = λ seen. absurd (err.1 (ap (λ (l : Layout). l.cluster_bits) (of-file (ReadsRun H.fields.cluster_bits guest most) (Err fault) u u.used.same seen).0));
       }
 

@@ -5,8 +5,6 @@ use Rattle.std.proofs.Math.Pow.{pow_mono}
 use Rattle.std.proofs.lemmas.Bool.{cases_lt, le-ltb}
 use Rattle.std.proofs.lemmas.Nat.{le-div, pow_pos}
 use Rattle.std.specs.Prelude.{◌⊎◌, max, min, slice_index}
-use Rattle.imago_storage.specs.declared.fault.Fault.{Fault}
-use Rattle.imago_storage.specs.declared.fault.Fault.TheVariants.{Counter, DamagedTable, Limit, Memory, Storage}
 use Rattle.imago_storage.specs.declared.storage.Storage.{Ghosts}
 use Rattle.qcow2_types.specs.Bytes.{Bytes, word}
 use Rattle.qcow2_types.specs.Counts.{count, counters_of_block}
@@ -20,13 +18,14 @@ use Rattle.qcow2_metadata.specs.Tables.{TableValue}
 use Rattle.qcow2_alloc.specs.Crowding.{room_for, space}
 use Rattle.qcow2_alloc.specs.Opening.{IsL1Of}
 use Rattle.qcow2_alloc.specs.Quiet.{counted}
+use Rattle.qcow2_alloc.proofs.Causes.{Implies}
 use Rattle.qcow2_alloc.proofs.Space.SizesOfSpace.{counters-wide}
 use Rattle.qcow2_clusters.specs.Lengthening.{clusters_for, l1_clusters}
 use Rattle.qcow2_clusters.specs.Room.{HasFree, HasFreeClusters, LeavesRoom}
 use Rattle.qcow2_clusters.specs.Room as room
 use Rattle.qcow2_clusters.specs.declared.space.Space.{Space}
 use Rattle.qcow2_clusters.proofs.NamingTables.{resting-memory}
-use Rattle.qcow2_image.specs.Allocating.{WhyNotAllocated}
+use Rattle.qcow2_image.specs.Allocating.{allocation_causes}
 use Rattle.qcow2_image.specs.FreeSpace.{HasFreeRun, IsForCluster, LacksFreeRun, LacksTable, LeavesFree, enough_for_one, enough_for_run, enough_for_table}
 use Rattle.qcow2_image.specs.Rooms.{AreCountedBefore, IsSafe, rest_of, searched_from}
 use Rattle.qcow2_image.specs.Seen.{file_of}
@@ -214,14 +213,9 @@ module _ {S : Type 0} (g : Ghosts S) where
   }
 
   -- What a number tells may be said otherwise where there is no place.
-  pub why-full : (full full' : ℕ → Type 0) (old new : Qcow2 S g) (fault : Fault) → ((number : ℕ) → IsSafe g old → full number → full' number)
-      → WhyNotAllocated g full old new fault → WhyNotAllocated g full' old new fault
-  why-full full full' old new Memory told why = why
-  why-full full full' old new Storage told why = why
-  why-full full full' old new (Limit number) told why = λ safe. told number safe (why safe)
-  why-full full full' old new DamagedTable told why = why
-  why-full full full' old new Counter told why = why
-  why-full full full' old new _ told why = absurd why
+  pub full-implies : {full full' : ℕ → Type 0} (old new : Qcow2 S g) → ((number : ℕ) → IsSafe g old → full number → full' number)
+      → Implies (allocation_causes g full old new) (allocation_causes g full' old new)
+  full-implies old new told = record { before = omega arith; after = omega arith; damaged = λ wrong. wrong; counter = λ wrong. wrong; full = absurd; limit = λ number at safe. told number safe (at safe) }
 
   -- The L1 table of a safe image has at most 2^22 words,
   pub safe-few : (d : Qcow2 S g) → IsSafe g d → d.tables.file.header.fields.l1_entries ≤ 2 ^ 22

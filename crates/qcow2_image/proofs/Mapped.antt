@@ -18,12 +18,13 @@ use Rattle.qcow2_types.specs.Entries.{entry}
 use Rattle.qcow2_types.specs.Header.{Fields, Header, cluster_size}
 use Rattle.qcow2_types.specs.Words.{Mapping, data_at, zeroes, packed, damaged}
 use Rattle.qcow2_types.specs.Words as words
+use Rattle.qcow2_alloc.specs.Causes.{HasCause}
 use Rattle.qcow2_image.specs.HeldHomes.{run-from}
 use Rattle.qcow2_image.specs.Holding.{Holding, HoldsRun, claim_held, held_home, home_or, homes_with, in_run}
 use Rattle.qcow2_image.specs.Homes.{mapped}
 use Rattle.qcow2_image.specs.ImageLayer.{home_by, homes, shallow_of}
 use Rattle.qcow2_image.specs.Looking.{Follows, IsWholeRun, IsWholeRunIn, answer_at, writable_place_of}
-use Rattle.qcow2_image.specs.Writing.{IsHomeAt, WhyNotTold}
+use Rattle.qcow2_image.specs.Writing.{IsHomeAt, telling_causes}
 use Rattle.qcow2_image.specs.Seen.{IsSeen, file_of, homes_of, layer_of, memory_of}
 use Rattle.qcow2_image.specs.Steps.{KeepsImage}
 use Rattle.qcow2_image.specs.Unspent.{holding_in}
@@ -58,7 +59,7 @@ module _ (layer : Layer) (guest place : ℕ) where
 pub why-told : {S : Type 0} (g : Ghosts S) (entry now new : Qcow2 S g) (offset n : ℕ) (fault : Fault) → layer_of g now ≡ layer_of g entry
     → now.failed ≡ false → (g.state now.tables.file.image).faults ≡ (g.state entry.tables.file.image).faults
     → LookCause (layer_of g now) offset n (g.state now.tables.file.image ∷ []) (g.state new.tables.file.image ∷ []) fault
-    → WhyNotTold g entry new fault
+    → HasCause (telling_causes g entry new) fault
 why-told g entry now new offset n DamagedTable same runs faults why =
     let here : (offset + why.0 < (layer_of g now).size) × ((layer_of g now).cell (offset + why.0) ≡ own damaged_place) = (why.2, why.3) in
     let there = subst (λ (l : Layer). (offset + why.0 < l.size) × (l.cell (offset + why.0) ≡ own damaged_place)) same here in

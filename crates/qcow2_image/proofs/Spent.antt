@@ -22,14 +22,16 @@ use Rattle.qcow2_types.specs.Header.{Fields, Header}
 use Rattle.qcow2_types.specs.References.{refs}
 use Rattle.qcow2_types.proofs.Counting.Either.{refs-file}
 use Rattle.qcow2_alloc.specs.declared.file.ImageFile.{ImageFile}
+use Rattle.qcow2_alloc.specs.Causes.{HasCause}
 use Rattle.qcow2_alloc.specs.FreeList.{covers}
 use Rattle.qcow2_alloc.specs.Going as going
+use Rattle.qcow2_alloc.specs.Going.{writing_causes}
 use Rattle.qcow2_alloc.specs.Quiet.{Metadata, IsSound, counted, in_memory, named_at_all, referenced, waiting}
 use Rattle.qcow2_alloc.proofs.Blocks.CountingRuns.{covers-behind}
 use Rattle.qcow2_alloc.proofs.Growth.GrownTables.{covers-before, covers-inside}
 use Rattle.qcow2_steps.specs.Words.{IsReserved}
 use Rattle.qcow2_steps.proofs.Steps.{put-off-advances}
-use Rattle.qcow2_clusters.specs.Naming.{TakesNone, WhyNotNamed}
+use Rattle.qcow2_clusters.specs.Naming.{TakesNone}
 use Rattle.qcow2_clusters.specs.Storing.{AreReserved}
 use Rattle.qcow2_clusters.specs.declared.space.Space.{Space}
 use Rattle.qcow2_image.specs.Committing.{CancelsUnspent, CommitsUnspent, DropsUnspent, GivesBack, SpendsUnspent, answer_of, failed_behind_any}
@@ -227,13 +229,13 @@ module _ (R : RattleType) (st : Ghosts R.Denot) (sd : mir.Syntax.Dict) (dd : mir
       pub refused-by : (result : Answer) → CommitsUnspent st state.claim old result new → CommitRefused sees mapping result old new
       refused-by result (inl another) = subst (λ r. CommitRefused sees mapping r old new) (sym another.1) (refused-as (Ok tt) tt)
       refused-by result (inr s) = subst (λ r. CommitRefused sees mapping r old new) (sym s.answer) (refused-as (answer_of s.named) (from s.named refl s.names.cause)) where
-        spending : (fault : Fault) → WhyNotNamed ⊥ (st.state old.tables.file.image).faults (st.state new.tables.file.image).faults fault → IsSpending fault
+        spending : (fault : Fault) → HasCause (writing_causes ⊥ (st.state old.tables.file.image).faults (st.state new.tables.file.image).faults) fault → IsSpending fault
         spending Memory why = tt
         spending Storage why = tt
         spending DamagedTable why = tt
         spending fault why = absurd why
 
-        caused : (fault : Fault) → WhyNotNamed ⊥ (st.state old.tables.file.image).faults (st.state new.tables.file.image).faults fault
+        caused : (fault : Fault) → HasCause (writing_causes ⊥ (st.state old.tables.file.image).faults (st.state new.tables.file.image).faults) fault
             → ImageCause (files sees old) (files sees new) fault
         caused Memory why = tt
         caused Storage why = inl why
@@ -241,7 +243,7 @@ module _ (R : RattleType) (st : Ghosts R.Denot) (sd : mir.Syntax.Dict) (dd : mir
         caused fault why = absurd why
 
         from : (r : Result Unit Fault) → s.named ≡ r
-            → IfErr r (WhyNotNamed ⊥ (st.state old.tables.file.image).faults (st.state new.tables.file.image).faults)
+            → IfErr r (HasCause (writing_causes ⊥ (st.state old.tables.file.image).faults (st.state new.tables.file.image).faults))
             → Why (answer_of r)
         from (Ok done) is why = tt
         from (Err fault) is why = (

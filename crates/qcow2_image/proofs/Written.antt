@@ -36,6 +36,7 @@ use Rattle.qcow2_types.proofs.Changes.DataSteps.{untouched-counts, untouched-kee
 use Rattle.qcow2_metadata.specs.Tables.{TableValue, words_in}
 use Rattle.qcow2_alloc.specs.declared.async_lru_cache.Slot.{Slot}
 use Rattle.qcow2_alloc.specs.Caches.{cached_in}
+use Rattle.qcow2_alloc.specs.Causes.{HasCause}
 use Rattle.qcow2_alloc.specs.Opening.{IsL1Of}
 use Rattle.qcow2_alloc.specs.Quiet.{IsSound, Metadata}
 use Rattle.qcow2_steps.proofs.DataRuns.{beside-sound}
@@ -52,7 +53,7 @@ use Rattle.qcow2_clusters.specs.Naming.{TakesNone}
 use Rattle.qcow2_image.specs.Rooms.{HasCluster, HoldsIn, IsSafe, ReadsNone, is_sound, rest_of, was_safe, searched_from}
 use Rattle.qcow2_image.specs.Seen.{IsOfFile, IsSeen, file_of, homes_of, layer_of, memory_of}
 use Rattle.qcow2_image.specs.Unspent.{holding_in}
-use Rattle.qcow2_image.specs.Writing.{IsHomeAt, MemorySpares, WhyNotTold, WritesAt}
+use Rattle.qcow2_image.specs.Writing.{IsHomeAt, MemorySpares, WritesAt, telling_causes}
 use Rattle.qcow2_image.proofs.Needing.{since-as, wrote-byte}
 use Rattle.qcow2_image.proofs.Preparations.Preparing.{safe-undamaged, went-kept}
 use Rattle.qcow2_image.proofs.Anew.{on-ok}
@@ -707,10 +708,10 @@ module _ (R : RattleType) (st : Ghosts R.Denot) (sd : mir.Syntax.Dict) (dd : mir
       }
 
   -- why, in the words of a write, where it was in those of a lookup
-  pub told-why : (cause : IsSafe st old → WhyNotTold st old new e) → IsSafe st old
+  pub told-why : (cause : IsSafe st old → HasCause (telling_causes st old new) e) → IsSafe st old
       → MappedCause (layer_of st old) guest place (length bytes) (st.state old.tables.file.image ∷ []) (st.state new.tables.file.image ∷ []) e
   told-why cause safe = from e (cause safe) where
-    from : (e : Fault) → WhyNotTold st old new e → MappedCause (layer_of st old) guest place (length bytes) (st.state old.tables.file.image ∷ []) (st.state new.tables.file.image ∷ []) e
+    from : (e : Fault) → HasCause (telling_causes st old new) e → MappedCause (layer_of st old) guest place (length bytes) (st.state old.tables.file.image ∷ []) (st.state new.tables.file.image ∷ []) e
     from DamagedTable why = absurd (safe-undamaged st old safe why.0 why.1 why.2)
     from Memory why = tt
     from Storage why = inl why
@@ -721,5 +722,5 @@ module _ (R : RattleType) (st : Ghosts R.Denot) (sd : mir.Syntax.Dict) (dd : mir
   spared-writing is = record {
     failed = subst (ImageCause (st.state old.tables.file.image ∷ []) (st.state new.tables.file.image ∷ [])) (sym is) tt;
     marks = marks-kept R st sd dd {T = Bool} old new (Err e) k;
-    cause = told-why (λ safe. subst (WhyNotTold st old new) (sym is) tt);
+    cause = told-why (λ safe. subst (HasCause (telling_causes st old new)) (sym is) tt);
   }

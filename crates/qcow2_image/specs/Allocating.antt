@@ -1,9 +1,8 @@
 -- How clusters are allocated for guest clusters that have none of their own.
 use Rattle.std.specs.Prelude.{◌≡◌, ◌≢◌, ⊤, ℕ, ◌+◌, ◌-◌, ◌*◌, ◌/◌, ◌<◌, ◌≤◌, ◌==◌, Bool, true, false, not, List, max, slice_index, length, Option, Some, None, IsSome, IfSome, is_some, Result, Ok, Err, IfOk, IfErr, OnOk, OnErr}
-use Rattle.imago_storage.specs.State.{Rose}
 use Rattle.imago_storage.specs.Calls.{Cause}
 use Rattle.imago_storage.specs.declared.fault.Fault.{Fault}
-use Rattle.imago_storage.specs.declared.fault.Fault.TheVariants.{Counter, DamagedTable, Limit, Memory, Storage}
+use Rattle.imago_storage.specs.declared.fault.Fault.TheVariants.{Limit, Memory, Storage}
 use Rattle.imago_storage.specs.declared.storage.Storage.{Ghosts}
 use Rattle.imago_storage.specs.Disk.{barred, byte}
 use Rattle.imago_access.specs.Layer.{Cell, own, unmapped}
@@ -15,13 +14,15 @@ use Rattle.qcow2_types.specs.Words.{Mapping, damaged, data_at, is_copied, packed
 use Rattle.qcow2_types.specs.Words as words
 use Rattle.qcow2_metadata.specs.Places.{IsInReach}
 use Rattle.qcow2_metadata.specs.Tables.{padded}
-use Rattle.qcow2_alloc.specs.Going.{IsNoShorter}
-use Rattle.qcow2_clusters.specs.Storing.{AreReserved, ReachesEnd, run_handed_by}
+use Rattle.qcow2_alloc.specs.Causes.{HasCause, Causes}
+use Rattle.qcow2_alloc.specs.Going.{IsNoShorter, writing_causes}
+use Rattle.qcow2_clusters.specs.Freeing.{releasing_causes}
+use Rattle.qcow2_clusters.specs.Storing.{AreReserved, ReachesEnd, run_handed_by, storing_causes}
 use Rattle.qcow2_image.specs.FreeSpace.{HasNoPlace, IsForTable, IsForWord, LacksFreeRun, LeavesFree, enough_for_run, enough_for_word}
 use Rattle.qcow2_image.specs.Holding.{AreOwnAs, place_in}
 use Rattle.qcow2_image.specs.KeepsDisk.{KeepsDisk, KeepsDiskWhere}
 use Rattle.qcow2_image.specs.Leaking.{KeepsLeaks, KeepsLeaksBut, reserved_by}
-use Rattle.qcow2_image.specs.Looking.{WhyNotLooked}
+use Rattle.qcow2_image.specs.Looking.{looking_causes}
 use Rattle.qcow2_image.specs.Rooms.{IsSafe, IsUntouched, rest_of}
 use Rattle.qcow2_image.specs.Seen.{IsSeen, file_of}
 use Rattle.qcow2_image.specs.Steps.{KeepsImage}
@@ -77,10 +78,10 @@ pub record TellsShown {S : Type 0} (g : Ghosts S) (guest : ℕ) (old : Qcow2 S g
   pub reach : IfOk result (IsShownInReach old.tables.file.header.fields.cluster_bits)
   pub shown : IsSeen g old.tables → IfOk result (λ is.
       Some is ≡ shown_of old.mode.backing (entry (file_of g old.tables) old.tables.file.header.fields guest))
-  pub cause : IfErr result (WhyNotLooked ⊤ (g.state old.tables.file.image).faults (g.state new.tables.file.image).faults)
-  pub known_cause : IsSeen g old.tables → IfErr result (WhyNotLooked
+  pub cause : IfErr result (HasCause (looking_causes ⊤ (g.state old.tables.file.image).faults (g.state new.tables.file.image).faults))
+  pub known_cause : IsSeen g old.tables → IfErr result (HasCause (looking_causes
       (entry (file_of g old.tables) old.tables.file.header.fields guest ≡ damaged)
-      (g.state old.tables.file.image).faults (g.state new.tables.file.image).faults)
+      (g.state old.tables.file.image).faults (g.state new.tables.file.image).faults))
 
 -- the cluster that a guest cluster keeps for its zeroes that is mapped so, as copied
 abbrev pub kept_by : Mapping → Option ℕ
@@ -97,34 +98,28 @@ pub record TellsKept {S : Type 0} (g : Ghosts S) (guest : ℕ) (old : Qcow2 S g)
   pub keeps : KeepsImage g old result new
   pub reach : IfOk result (λ o. IfSome o (IsInReach old.tables.file.header.fields.cluster_bits))
   pub kept : IsSeen g old.tables → IfOk result (λ o. o ≡ kept_for g guest old.tables)
-  pub cause : IfErr result (WhyNotLooked ⊤ (g.state old.tables.file.image).faults (g.state new.tables.file.image).faults)
-  pub known_cause : IsSeen g old.tables → IfErr result (WhyNotLooked
+  pub cause : IfErr result (HasCause (looking_causes ⊤ (g.state old.tables.file.image).faults (g.state new.tables.file.image).faults))
+  pub known_cause : IsSeen g old.tables → IfErr result (HasCause (looking_causes
       (entry (file_of g old.tables) old.tables.file.header.fields guest ≡ damaged)
-      (g.state old.tables.file.image).faults (g.state new.tables.file.image).faults)
+      (g.state old.tables.file.image).faults (g.state new.tables.file.image).faults))
 
 -- A safe image of which a guest cluster keeps this cluster for its zeroes, as copied, or none.
 pub record HasKept {S : Type 0} (g : Ghosts S) (guest : ℕ) (kept : Option ℕ) (d : Qcow2 S g) : Type 0 where
   pub safe : IsSafe g d
   pub is : kept ≡ kept_for g guest d.tables
 
--- Why clusters can't be reserved: in a safe image for want of memory, by a storage that failed, or since there is no place left, of which
--- `full` says what number tells it.
-abbrev pub WhyNotReserved : {S : Type 0} (g : Ghosts S) → (full : ℕ → Type 0) → Qcow2 S g → Qcow2 S g → Fault → Type 0
-WhyNotReserved g full old new Memory = ⊤
-WhyNotReserved g full old new Storage = Rose (g.state old.tables.file.image).faults (g.state new.tables.file.image).faults
-WhyNotReserved g full old new (Limit number) = IsSafe g old → full number
-WhyNotReserved g full old new DamagedTable = IsSafe g old → ⊥
-WhyNotReserved g full old new Counter = IsSafe g old → ⊥
-WhyNotReserved g full old new fault = ⊥
+-- Clusters aren't reserved in a safe image, but for want of memory or by a storage, only since there is no place left, of which `full` says
+-- what number tells it.
+abbrev pub reserving_causes : {S : Type 0} (g : Ghosts S) → (full : ℕ → Type 0) → Qcow2 S g → Qcow2 S g → Causes
+reserving_causes g full old new = storing_causes (IsSafe g old) full (g.state old.tables.file.image).faults
+    (g.state new.tables.file.image).faults
 
--- Why clusters can't be allocated, in an image that may be safe.
-abbrev pub WhyNotAllocated : {S : Type 0} (g : Ghosts S) → (full : ℕ → Type 0) → Qcow2 S g → Qcow2 S g → Fault → Type 0
-WhyNotAllocated g full old new Memory = ⊤
-WhyNotAllocated g full old new Storage = Rose (g.state old.tables.file.image).faults (g.state new.tables.file.image).faults
-WhyNotAllocated g full old new (Limit number) = IsSafe g old → full number
-WhyNotAllocated g full old new DamagedTable = IsSafe g old × IsSome old.tables.space → ⊥
-WhyNotAllocated g full old new Counter = IsSafe g old × IsSome old.tables.space → ⊥
-WhyNotAllocated g full old new fault = ⊥
+-- Nor are they allocated, where the free space is known.
+abbrev pub allocation_causes : {S : Type 0} (g : Ghosts S) → (full : ℕ → Type 0) → Qcow2 S g → Qcow2 S g → Causes
+allocation_causes g full old new = record (reserving_causes g full old new) {
+  damaged = IsSafe g old × IsSome old.tables.space → ⊥;
+  counter = IsSafe g old × IsSome old.tables.space → ⊥;
+}
 
 -- The free space is known then; a refusal leaves all as it was, but that a storage's fault marks the image. Where it was known before,
 -- nothing changes.
@@ -136,7 +131,7 @@ pub record LoadsSpace {S : Type 0} (g : Ghosts S) (old : Qcow2 S g) (result : Re
   pub same : OnErr result (KeepsImage g old result new)
   pub top : OnOk result ((new.tables.l1 ≡ old.tables.l1) × (new.tables.file.header ≡ old.tables.file.header))
   pub leaves : OnOk result (LeavesFree g 0 old.tables new.tables)
-  pub cause : IfErr result (WhyNotAllocated g (λ number. ⊥) old new)
+  pub cause : IfErr result (HasCause (allocation_causes g (λ number. ⊥) old new))
   pub known_cause : IsSafe g old → IfErr result (Cause (g.state old.tables.file.image).faults (g.state new.tables.file.image).faults)
   pub faults : OnOk result (new.failed ≡ old.failed)
 
@@ -153,8 +148,8 @@ pub record EnsuresWord {S : Type 0} (g : Ghosts S) (i : ℕ) (old : Qcow2 S g) (
   pub inside : OnOk result (i < length new.tables.l1.words)
   pub words : OnOk result (new.tables.l1.words ≡ padded old.tables.l1.words (max (length old.tables.l1.words) (i + 1)))
   pub leaves : IsSafe g old → OnOk result (LeavesFree g (enough_for_word old.tables i) old.tables new.tables)
-  pub cause : IfErr result (WhyNotAllocated g
-      (HasNoPlace g (IsForWord g i old.tables) i (enough_for_word old.tables i) old.tables new.tables) old new)
+  pub cause : IfErr result (HasCause (allocation_causes g
+      (HasNoPlace g (IsForWord g i old.tables) i (enough_for_word old.tables i) old.tables new.tables) old new))
 
 -- An L2 table of its own is over a guest cluster then, and the L1 table is no longer than its word needs. So many free clusters in a row
 -- are enough for that.
@@ -171,7 +166,7 @@ pub record EnsuresTable {S : Type 0} (g : Ghosts S) (enough guest : ℕ) (old : 
       OnOk result (length new.tables.l1.words ≡ max (length old.tables.l1.words) (i + 1))
   pub leaves : IsSafe g old → OnOk result (LeavesFree g enough old.tables new.tables)
   pub cause : let i = guest / words_of_cluster old.tables.file.header.fields in
-      IfErr result (WhyNotAllocated g (HasNoPlace g (IsForTable g guest old.tables) i enough old.tables new.tables) old new)
+      IfErr result (HasCause (allocation_causes g (HasNoPlace g (IsForTable g guest old.tables) i enough old.tables new.tables) old new))
 
 -- The L1 table stays, and the L2 tables where they are.
 pub record KeepsTop {S : Type 0} (g : Ghosts S) (sure : Type 0) (old new : Qcow2 S g) : Type 0 where
@@ -193,7 +188,7 @@ pub record StoresContent {S : Type 0} (g : Ghosts S) (n : ℕ) (bytes : List ℕ
   pub reaches : IfOk result (λ x. ReachesEnd g.state x n old.tables.file new.tables.file)
   pub content : IsSafe g old → IfOk result (λ x. (i : ℕ) → i < length bytes
       → file_of g new.tables (x * cluster_size old.tables.file.header.fields + i) ≡ slice_index bytes i)
-  pub cause : IfErr result (WhyNotAllocated g (LacksFreeRun g n (enough_for_run old.tables n) old.tables new.tables) old new)
+  pub cause : IfErr result (HasCause (allocation_causes g (LacksFreeRun g n (enough_for_run old.tables n) old.tables new.tables) old new))
 
 -- whether there was no place for what was to be stored
 abbrev pub full_by : Result ℕ Fault → Bool
@@ -219,14 +214,12 @@ pub record StoresMost {S : Type 0} (g : Ghosts S) (n : ℕ) (bytes : List ℕ) (
   pub reaches : IfOk result (λ r. ReachesEnd g.state r.host r.count old.tables.file new.tables.file)
   pub content : IsSafe g old → IfOk result (λ r. (i : ℕ) → i < length bytes
       → file_of g new.tables (r.host * cluster_size old.tables.file.header.fields + i) ≡ slice_index bytes i)
-  pub cause : IfErr result (WhyNotAllocated g (LacksFreeRun g 1 (enough_for_run old.tables n) old.tables new.tables) old new)
+  pub cause : IfErr result (HasCause (allocation_causes g (LacksFreeRun g 1 (enough_for_run old.tables n) old.tables new.tables) old new))
 
--- Why a cluster that is kept can't be filled, in an image that may be safe: no place is looked for.
-abbrev pub WhyNotFilled : {S : Type 0} (g : Ghosts S) → Qcow2 S g → Qcow2 S g → Fault → Type 0
-WhyNotFilled g old new Memory = ⊤
-WhyNotFilled g old new Storage = Rose (g.state old.tables.file.image).faults (g.state new.tables.file.image).faults
-WhyNotFilled g old new DamagedTable = IsSafe g old × IsSome old.tables.space → ⊥
-WhyNotFilled g old new fault = ⊥
+-- A cluster that is kept is filled there, but for want of memory or by a storage: no place is looked for.
+abbrev pub filling_causes : {S : Type 0} (g : Ghosts S) → Qcow2 S g → Qcow2 S g → Causes
+filling_causes g old new = writing_causes (IsSafe g old × IsSome old.tables.space)
+    (g.state old.tables.file.image).faults (g.state new.tables.file.image).faults
 
 -- Bytes are written to the cluster that a guest cluster keeps for its zeroes: it keeps that still, and what is free stays so.
 pub record FillsContent {S : Type 0} (g : Ghosts S) (guest host : ℕ) (bytes : List ℕ) (old : Qcow2 S g) (result : Result Unit Fault)
@@ -239,7 +232,7 @@ pub record FillsContent {S : Type 0} (g : Ghosts S) (guest host : ℕ) (bytes : 
   pub reaches : OnOk result (ReachesEnd g.state host 1 old.tables.file new.tables.file)
   pub content : HasKept g guest (Some host) old → OnOk result ((i : ℕ) → i < length bytes
       → file_of g new.tables (host * cluster_size old.tables.file.header.fields + i) ≡ slice_index bytes i)
-  pub cause : IfErr result (WhyNotFilled g old new)
+  pub cause : IfErr result (HasCause (filling_causes g old new))
 
 -- The content of a guest cluster is put in the cluster that it keeps for its zeroes, or else in the first of clusters in a row that were
 -- free, n of them at most, which are reserved then. For one that is kept no place is looked for.
@@ -257,16 +250,12 @@ pub record PlacesContent {S : Type 0} (g : Ghosts S) (guest : ℕ) (kept : Optio
   pub reaches : IfOk result (λ r. ReachesEnd g.state r.host r.count old.tables.file new.tables.file)
   pub content : HasKept g guest kept old → IfOk result (λ r. (i : ℕ) → i < length bytes
       → file_of g new.tables (r.host * cluster_size old.tables.file.header.fields + i) ≡ slice_index bytes i)
-  pub cause : IfErr result (WhyNotAllocated g
-      (λ number. (kept ≡ None) × LacksFreeRun g 1 (enough_for_run old.tables n) old.tables new.tables number) old new)
+  pub cause : IfErr result (HasCause (allocation_causes g
+      (λ number. (kept ≡ None) × LacksFreeRun g 1 (enough_for_run old.tables n) old.tables new.tables number) old new))
 
--- Why what waits can't be freed.
-abbrev pub WhyNotFreed : {S : Type 0} (g : Ghosts S) → Qcow2 S g → Qcow2 S g → Fault → Type 0
-WhyNotFreed g old new Memory = ⊤
-WhyNotFreed g old new Storage = Rose (g.state old.tables.file.image).faults (g.state new.tables.file.image).faults
-WhyNotFreed g old new DamagedTable = IsSafe g old → ⊥
-WhyNotFreed g old new Counter = IsSafe g old → ⊥
-WhyNotFreed g old new fault = ⊥
+-- What waits in a safe image is freed, but for want of memory or by a storage.
+abbrev pub pending_causes : {S : Type 0} (g : Ghosts S) → Qcow2 S g → Qcow2 S g → Causes
+pending_causes g old new = releasing_causes (IsSafe g old) (g.state old.tables.file.image).faults (g.state new.tables.file.image).faults
 
 -- something waits to be freed
 abbrev pub waits_in : Option Space → Bool
@@ -281,7 +270,7 @@ pub record FreesPending {S : Type 0} (g : Ghosts S) (old : Qcow2 S g) (result : 
   pub no_shorter : IsNoShorter (g.state old.tables.file.image) (g.state new.tables.file.image)
   pub idle : IsUntouched g old → (result ≡ Ok tt) × (new ≡ old)
   pub emptied : OnOk result (waits_in new.tables.space ≡ false)
-  pub cause : IfErr result (WhyNotFreed g old new)
+  pub cause : IfErr result (HasCause (pending_causes g old new))
 
 -- What waits is freed, and the file is flushed. So it gets no shorter.
 pub record FlushesFreed {S : Type 0} (g : Ghosts S) (old : Qcow2 S g) (result : Result Unit Fault) (new : Qcow2 S g) : Type 0 where
@@ -290,4 +279,4 @@ pub record FlushesFreed {S : Type 0} (g : Ghosts S) (old : Qcow2 S g) (result : 
   pub marks : new.failed ≡ failed_cut result true old.failed
   pub no_shorter : IsNoShorter (g.state old.tables.file.image) (g.state new.tables.file.image)
   pub emptied : OnOk result (waits_in new.tables.space ≡ false)
-  pub cause : IfErr result (WhyNotFreed g old new)
+  pub cause : IfErr result (HasCause (pending_causes g old new))

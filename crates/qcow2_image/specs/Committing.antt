@@ -7,8 +7,9 @@ use Rattle.imago_access.specs.declared.mapping.PreparedDataMapping.{PreparedData
 use Rattle.qcow2_types.specs.Places.{l2_entries}
 use Rattle.qcow2_metadata.specs.Places.{IsInReach}
 use Rattle.qcow2_alloc.specs.declared.cache.MetadataCaches.{MetadataCaches}
-use Rattle.qcow2_alloc.specs.Going.{IsNoShorter, WasNotCutOff}
-use Rattle.qcow2_clusters.specs.Naming.{NamesRun, WhyNotNamed}
+use Rattle.qcow2_alloc.specs.Causes.{HasCause}
+use Rattle.qcow2_alloc.specs.Going.{IsNoShorter, WasNotCutOff, writing_causes}
+use Rattle.qcow2_clusters.specs.Naming.{NamesRun}
 use Rattle.qcow2_clusters.specs.Rest.{lent}
 use Rattle.qcow2_clusters.specs.declared.space.Space.{Space}
 use Rattle.qcow2_image.specs.Holding.{claim_held}
@@ -61,7 +62,7 @@ pub record NamesHost {S : Type 0} (g : Ghosts S) (r : Reserved) (guest : ℕ) (o
   pub l1 : new.l1 ≡ old.l1
   pub known : (space : Space) → old.space ≡ Some space → IsNamable old.file.header.fields.cluster_bits guest r.host r.count
       → NamesWith g r guest old space result new
-  pub cause : IfErr result (WhyNotNamed ⊥ (g.state old.file.image).faults (g.state new.file.image).faults)
+  pub cause : IfErr result (HasCause (writing_causes ⊥ (g.state old.file.image).faults (g.state new.file.image).faults))
 
 -- the clusters of a prepared mapping
 abbrev pub reserved_of : {S : Type 0} (g : Ghosts S) → Unspent S g → Reserved

@@ -16,7 +16,8 @@ use Rattle.imago_access.specs.Refusals.{ReadCause, SomeUnusable}
 use Rattle.imago_access.specs.Room.{IsWholeUnit}
 use Rattle.imago_access.specs.declared.seen.SeenBelow.{Ghosts as GhostsBelow}
 use Rattle.qcow2_types.specs.Header.{Fields, cluster_size}
-use Rattle.qcow2_image.specs.Allocating.{WhyNotReserved, shown_cell}
+use Rattle.qcow2_alloc.specs.Causes.{HasCause}
+use Rattle.qcow2_image.specs.Allocating.{shown_cell, reserving_causes}
 use Rattle.qcow2_image.specs.Rooms.{IsSafe}
 use Rattle.qcow2_image.specs.Seen.{file_of, layer_of}
 use Rattle.qcow2_image.specs.Steps.{KeepsImage}
@@ -107,4 +108,4 @@ pub record MakesContent {S B : Type 0} (g : Ghosts S) (u : GhostsBelow B) (asked
   pub below : LookedUnder u (WasNotCutOff result) old.1 new.1
   pub keeps : KeepsImage g old.0 result new.0
   pub ok : IfOk result (λ content. Fills g u asked old content.items)
-  pub err : IfErr result (λ e. WhyNotReserved g (λ number. ⊥) old.0 new.0 e ⊎ RefusesCopy g u asked old new.1 e)
+  pub err : IfErr result (λ e. HasCause (reserving_causes g (λ number. ⊥) old.0 new.0) e ⊎ RefusesCopy g u asked old new.1 e)

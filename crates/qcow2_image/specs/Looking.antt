@@ -1,9 +1,8 @@
 -- What a look at the words of guest clusters in a row does.
 use Rattle.std.specs.Prelude.{◌≡◌, ◌≢◌, ◌⊎◌, ⊤, ℕ, min, ◌+◌, ◌-◌, ◌/◌, ◌%◌, ◌<◌, ◌≤◌, ◌^◌, ◌==◌, if◌then◌else◌, true, ◌*◌, List, slice_index, Result, IfOk, IfErr, Option, Some, None}
-use Rattle.imago_storage.specs.State.{Rose}
 use Rattle.imago_storage.specs.Calls.{Kept, Later, IsFaultless}
 use Rattle.imago_storage.specs.declared.fault.Fault.{Fault}
-use Rattle.imago_storage.specs.declared.fault.Fault.TheVariants.{DamagedTable, Memory, Storage}
+use Rattle.imago_storage.specs.declared.fault.Fault.TheVariants.{DamagedTable}
 use Rattle.imago_access.specs.Files.{WasNotCutOff}
 use Rattle.qcow2_types.specs.Entries.{entry}
 use Rattle.qcow2_types.specs.Header.{Fields, cluster_size, words_of_cluster}
@@ -20,6 +19,7 @@ use Rattle.qcow2_image.specs.Seen.{IsSeen, file_of}
 use Rattle.qcow2_image.specs.ImageLayer.{shallow_of}
 use Rattle.imago_access.specs.declared.mapping.ShallowMapping.{ShallowMapping}
 use Rattle.imago_access.specs.declared.mapping.ShallowMapping.TheVariants as shallow
+use Rattle.qcow2_alloc.specs.Causes.{HasCause, Causes}
 
 -- the cluster that a word of the L1 table names, if it names one
 abbrev pub cluster_named : ℕ → ℕ → Option ℕ
@@ -87,12 +87,10 @@ pub record ReadsRun (cluster_bits guest most : ℕ) (table : TableValue) (result
   pub ok : IfOk result (λ run. IsRunOf guest most (λ g. mapping_in table (g % l2_entries cluster_bits)) run × IsNamed cluster_bits run.0)
   pub err : IfErr result (λ e. (e ≡ DamagedTable) × (table.layout.cluster_bits ≢ cluster_bits))
 
--- Why a look at a guest cluster's word is refused.
-abbrev pub WhyNotLooked : Type 0 → ℕ → ℕ → Fault → Type 0
-WhyNotLooked damage before after DamagedTable = damage
-WhyNotLooked damage before after Memory = ⊤
-WhyNotLooked damage before after Storage = Rose before after
-WhyNotLooked damage before after fault = ⊥
+-- A look at a guest cluster's word fails, but for want of memory or by a storage, only as a damaged table.
+abbrev pub looking_causes : (damage : Type 0) → (before after : ℕ) → Causes
+looking_causes damage before after =
+    record { damaged = damage; counter = ⊥; full = ⊥; limit = λ number. ⊥; before = before; after = after }
 
 -- A look at the run from a guest cluster on, of at most so many. What is cached of it makes no difference, and nothing is written.
 pub record LooksAt {S : Type 0} (g : Ghosts S) (guest most : ℕ) (old : Tables S g) (result : Result (L2Mapping × ℕ) Fault)
@@ -106,6 +104,6 @@ pub record LooksAt {S : Type 0} (g : Ghosts S) (guest most : ℕ) (old : Tables 
   pub seen : IsSeen g old → IsSeen g new
   pub says : IsSeen g old → IfOk result (IsRunOf guest most (entry (file_of g old) old.file.header.fields))
   pub named : IfOk result (λ run. IsNamed old.file.header.fields.cluster_bits run.0 × (0 < run.1) × (run.1 ≤ most))
-  pub failed : IfErr result (WhyNotLooked ⊤ (g.state old.file.image).faults (g.state new.file.image).faults)
-  pub cause : IsSeen g old → IfErr result (WhyNotLooked (entry (file_of g old) old.file.header.fields guest ≡ damaged)
-      (g.state old.file.image).faults (g.state new.file.image).faults)
+  pub failed : IfErr result (HasCause (looking_causes ⊤ (g.state old.file.image).faults (g.state new.file.image).faults))
+  pub cause : IsSeen g old → IfErr result (HasCause (looking_causes (entry (file_of g old) old.file.header.fields guest ≡ damaged)
+      (g.state old.file.image).faults (g.state new.file.image).faults))

@@ -13,15 +13,16 @@ use Rattle.qcow2_types.specs.Entries.{entry}
 use Rattle.qcow2_types.specs.Header.{Fields, cluster_size, words_of_cluster}
 use Rattle.qcow2_types.specs.Words.{damaged}
 use Rattle.qcow2_metadata.specs.Places.{IsInReach}
+use Rattle.qcow2_alloc.specs.Causes.{HasCause}
 use Rattle.qcow2_alloc.specs.Crowding.{space}
 use Rattle.qcow2_clusters.specs.Naming.{IsUnder}
 use Rattle.qcow2_clusters.specs.Storing.{ReachesEnd}
 use Rattle.qcow2_clusters.specs.declared.space.Space.{Space}
-use Rattle.qcow2_image.specs.Allocating.{HasKept, HasOwnTable, WhyNotReserved, kept_for}
+use Rattle.qcow2_image.specs.Allocating.{HasKept, HasOwnTable, kept_for, reserving_causes}
 use Rattle.qcow2_image.specs.Filling.{IsInFirst, IsLeft, RefusesCopy}
 use Rattle.qcow2_image.specs.FreeSpace.{HasNoPlace, IsForCluster}
 use Rattle.qcow2_image.specs.Holding.{AreOwnAs, Holding, IsUncopied, place_in}
-use Rattle.qcow2_image.specs.Looking.{WhyNotLooked}
+use Rattle.qcow2_image.specs.Looking.{looking_causes}
 use Rattle.qcow2_image.specs.KeepsDisk.{KeepsDisk, KeepsDiskWhere}
 use Rattle.qcow2_image.specs.Leaking.{KeepsLeaks, KeepsLeaksBut, reserved_with}
 use Rattle.qcow2_image.specs.Rooms.{IsSafe, rest_of}
@@ -83,7 +84,7 @@ pub record Reserves {S : Type 0} (g : Ghosts S) (guest : ℕ) (kept : Option ℕ
   pub reaches : IfOk result (λ r. ReachesEnd g.state r.host r.count old.tables.file new.tables.file)
   pub stored : HasKept g guest kept old → IfOk result (λ r. (i : ℕ) → i < length content
       → file_of g new.tables (r.host * cluster_size old.tables.file.header.fields + i) ≡ slice_index content i)
-  pub cause : IfErr result (WhyNotReserved g (LacksPlaceBeside g guest kept old.tables new.tables) old new)
+  pub cause : IfErr result (HasCause (reserving_causes g (LacksPlaceBeside g guest kept old.tables new.tables) old new))
 
 -- What a mapping holds for a run, of the clusters that are reserved for it.
 abbrev pub held_run : {S : Type 0} (g : Ghosts S) → Asked → Reserved → Qcow2 S g → ℕ → (ℕ → Bool) → Holding
@@ -160,10 +161,10 @@ pub record FindsRun {S : Type 0} (g : Ghosts S) (asked : Asked) (old : Qcow2 S g
   pub keeps : KeepsImage g old result new
   pub one : IsRun g asked 1 old
   pub ok : IfOk result (λ n. IsRun g asked n old)
-  pub cause : IfErr result (WhyNotLooked ⊤ (g.state old.tables.file.image).faults (g.state new.tables.file.image).faults)
+  pub cause : IfErr result (HasCause (looking_causes ⊤ (g.state old.tables.file.image).faults (g.state new.tables.file.image).faults))
   pub known_cause : IsSeen g old.tables → let h = old.tables.file.header.fields in
-      IfErr result (WhyNotLooked (entry (file_of g old.tables) h (asked.offset / cluster_size h) ≡ damaged)
-      (g.state old.tables.file.image).faults (g.state new.tables.file.image).faults)
+      IfErr result (HasCause (looking_causes (entry (file_of g old.tables) h (asked.offset / cluster_size h) ≡ damaged)
+      (g.state old.tables.file.image).faults (g.state new.tables.file.image).faults))
 
 -- The run of a range in the first of its guest clusters, n of them at most, is prepared in an image that has become another: what the
 -- places of the first one show is in the host cluster that is held for it.
@@ -191,8 +192,8 @@ pub record PreparesFresh {S B : Type 0} (g : Ghosts S) (u : GhostsBelow B) (aske
   pub below : LookedUnder u (WasNotCutOff result) old.1 new.1
   pub ok : IfOk result (λ mapping. HoldsFresh g u asked n old middle mapping new.0)
   pub err : IfErr result (λ fault. (new.0 ≡ middle) × LeavesMarked g old.0 middle fault
-      × (WhyNotReserved g (LacksPlace g (asked.offset / cluster_size old.0.tables.file.header.fields) old.0.tables middle.tables) old.0
-      middle fault ⊎ RefusesCopy g u (first_part old.0.tables.file.header.fields asked) old new.1 fault))
+      × (HasCause (reserving_causes g (LacksPlace g (asked.offset / cluster_size old.0.tables.file.header.fields) old.0.tables middle.tables)
+      old.0 middle) fault ⊎ RefusesCopy g u (first_part old.0.tables.file.header.fields asked) old new.1 fault))
 
 -- So is a run that is found.
 pub record PreparesRun {S B : Type 0} (g : Ghosts S) (u : GhostsBelow B) (asked : Asked) (old : Qcow2 S g × B)

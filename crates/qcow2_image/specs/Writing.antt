@@ -7,7 +7,7 @@ use Rattle.imago_storage.specs.Causes.{offset_of, length_of}
 use Rattle.imago_storage.specs.Steps.{Call, IsIn}
 use Rattle.imago_storage.specs.Through.{Put}
 use Rattle.imago_storage.specs.declared.fault.Fault.{Fault}
-use Rattle.imago_storage.specs.declared.fault.Fault.TheVariants.{Barred, DamagedTable, Limit, Memory, Storage, Unsupported}
+use Rattle.imago_storage.specs.declared.fault.Fault.TheVariants.{Barred, DamagedTable, Limit, Memory, Unsupported}
 use Rattle.imago_storage.specs.declared.storage.Storage.{Ghosts}
 use Rattle.imago_storage.specs.Disk.{Value, barred, byte, damaged_place}
 use Rattle.imago_access.specs.Chain.{at}
@@ -15,10 +15,12 @@ use Rattle.imago_access.specs.Layer.{Cell, Layer, own}
 use Rattle.imago_access.specs.Parts.{announces}
 use Rattle.imago_access.specs.Room.{IsOfUnit, IsWholeUnit}
 use Rattle.qcow2_types.specs.Header.{cluster_size}
+use Rattle.qcow2_alloc.specs.Causes.{Causes}
 use Rattle.qcow2_image.specs.Rooms.{IsSafe}
 use Rattle.qcow2_image.specs.Seen.{homes_of, layer_of}
 use Rattle.qcow2_image.specs.declared.qcow2.Qcow2.{Qcow2}
 use Rattle.qcow2_image.specs.Leaking.{KeepsLeaks}
+use Rattle.qcow2_image.specs.Looking.{looking_causes}
 use Rattle.qcow2_image.specs.Preparing.{LacksPlace}
 
 -- Each place that can be written by the words of an image can be so later.
@@ -86,12 +88,11 @@ WhyUnwritten g d below call fault = ⊥
 abbrev pub IsHomeAt : Layer → (offset place n : ℕ) → Type 0
 IsHomeAt layer offset place n = (i : ℕ) → i < n → layer.home (offset + i) ≡ Some (0, place + i)
 
--- Why it can't be told whether a range is mapped: a lookup in it was refused.
-abbrev pub WhyNotTold : {S : Type 0} (g : Ghosts S) → Qcow2 S g → Qcow2 S g → Fault → Type 0
-WhyNotTold g old new DamagedTable = (p : ℕ) × (p < (layer_of g old).size) × ((layer_of g old).cell p ≡ own damaged_place)
-WhyNotTold g old new Memory = ⊤
-WhyNotTold g old new Storage = Rose (g.state old.tables.file.image).faults (g.state new.tables.file.image).faults
-WhyNotTold g old new fault = ⊥
+-- Whether a range is mapped isn't told where a lookup in it is refused.
+abbrev pub telling_causes : {S : Type 0} (g : Ghosts S) → Qcow2 S g → Qcow2 S g → Causes
+telling_causes g old new = looking_causes
+    ((p : ℕ) × (p < (layer_of g old).size) × ((layer_of g old).cell p ≡ own damaged_place))
+    (g.state old.tables.file.image).faults (g.state new.tables.file.image).faults
 
 -- A refused write has marked an image as failed, or it was for want of memory, and has left the file as it was. Want of memory marks it
 -- where the storage refused a change.

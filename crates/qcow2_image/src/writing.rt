@@ -4,11 +4,12 @@ ghost use Rattle.imago_access.specs.Failing.{Fails, RefusesLookup};
 ghost use Rattle.imago_access.specs.Mappings.{IsMappedRun};
 ghost use Rattle.imago_access.specs.Parts.{IsMappedAt};
 ghost use Rattle.imago_access.specs.Layer.{IsFree};
+ghost use Rattle.qcow2_alloc.specs.Causes.{HasCause};
 ghost use Rattle.qcow2_image.specs.Holding.{HoldsRun, Notes};
 ghost use Rattle.qcow2_image.specs.Looking.{IsWholeRunIn, writable_place_of};
 ghost use Rattle.qcow2_image.specs.Unspent.{holding_in};
 ghost use Rattle.qcow2_image.specs.Steps.{KeepsImage};
-ghost use Rattle.qcow2_image.specs.Writing.{IsHomeAt, WhyNotTold, WritesAt};
+ghost use Rattle.qcow2_image.specs.Writing.{IsHomeAt, WritesAt, telling_causes};
 ghost use Rattle.qcow2_image.specs.Seen.{IsSeen};
 
 use crate::qcow2::Qcow2;
@@ -85,7 +86,7 @@ impl<S: Storage> Qcow2<S> {
         ensures near { IfOk result (λ is. IsTrue is → 0 < length → place + length ≤ 2 ^ 60) }
         ensures keeps { KeepsImage S.Storage self.old result self.new }
         ensures failed { IfErr result (Fails ⟦<Qcow2<S> as Seen>⟧ self.old self.new) }
-        ensures cause { IsSeen S.Storage self.old.tables → IfErr result (WhyNotTold S.Storage self.old self.new) }
+        ensures cause { IsSeen S.Storage self.old.tables → IfErr result (HasCause (telling_causes S.Storage self.old self.new)) }
     {
         let mut done = 0;
         while done < length {

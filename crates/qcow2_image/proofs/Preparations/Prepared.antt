@@ -26,13 +26,14 @@ use Rattle.qcow2_types.specs.Bytes.{Bytes}
 use Rattle.qcow2_types.specs.Entries.{entry}
 use Rattle.qcow2_types.specs.Header.{Fields, cluster_size, words_of_cluster}
 use Rattle.qcow2_metadata.specs.Places.{IsInReach}
+use Rattle.qcow2_alloc.specs.Causes.{HasCause}
 use Rattle.qcow2_clusters.specs.Naming.{TakesNone}
 use Rattle.qcow2_image.specs.contracts.qcow2.Qcow2Seen.TheImpl.{ghosts}
 use Rattle.qcow2_image.specs.declared.mode.OpenMode.{OpenMode}
 use Rattle.qcow2_image.specs.declared.qcow2.PreparedMappingState.{PreparedMappingState}
 use Rattle.qcow2_image.specs.declared.qcow2.Qcow2.{Qcow2}
 use Rattle.qcow2_image.specs.declared.unspent.Unspent.{Unspent}
-use Rattle.qcow2_image.specs.Allocating.{WhyNotReserved}
+use Rattle.qcow2_image.specs.Allocating.{reserving_causes}
 use Rattle.qcow2_image.specs.Filling.{IsLeft, RefusesCopy, WhyNotCopied}
 use Rattle.qcow2_image.specs.HeldHomes.{free-homes, none-held, none-unspent}
 use Rattle.qcow2_image.specs.Holding.{Holding, IsUncopied, claim_held, place_in}
@@ -108,12 +109,12 @@ module _ (R : RattleType) (st : Ghosts R.Denot) (sd : mir.Syntax.Dict) (dd : mir
     -- Why it is refused,
     module _ (e : Fault) (k : KeepsDisk st (IsMild e) old middle) (leaks : IsSafe st old → IsMild e → KeepsLeaks st old middle)
         (marked : LeavesMarked st old middle e)
-        (why : WhyNotReserved st (LacksPlace st (asked.offset / cluster_size h) old.tables middle.tables) old middle e
+        (why : HasCause (reserving_causes st (LacksPlace st (asked.offset / cluster_size h) old.tables middle.tables) old middle) e
         ⊎ RefusesCopy st u part (old, x) y e) where
       abbrev full : ℕ → Type 0
       full = LacksPlace st (asked.offset / cluster_size h) old.tables middle.tables
 
-      own-failed : (f : Fault) → WhyNotReserved st full old middle f → ImageCause (files sees old) (files sees middle) f
+      own-failed : (f : Fault) → HasCause (reserving_causes st full old middle) f → ImageCause (files sees old) (files sees middle) f
       own-failed Memory is = tt
       own-failed Storage is = inl is
       own-failed (Limit number) is = tt
@@ -154,7 +155,7 @@ module _ (R : RattleType) (st : Ghosts R.Denot) (sd : mir.Syntax.Dict) (dd : mir
           lacks = lacks;
         }
 
-        own-cause : (f : Fault) → (IsMild f → IsMild e) → WhyNotReserved st full old middle f → Cause f
+        own-cause : (f : Fault) → (IsMild f → IsMild e) → HasCause (reserving_causes st full old middle) f → Cause f
         own-cause Memory from is = tt
         own-cause Storage from is = inl is
         own-cause (Limit number) from is =

@@ -3,7 +3,6 @@ use Rattle.std.proofs.Common.{false, ◌≡◌, ℕ, ◌+◌, ◌-◌, ◌*◌, 
 use Rattle.std.specs.Prelude.{⊤, ◌⊎◌, IfErr, IfSome, IsSome, Vec, is_some, min, not, slice_index}
 use Rattle.std.specs.declared.alloc.Global.{Global}
 use Rattle.std.proofs.lemmas.Nat.{div-add-mod', div-mul-add, mod_below, pow_pos}
-use Rattle.imago_storage.specs.State.{Rose}
 use Rattle.imago_storage.specs.Disk.{Value, barred, damaged_place}
 use Rattle.imago_storage.specs.Calls.{Cause}
 use Rattle.imago_storage.specs.declared.fault.Fault.{Fault}
@@ -19,22 +18,23 @@ use Rattle.imago_access.proofs.Looking.{looked_under_same, looked_under_weaker}
 use Rattle.qcow2_types.specs.Bytes.{Bytes, bytes_of}
 use Rattle.qcow2_types.specs.Entries.{entry, l2_table}
 use Rattle.qcow2_types.specs.Header.{Fields, Header, cluster_size, words_of_cluster}
-use Rattle.qcow2_types.specs.Words.{damaged, is_copied}
+use Rattle.qcow2_types.specs.Words.{is_copied}
 use Rattle.qcow2_metadata.specs.Places.{IsInReach}
 use Rattle.qcow2_metadata.specs.Tables.{TableValue}
+use Rattle.qcow2_alloc.specs.Causes.{HasCause}
 use Rattle.qcow2_alloc.specs.Crowding.{space}
-use Rattle.qcow2_image.specs.Allocating.{Begins, EnsuresTable, HasKept, HasOwnTable, LoadsSpace, PlacesContent, TellsKept, WhyNotAllocated, WhyNotReserved, kept_by, kept_for}
+use Rattle.qcow2_image.specs.Allocating.{Begins, EnsuresTable, HasKept, HasOwnTable, LoadsSpace, PlacesContent, TellsKept, kept_by, kept_for, reserving_causes, allocation_causes}
 use Rattle.qcow2_image.specs.Filling.{IsInFirst, IsLeft, IsNeededFor, MakesContent, NeedsShown, RefusesCopy, WhyNotCopied}
 use Rattle.qcow2_alloc.specs.Quiet.{Metadata}
+use Rattle.qcow2_alloc.proofs.Causes.{Implies, cause-weaker}
 use Rattle.qcow2_clusters.specs.Naming.{IsUnder}
 use Rattle.qcow2_image.specs.FreeSpace.{HasFreeRun, HasNoPlace, IsForTable, LacksFreeRun, LacksTable, enough_for_run, enough_for_table}
 use Rattle.qcow2_image.specs.Holding.{IsUncopied, place_in}
 use Rattle.qcow2_image.specs.KeepsDisk.{KeepsDisk, KeepsDiskWhere}
 use Rattle.qcow2_image.specs.Preparing.{FindsRun, HoldsFresh, IsCovered, IsReservedFor, IsRun, KeepsMapping, LacksPlace, LacksPlaceBeside, LeavesMarked, PreparesFresh, PreparesRun, Reserves, first_part, run_part}
 use Rattle.qcow2_image.specs.Leaking.{KeepsLeaks, reserved_as}
-use Rattle.qcow2_image.specs.Looking.{WhyNotLooked}
 use Rattle.qcow2_image.specs.Rooms.{IsSafe, rest_of}
-use Rattle.qcow2_image.specs.Seen.{IsSeen, file_of, layer_of}
+use Rattle.qcow2_image.specs.Seen.{file_of, layer_of}
 use Rattle.qcow2_image.specs.Steps.{KeepsImage}
 use Rattle.qcow2_image.specs.declared.allocating.Placed.{Placed}
 use Rattle.qcow2_image.specs.declared.mappings.Reserved.{Reserved}
@@ -47,9 +47,9 @@ use Rattle.qcow2_image.proofs.FreeRuns.{asked-as, full-behind, full-more, full-s
 use Rattle.qcow2_image.proofs.KeepingDisks.{keeps-disk-both, keeps-disk-same, keeps-disk-then, keeps-image-disk}
 use Rattle.qcow2_image.proofs.KeptClusters.{kept-behind}
 use Rattle.qcow2_image.proofs.Leaks.{leaks-all, leaks-both, leaks-but, leaks-held, leaks-then}
-use Rattle.qcow2_image.proofs.Preparations.Preparing.{never-damaged}
 use Rattle.qcow2_image.proofs.Steps.{keeps-as, keeps-both}
 use Rattle.qcow2_image.proofs.KeptLeaks.{leaks-kept}
+use Rattle.qcow2_image.proofs.Copying.{why-looked}
 
 module _ {S : Type 0} (g : Ghosts S) where
   -- A refusal leaves the image marked, or all as it was, also behind a call that only looks.
@@ -61,8 +61,8 @@ module _ {S : Type 0} (g : Ghosts S) where
   marked-behind {T} old mid new v e k marked = tt
 
   -- Why the free space isn't loaded, or clusters aren't allocated, behind a call that kept the disk.
-  why-loaded : (full : ℕ → Type 0) (old new : Qcow2 S g) (e : Fault) → WhyNotAllocated g (λ number. ⊥) old new e
-      → (IsSafe g old → Cause (g.state old.tables.file.image).faults (g.state new.tables.file.image).faults e) → WhyNotReserved g full old new e
+  why-loaded : (full : ℕ → Type 0) (old new : Qcow2 S g) (e : Fault) → HasCause (allocation_causes g (λ number. ⊥) old new) e
+      → (IsSafe g old → Cause (g.state old.tables.file.image).faults (g.state new.tables.file.image).faults e) → HasCause (reserving_causes g full old new) e
   why-loaded full old new Memory why known = tt
   why-loaded full old new Storage why known = why
   why-loaded full old new (Limit number) why known = λ safe. absurd (why safe)
@@ -70,31 +70,27 @@ module _ {S : Type 0} (g : Ghosts S) where
   why-loaded full old new Counter why known = known
   why-loaded full old new e why known = absurd why
 
-  why-allocated : (full full' : ℕ → Type 0) (old mid new : Qcow2 S g) (e : Fault) → KeepsDisk g ⊤ old mid → IsSome mid.tables.space
-      → ((number : ℕ) → IsSafe g old → full number → full' number) → WhyNotAllocated g full mid new e → WhyNotReserved g full' old new e
-  why-allocated full full' old mid new Memory k some told why = tt
-  why-allocated full full' old mid new Storage k some told why = subst (λ n. Rose n (g.state new.tables.file.image).faults) (k.faults tt).0 why
-  why-allocated full full' old mid new (Limit number) k some told why = λ safe. told number safe (why (k.safely safe tt))
-  why-allocated full full' old mid new DamagedTable k some told why = λ safe. why (k.safely safe tt, some)
-  why-allocated full full' old mid new Counter k some told why = λ safe. why (k.safely safe tt, some)
-  why-allocated full full' old mid new e k some told why = absurd why
+  allocation-reserves : {full full' : ℕ → Type 0} (old mid new : Qcow2 S g) → KeepsDisk g ⊤ old mid → IsSome mid.tables.space → ((number : ℕ) → IsSafe g old → full number → full' number)
+      → Implies (allocation_causes g full mid new) (reserving_causes g full' old new)
+  allocation-reserves old mid new k some told = let same = (k.faults tt).0 in record {
+    before = omega (arith, same);
+    after = omega arith;
+    damaged = λ wrong safe. wrong (k.safely safe tt, some);
+    counter = λ wrong safe. wrong (k.safely safe tt, some);
+    full = absurd;
+    limit = λ number at safe. told number safe (at (k.safely safe tt));
+  }
 
-  why-behind : (full full' : ℕ → Type 0) (old mid new : Qcow2 S g) (e : Fault) → KeepsDisk g ⊤ old mid
-      → ((number : ℕ) → IsSafe g old → full number → full' number) → WhyNotReserved g full mid new e → WhyNotReserved g full' old new e
-  why-behind full full' old mid new Memory k told why = tt
-  why-behind full full' old mid new Storage k told why = subst (λ n. Rose n (g.state new.tables.file.image).faults) (k.faults tt).0 why
-  why-behind full full' old mid new (Limit number) k told why = λ safe. told number safe (why (k.safely safe tt))
-  why-behind full full' old mid new DamagedTable k told why = λ safe. why (k.safely safe tt)
-  why-behind full full' old mid new Counter k told why = λ safe. why (k.safely safe tt)
-  why-behind full full' old mid new e k told why = absurd why
-
-  why-never : (full : ℕ → Type 0) (old new : Qcow2 S g) (e : Fault) → WhyNotReserved g (λ number. ⊥) old new e → WhyNotReserved g full old new e
-  why-never full old new Memory why = tt
-  why-never full old new Storage why = why
-  why-never full old new (Limit number) why = λ safe. absurd (why safe)
-  why-never full old new DamagedTable why = why
-  why-never full old new Counter why = why
-  why-never full old new e why = absurd why
+  reserves-behind : {full full' : ℕ → Type 0} (old mid new : Qcow2 S g) → KeepsDisk g ⊤ old mid → ((number : ℕ) → IsSafe g old → full number → full' number)
+      → Implies (reserving_causes g full mid new) (reserving_causes g full' old new)
+  reserves-behind old mid new k told = let same = (k.faults tt).0 in record {
+    before = omega (arith, same);
+    after = omega arith;
+    damaged = λ wrong safe. wrong (k.safely safe tt);
+    counter = λ wrong safe. wrong (k.safely safe tt);
+    full = absurd;
+    limit = λ number at safe. told number safe (at (k.safely safe tt));
+  }
 
   -- Where an image has loaded its free space, or was only looked at, it has the same free runs, and lacks the same table.
   lacks-since : (guest : ℕ) (kept : Option ℕ) (number : ℕ) (old mid new : Tables S g) → mid.file.header ≡ old.file.header
@@ -225,13 +221,9 @@ module _ {S : Type 0} (g : Ghosts S) where
     own = λ known. tt;
     reaches = tt;
     stored = λ known. tt;
-    cause = why-allocated
-        (HasNoPlace g (IsForTable g guest mid.tables) (guest / words_of_cluster mid.tables.file.header.fields)
-        (enough_for_table mid.tables guest) mid.tables new.tables)
-        (LacksPlaceBeside g guest kept old.tables new.tables) old mid new e l.keeps l.known
-        (λ number safe none.
+    cause = cause-weaker (allocation-reserves old mid new l.keeps l.known (λ number safe none.
         let safe' = l.keeps.safely safe tt in
-        lacks-loaded guest kept number old mid new l safe safe' (lacks-table guest kept number mid new safe' none))
+        lacks-loaded guest kept number old mid new l safe safe' (lacks-table guest kept number mid new safe' none))) e
         t.cause;
   }
 
@@ -258,13 +250,11 @@ module _ {S : Type 0} (g : Ghosts S) where
         own = λ known. tt;
         reaches = tt;
         stored = λ known. tt;
-        cause = why-allocated (λ number. (kept ≡ None) × LacksFreeRun g 1 (enough_for_run mid.tables n) mid.tables new.tables number)
-            (LacksPlaceBeside g guest kept old.tables new.tables) old mid new e there (t.known l.known)
-            (λ number safe full.
+        cause = cause-weaker (allocation-reserves old mid new there (t.known l.known) (λ number safe full.
             let safe' = l.keeps.safely safe tt in
             lacks-loaded guest kept number old first new l safe safe'
             (lacks-cluster guest table kept n number first mid new safe' (there.safely safe tt) l.known
-            (subst (λ (b : ℕ). n ≤ 2 ^ b / 8) (sym l.keeps.bits) few) t full.0 full.1))
+            (subst (λ (b : ℕ). n ≤ 2 ^ b / 8) (sym l.keeps.bits) few) t full.0 full.1))) e
             s.cause;
       }
 
@@ -360,19 +350,11 @@ module _ {S : Type 0} (g : Ghosts S) where
       refl,
       quiet-marked g {T = Vec ℕ Global} old.0 new.0 e m.keeps,
       elim m.err [
-        | inl own ↦ inl (why-never (LacksPlace g (asked.offset / cluster_size old.0.tables.file.header.fields) old.0.tables new.0.tables) old.0 new.0 e own)
+        | inl own ↦ inl (cause-weaker (record { before = omega arith; after = omega arith; damaged = λ wrong. wrong; counter = λ wrong. wrong; full = absurd; limit = λ number none safe. absurd (none safe) }) e own)
         | inr below ↦ inr below
       ],
     );
   }
-
-  why-unkept : (full : ℕ → Type 0) (old new : Qcow2 S g) (guest : ℕ) (e : Fault) → (IsSeen g old.tables → WhyNotLooked (entry (file_of g old.tables) old.tables.file.header.fields guest ≡ damaged)
-      (g.state old.tables.file.image).faults (g.state new.tables.file.image).faults e)
-      → WhyNotLooked ⊤ (g.state old.tables.file.image).faults (g.state new.tables.file.image).faults e → WhyNotReserved g full old new e
-  why-unkept full old new guest Memory known why = tt
-  why-unkept full old new guest Storage known why = why
-  why-unkept full old new guest DamagedTable known why = λ safe. never-damaged (file_of g old.tables) old.tables.file.header safe.consistent guest (known safe.seen)
-  why-unkept full old new guest e known why = absurd why
 
   module _ {B : Type 0} (u : GhostsBelow B) (asked : Asked) (guest n : ℕ) (content : Vec ℕ Global) (old : Qcow2 S g × B) (first : Qcow2 S g) (y : B)
       (m : MakesContent g u (first_part old.0.tables.file.header.fields asked) old (Ok content) (first, y)) where
@@ -391,8 +373,7 @@ module _ {S : Type 0} (g : Ghosts S) where
       err = (
         refl,
         marked-behind {T = Vec ℕ Global} old.0 first new content e m.keeps (quiet-marked g {T = Option ℕ} first new e t.keeps),
-        inl (why-behind (λ number. ⊥) (LacksPlace g (asked.offset / cluster_size old.0.tables.file.header.fields) old.0.tables new.tables)
-            old.0 first new e made (λ number safe none. absurd none) (why-unkept (λ number. ⊥) first new guest e t.known_cause t.cause)),
+        inl (cause-weaker (reserves-behind old.0 first new made (λ number safe none. absurd none)) e (why-looked g (λ number. ⊥) first new guest e t.known_cause t.cause)),
       );
     }
 
@@ -435,13 +416,11 @@ module _ {S : Type 0} (g : Ghosts S) where
       err = (
         refl,
         marked-behind {T = Vec ℕ Global} old.0 first new content e m.keeps (marked-behind {T = Option ℕ} first mid new kept e t.keeps r.marked),
-        inl (why-behind (LacksPlaceBeside g guest kept mid.tables new.tables)
-            (LacksPlace g (asked.offset / cluster_size h) old.0.tables new.tables) old.0 mid new e looked
-            (λ number safe lacks. subst (λ k. LacksPlace g k old.0.tables new.tables number) is
+        inl (cause-weaker (reserves-behind old.0 mid new looked (λ number safe lacks. subst (λ k. LacksPlace g k old.0.tables new.tables number) is
             (subst (λ o. LacksPlaceBeside g guest o old.0.tables new.tables number) (kept-before safe)
             (lacks-looked {T = Vec ℕ Global} content guest kept number old.0 first new.tables m.keeps
             ((made u asked guest n content old first y m).safely safe tt)
-            (lacks-looked {T = Option ℕ} kept guest kept number first mid new.tables t.keeps (looked.safely safe tt) lacks)))) r.cause),
+            (lacks-looked {T = Option ℕ} kept guest kept number first mid new.tables t.keeps (looked.safely safe tt) lacks))))) e r.cause),
       );
     }
 
@@ -566,10 +545,8 @@ module _ {S : Type 0} (g : Ghosts S) where
         p.err.0,
         marked-behind {T = T} old mid p.middle v e k p.err.1,
         elim p.err.2 [
-          | inl own ↦ inl (why-behind (LacksPlace g (asked.offset / cluster_size is) mid.tables p.middle.tables)
-              (LacksPlace g (asked.offset / cluster_size was) old.tables p.middle.tables) old mid p.middle e looked-on
-              (λ number safe lacks. subst (λ (h : Fields). LacksPlace g (asked.offset / cluster_size h) old.tables p.middle.tables number) fields
-              (lacks-behind number safe p.middle.tables lacks)) own)
+          | inl own ↦ inl (cause-weaker (reserves-behind old mid p.middle looked-on (λ number safe lacks. subst (λ (h : Fields). LacksPlace g (asked.offset / cluster_size h) old.tables p.middle.tables number) fields
+              (lacks-behind number safe p.middle.tables lacks))) e own)
           | inr below ↦ inr (copy-behind y e below)
         ],
       );
@@ -584,7 +561,7 @@ module _ {S : Type 0} (g : Ghosts S) where
   fresh-lacks u asked n old new x y (Err e) p safe under = λ number same. elim p.err.2 [
     | inl own ↦
         let lacks : LacksPlace g (asked.offset / cluster_size old.tables.file.header.fields) old.tables p.middle.tables number =
-        subst (λ (f : Fault). WhyNotReserved g (LacksPlace g (asked.offset / cluster_size old.tables.file.header.fields) old.tables p.middle.tables) old p.middle f) same own safe in
+        subst (λ (f : Fault). HasCause (reserving_causes g (LacksPlace g (asked.offset / cluster_size old.tables.file.header.fields) old.tables p.middle.tables) old p.middle) f) same own safe in
         subst (λ (d : Qcow2 S g). LacksPlace g (asked.offset / cluster_size old.tables.file.header.fields) old.tables d.tables number) (sym p.err.0) lacks
     | inr below ↦ absurd (subst (λ (f : Fault). WhyNotCopied g u (first_part old.tables.file.header.fields asked) (old, x) y f) same (below.cause safe under))
   ]
@@ -638,7 +615,7 @@ module _ {S : Type 0} (g : Ghosts S) where
       err = (
         refl,
         quiet-marked g {T = ℕ} old new e found.keeps,
-        inl (why-unkept (LacksPlace g (asked.offset / cluster_size old.tables.file.header.fields) old.tables new.tables) old new
+        inl (why-looked g (LacksPlace g (asked.offset / cluster_size old.tables.file.header.fields) old.tables new.tables) old new
             (asked.offset / cluster_size old.tables.file.header.fields) e found.known_cause found.cause),
       );
     };

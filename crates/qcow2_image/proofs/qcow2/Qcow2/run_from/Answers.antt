@@ -14,9 +14,10 @@ use Rattle.imago_access.specs.Refusals.{LookCause}
 use Rattle.qcow2_image.specs.Unspent.{holding_in}
 use Rattle.qcow2_image.specs.declared.qcow2.Qcow2.{Qcow2}
 use Rattle.imago_access.specs.declared.mapping.ShallowMapping.{ShallowMapping}
+use Rattle.qcow2_alloc.specs.Causes.{HasCause}
 use Rattle.qcow2_image.specs.ImageLayer.{qcow2_layer, shallow_of}
 use Rattle.qcow2_image.specs.Rooms.{IsStated, IsVacant, IsZeroed}
-use Rattle.qcow2_image.specs.Looking.{EndsNear, WhyNotLooked, IsRunOf}
+use Rattle.qcow2_image.specs.Looking.{EndsNear, IsRunOf, looking_causes}
 use Rattle.qcow2_image.specs.Seen.{file_of, memory_of}
 use Rattle.qcow2_image.proofs.Ranges.{low-bits, high-bits, some-words, range-some, range-near, range-few, range-small, range-one-table, range-fits, range-within, range-word, range-ends}
 use Rattle.qcow2_image.proofs.Ends.{long-run, run-goes-on}
@@ -245,7 +246,7 @@ returns-in-Err-clause-cause g c = λ seen.
     let s = g.S.Storage.state t.file.image in
     let s' = g.S.Storage.state c.look_up.new.tables.file.image in
     let guest : c.cluster.result ≡ c.args.offset / cluster_size h = c.cluster.ensures ∙ ap (λ x. c.args.offset / 2 ^ x) c.cluster_bits-cluster_bits.ensures.value in
-    let why = subst (λ x. WhyNotLooked (entry (file_of g.S.Storage t) h x ≡ damaged) s.faults s'.faults c.in-Err.fault) guest (c.in-Err.ensures.cause seen) in
+    let why = subst (λ x. HasCause (looking_causes (entry (file_of g.S.Storage t) h x ≡ damaged) s.faults s'.faults) c.in-Err.fault) guest (c.in-Err.ensures.cause seen) in
     let after : g.S.Storage.state c.mark.new.self.tables.file.image ≡ s' = ap (λ (x : Qcow2 g.row.S.Denot g.S.Storage). g.S.Storage.state x.tables.file.image) c.mark.ensures in
     subst (λ x. LookCause (qcow2_layer s (memory_of g.S.Storage t) h q.mode q.number q.failed (holding_in g.S.Storage q.unspent)) c.args.offset c.args.max_length (s ∷ []) (x ∷ []) c.in-Err.fault) (sym after)
     (look-cause s s' [] [] (memory_of g.S.Storage t) h q.mode q.number q.failed (holding_in g.S.Storage q.unspent) c.args.offset c.args.max_length c.in-Err.fault (memory-is g.S.Storage t) c.requires.inside c.requires.some why)
