@@ -1,4 +1,4 @@
-// A chain of layers: one flat disk.
+// A chain of layers: one flat disk. In qemu they are nodes, in a backing chain.
 ghost use Rattle.std.specs.Prelude.{◌≡◌, [], map, IfOk, IfErr, Some, MatchOption};
 ghost use Rattle.imago_storage.specs.State.{IsAlignment};
 ghost use Rattle.imago_access.specs.Layer.{unmapped, IsFree};

@@ -1,4 +1,4 @@
-// The layers below one, as its driver reads them.
+// The layers below one, as its driver reads them: the backing of an image, in qemu and imago.
 ghost use Rattle.std.specs.Prelude.{◌≡◌, ◌+◌, ◌≤◌, ◌^◌, [], ⊤, length, OnOk, IfErr, IsErrOf};
 ghost use Rattle.imago_storage.specs.Disk.{Shows};
 ghost use Rattle.imago_access.specs.Chain.{at, has_any};

@@ -1,4 +1,4 @@
-// What a driver of a format promises to the chain above it.
+// What a driver of a format promises to the chain above it: in qemu it is a `BlockDriver`.
 ghost use Rattle.std.specs.Prelude.{false, ◌≡◌, ◌<◌, ◌≤◌, ◌+◌, ◌^◌, ◌⊎◌, ℕ, Some, None, List, MatchOption, is_some, IsSome, IsTrue, IsOk, IfOk, IfErr, OnOk, IsErr, IsErrOf, length};
 ghost use Rattle.imago_storage.specs.State.{IsAlignment};
 ghost use Rattle.imago_storage.specs.Steps.{Call};

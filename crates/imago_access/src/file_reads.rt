@@ -1,4 +1,4 @@
-// The files of a layer, as they stand.
+// The files of a layer, as they stand: protocol nodes, in qemu.
 ghost use Rattle.std.specs.Prelude.{◌≡◌, ◌≤◌, length, OnOk, IfErr, IsOk, IsErrOf};
 ghost use Rattle.imago_access.specs.Files.{AreRead, OverflowsIn, WasNotCutOff, files};
 ghost use Rattle.imago_access.specs.FileReads.{FilesRead, FileReadCause};

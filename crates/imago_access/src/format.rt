@@ -1,4 +1,4 @@
-// The formats of images, and how a growth of one prepares its new bytes.
+// The formats of images, and how a growth of one prepares its new bytes: in qemu by a `PreallocMode`.
 
 /// The formats of images that are carried.
 #[derive(Clone, Copy, Debug, Drop, PartialEq, Eq)]

@@ -1,4 +1,4 @@
-// Who opens the files that an image names.
+// Who opens the files that an image names. In qemu the image does it itself.
 ghost use Rattle.std.specs.Prelude.{◌≡◌, ℕ, List, Result, Err};
 ghost use Rattle.imago_storage.specs.declared.fault.Fault.{Fault};
 ghost use Rattle.imago_storage.specs.declared.fault.Fault.TheVariants.{MissingData};

@@ -1,7 +1,8 @@
 //! Images as flat disks: the interface of a driver, and the chain of layers that a guest reads and writes through.
 //!
 //! `FormatDriverInstance` is what a driver of a format promises, and `FormatAccess` is a disk over one driver and the layers below it.
-//! Contracts see a layer as a `Layer` and its storages as states of `imago_storage`.
+//! Contracts see a layer as a `Layer` and its storages as states of `imago_storage`. In qemu a driver is a
+//! `BlockDriver`, a layer a node, the layers below a backing chain, and a storage a protocol node.
 #![tactic(auto)]
 
 mod access;

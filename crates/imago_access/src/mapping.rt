@@ -1,4 +1,4 @@
-// Where the places of a disk lie.
+// Where the places of a disk lie: what qemu's `bdrv_block_status` answers of offsets.
 ghost use Rattle.std.specs.Prelude.{false, ◌≡◌, ◌-◌, ◌^◌, Some, None, is_none};
 ghost use Rattle.imago_access.specs.Mappings.{is_deep_end, is_deep_explicit, lower, IsDeepBelow};
 

@@ -1,4 +1,4 @@
-// The ranges of a disk that may be changed.
+// The ranges of a disk that may be changed. The unit is the request alignment in qemu, and `req_align` in imago.
 ghost use Rattle.std.specs.Prelude.{◌≡◌, ◌<◌, ◌≤◌, ◌+◌, ◌∷◌, List, IsTrue, IfErr, OnOk, Some, None};
 ghost use Rattle.imago_storage.specs.State.{StorageState};
 ghost use Rattle.imago_access.specs.Files.{IsMild, ImageCause};

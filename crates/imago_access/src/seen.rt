@@ -1,4 +1,4 @@
-// What contracts see of a driver, and of the layers below one.
+// What contracts see of a driver, and of the layers below one: in qemu of a node, and of its backing chain.
 ghost use Rattle.std.specs.Prelude.{ℕ, List};
 ghost use Rattle.imago_storage.specs.State.{StorageState};
 ghost use Rattle.imago_storage.specs.Steps.{Call};

@@ -1,4 +1,4 @@
-//! Drivers of the simple formats: raw images, and the descriptors of VMDK images.
+//! Drivers of the simple formats: raw images, and the descriptors of VMDK images. A driver is a `BlockDriver` in qemu.
 #![tactic(auto)]
 
 mod builders;

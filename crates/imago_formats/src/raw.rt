@@ -1,4 +1,4 @@
-// A raw image: the disk is the storage's bytes.
+// A raw image: the disk is the storage's bytes. The storage is a protocol node in qemu.
 ghost use Rattle.std.specs.Prelude.{◌≡◌, min, ◌-◌, ◌+◌, ◌≤◌, ◌<◌, ◌^◌, [], ⊤, refl, length, replicate, ◌⊎◌, OnOk, IfOk, IfErr, IsErr, IsSome, IsTrue, None, Some, true};
 ghost use Rattle.std.proofs.Common.{inr};
 ghost use Rattle.std.proofs.Math.Nat.{le_refl};

@@ -1,4 +1,5 @@
-// Discards of any range, as far as it is whole units.
+// Discards of any range, as far as it is whole units. A unit is the request alignment
+// in qemu, or the alignment of discards where that is larger.
 ghost use Rattle.std.specs.Prelude.{◌≡◌, ℕ, ◌-◌, max, IsOk, OnOk, IfErr, IsErrOf};
 ghost use Rattle.imago_storage.specs.State.{unit_of, IsAlignment};
 ghost use Rattle.imago_storage.specs.Through.{Overflows, GivenUp, NotGivenUp};

@@ -1,4 +1,4 @@
-// Calls on any range, padded to whole units.
+// Calls on any range, padded to whole units. A unit is the request alignment in qemu.
 ghost use Rattle.std.specs.Prelude.{◌≡◌, ℕ, ◌+◌, ◌-◌, ◌%◌, ◌<◌, ◌≤◌, ◌^◌, max, ◌++◌, length, slice_index, replicate, IsOk, OnOk, OnErr, IfErr, IsErrOf, IsTrue};
 ghost use Rattle.std.specs.Option.{SomeIff};
 ghost use Rattle.imago_storage.specs.State.{unit_of, IsAlignment, IsWhole};

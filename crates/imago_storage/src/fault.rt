@@ -1,4 +1,4 @@
-// What a call is refused with.
+// What a call is refused with: in qemu a negative error number, in imago an `io::Error`.
 ghost use Rattle.std.specs.Prelude.{◌≡◌};
 ghost use Rattle.imago_storage.specs.Fault.{number_of, kind_of};
 ghost use Rattle.imago_storage.specs.declared.fault.Fault.TheVariants.{Memory};

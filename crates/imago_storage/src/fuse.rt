@@ -1,4 +1,4 @@
-// A storage that fails once.
+// A storage that fails once: in qemu `blkdebug` injects such errors. imago has none.
 ghost use Rattle.std.specs.Prelude.{◌≡◌, ◌≢◌, ◌+◌, ◌^◌, ◌-◌, min, length, replicate, OnOk, IfErr, MatchBool};
 ghost use Rattle.imago_storage.specs.State.{Rose, IsWhole, unit_of};
 ghost use Rattle.imago_storage.specs.Calls.{CountsFaults, DiscardRefused, Discarded, Kept, Later, NotWritten, Reads, RequestsOne, ResizeRefused, Resized, Written, ZeroingRefused};

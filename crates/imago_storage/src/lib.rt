@@ -1,4 +1,5 @@
-//! Storages: lists of bytes that are read and written by requests of whole, aligned units.
+//! Storages: lists of bytes that are read and written by requests of whole, aligned units. In qemu a storage is a protocol
+//! node, and the unit its request alignment; in imago the unit is the larger of `req_align` and `mem_align`.
 //!
 //! `Storage` is what a storage promises, and `StorageExt` adds reads and writes of any range. `MemStorage` holds its bytes
 //! in memory, `MemoryView` reads bytes that are lent, and `Null` holds none. `FuseStorage` and `LogStorage` are for tests of

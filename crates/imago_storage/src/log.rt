@@ -1,4 +1,4 @@
-// A storage that keeps a log of its requests.
+// A storage that keeps a log of its requests: `blklogwrites` in qemu. imago has none.
 ghost use Rattle.std.specs.Prelude.{◌≡◌, ◌≤◌, ◌-◌, ◌∷◌, ◌++◌, [], List, length, take, replicate, true, OnOk, IfOk, IfErr, IsErrOf, IsOkUnless, IsTrue};
 ghost use Rattle.imago_storage.specs.State.{InStep, IsWhole, Rose, unit_of};
 ghost use Rattle.imago_storage.specs.Calls.{CountsFaults, Kept, Later, NotWritten, Reads, RequestsOne, ResizeRefused, Resized, Written, ZeroingRefused};

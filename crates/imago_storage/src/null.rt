@@ -1,4 +1,4 @@
-// A storage that holds nothing.
+// A storage that holds nothing: `null-co` in qemu, where that reads zeroes.
 ghost use Rattle.std.specs.Prelude.{◌≡◌, length, replicate, IsOk, OnOk, IfErr};
 ghost use Rattle.imago_storage.specs.State.{IsWhole, unit_of};
 ghost use Rattle.imago_storage.specs.Calls.{CountsFaults, DiscardRefused, Discarded, Kept, Later, NotWritten, Reads, RequestsOne, ResizeRefused, Resized, Written, ZeroingRefused};

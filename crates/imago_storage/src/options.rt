@@ -1,4 +1,4 @@
-// How a storage is opened or created.
+// How a storage is opened or created. Past the host's cache is `cache.direct` in qemu.
 ghost use Rattle.std.specs.Prelude.{◌≡◌, false, Some, None};
 ghost use Rattle.std.specs.Option.{option_copied};
 ghost use Rattle.std.specs.String.{string_bytes};

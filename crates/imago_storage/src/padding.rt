@@ -1,4 +1,5 @@
-// Writes of any range as whole units: the units that it has only a part of are read before the first of them is written.
+// Writes of any range as whole units: the units that it has only a part of are read before the first of them is written. In
+// qemu they are a `BdrvRequestPadding`, and a unit the request alignment.
 ghost use Rattle.std.specs.Prelude.{◌≡◌, ℕ, ◌+◌, ◌-◌, ◌%◌, ◌<◌, ◌≤◌, ◌^◌, ◌++◌, length, OnOk, IfOk, IfErr, IsOkUnless};
 ghost use Rattle.imago_storage.specs.State.{unit_of, IsWhole};
 ghost use Rattle.imago_storage.specs.Calls.{CountsFaults, Kept};

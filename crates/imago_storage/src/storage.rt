@@ -1,4 +1,4 @@
-// A storage as its users see it: a list of bytes under aligned requests.
+// A storage as its users see it: a list of bytes under aligned requests. In qemu it is a protocol node.
 ghost use Rattle.std.specs.Prelude.{◌≡◌, ◌≢◌, ℕ, ◌+◌, ◌%◌, ◌<◌, ◌^◌, List, length, slice_index, replicate, max, OnOk, IfErr, IsErrOf, EachIndex};
 ghost use Rattle.std.specs.Option.{option_map, option_copied};
 ghost use Rattle.imago_storage.specs.State.{StorageState, IsAlignment, IsAligned, IsWhole, unit_of};

@@ -1,4 +1,4 @@
-// Bytes in memory that are lent as a storage.
+// Bytes in memory that are lent as a storage, which is a protocol node in qemu.
 ghost use Rattle.std.specs.Prelude.{◌≡◌, length, replicate, IsOk, OnOk, IfErr, IsErrOf};
 ghost use Rattle.imago_storage.specs.State.{IsWhole, unit_of};
 ghost use Rattle.imago_storage.specs.Calls.{CountsFaults, DiscardRefused, Discarded, Kept, Later, NotWritten, Reads, RequestsOne, ResizeRefused, Resized, Written, ZeroingRefused};

@@ -1,4 +1,4 @@
-// Zeroing of any range, padded to whole units.
+// Zeroing of any range, padded to whole units. A unit is the request alignment in qemu.
 ghost use Rattle.std.specs.Prelude.{◌≡◌, ℕ, ◌+◌, ◌-◌, ◌%◌, ◌<◌, ◌≤◌, ◌^◌, ◌++◌, max, min, length, slice_index, replicate, IsOk, OnOk, IfOk, IfErr, IsErrOf, IsOkUnless};
 ghost use Rattle.imago_storage.specs.State.{unit_of, IsAlignment, IsWhole};
 ghost use Rattle.imago_storage.specs.Calls.{CountsFaults, Kept, Later, Mixed, RequestsOne};

@@ -1,4 +1,5 @@
-// Counters of 1, 2, 4, 8, 16, 32 or 64 bits, packed in bytes.
+// Counters of 1, 2, 4, 8, 16, 32 or 64 bits, packed in bytes: refcounts in imago, and in qemu
+// the entries of a refcount block.
 ghost use Rattle.std.specs.Prelude.{◌≡◌, ◌≢◌, ℕ, ◌+◌, ◌-◌, ◌*◌, ◌/◌, ◌%◌, ◌^◌, ◌<◌, ◌≤◌, ◌↔◌, length, IsOk, OnOk, OnErr, IfErr};
 ghost use Rattle.qcow2_metadata.specs.Cells.{big_endian, bit_start, cell_bytes, cell_start, counter, HasCounter, IsRaised};
 

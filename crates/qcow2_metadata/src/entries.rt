@@ -1,4 +1,4 @@
-// The words of tables.
+// The words of tables: L1, L2 and refcount table entries, in qemu and imago.
 //
 // From the sections "Host cluster management" and "Cluster mapping" of the format.
 ghost use Rattle.std.specs.Prelude.{◌≡◌, refl, ℕ, ◌+◌, ◌-◌, ◌<◌, List, map, ◌*◌, ◌%◌, ◌^◌, ◌≤◌, ◌↔◌, IsTrue, IsOk, IfOk, IsOkUnless};

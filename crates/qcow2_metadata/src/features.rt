@@ -1,4 +1,4 @@
-// The names that a header gives to feature bits.
+// The names that a header gives to feature bits: in qemu the feature name table.
 ghost use Rattle.std.specs.Prelude.{◌≡◌, ◌==◌, not, map, length, IfOk, OnOk, IsTrue};
 ghost use Rattle.std.specs.List.{position};
 ghost use Rattle.std.specs.Option.{option_copied, option_map, option_to_list};

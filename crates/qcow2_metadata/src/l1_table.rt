@@ -1,4 +1,4 @@
-// The L1 table.
+// The L1 table. A word of it is an L1 entry in qemu and imago.
 ghost use Rattle.std.specs.Prelude.{◌≡◌, ℕ, ◌+◌, ◌*◌, ◌^◌, ◌<◌, ◌≤◌, ◌-◌, ◌↔◌, IsTrue, IsOk, IfOk, IsErrOf, IsOkUnless, length, min, refl, Some, None, true, false};
 ghost use Rattle.qcow2_types.specs.Header.{layout_of};
 ghost use Rattle.qcow2_metadata.specs.Tables.{IsNamable, grown_l1, with_word, table_place};

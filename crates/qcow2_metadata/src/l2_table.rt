@@ -1,4 +1,4 @@
-// L2 tables.
+// L2 tables. A word of one is an L2 entry in qemu and imago.
 ghost use Rattle.std.specs.Prelude.{◌≡◌, ℕ, ◌+◌, ◌*◌, ◌%◌, ◌^◌, ◌<◌, ◌≤◌, ◌↔◌, ◌⊎◌, IsTrue, IsOk, OnOk, OnErr, IfOk, IsOkUnless, MatchOption, length, map, replicate, refl, Some, None, true, false};
 ghost use Rattle.std.specs.Option.{is_some};
 ghost use Rattle.qcow2_types.specs.Header.{layout_of, words_of_cluster};

@@ -1,4 +1,5 @@
 //! What callers may rest on beside the contract of each call. The functions do nothing, and their contracts are the laws.
+//! A word of a table is an entry of it in qemu and imago.
 
 ghost use Rattle.std.specs.Prelude.{◌≡◌, ◌≢◌, ◌⊎◌, ◌≤◌, ◌+◌, ◌*◌, ◌^◌, ◌<◌, ◌-◌, ℕ, Bool, true, false, IsTrue, Option, None, Some, Ok, List, [], length, slice_index, slice_set};
 ghost use Rattle.qcow2_types.specs.BlockBytes.{Packs};

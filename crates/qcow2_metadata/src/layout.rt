@@ -1,4 +1,4 @@
-// What the words of an image depend on.
+// What the words of an image depend on: in qemu fields of `BDRVQcow2State`.
 ghost use Rattle.std.specs.Prelude.{◌≡◌, ◌≤◌};
 ghost use Rattle.qcow2_types.specs.Header.{Shaped, layout_of};
 

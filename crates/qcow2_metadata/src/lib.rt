@@ -1,4 +1,6 @@
 //! The metadata of a qcow2 image: its header, tables and refcount blocks, as they are in memory and in the file.
+//!
+//! In qemu and imago a word of a table is its entry, and a counter of a block a refcount.
 #![tactic(auto)]
 
 mod clusters;

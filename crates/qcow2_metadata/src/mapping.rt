@@ -1,4 +1,4 @@
-// What the words of L2 tables mean, and the host clusters that they take.
+// What the words of L2 tables mean, and the host clusters that they take: in qemu each has a `QCow2ClusterType`.
 ghost use Rattle.std.specs.Prelude.{◌≡◌, ◌==◌, ℕ, Bool, Some, None, ◌+◌, ◌<◌, ◌^◌, ◌≤◌};
 ghost use Rattle.qcow2_metadata.specs.MappingView.{mapping_seen, IsNamed, follows};
 ghost use Rattle.qcow2_metadata.specs.Allocations.{allocation_of, clusters_of_range as clusters_of_range_of, freed, replaced, unkept, kept_where, zeroed_word, IsKeptInReach};

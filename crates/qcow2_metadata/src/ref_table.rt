@@ -1,4 +1,4 @@
-// The refcount table.
+// The refcount table. A word of it is a refcount table entry in qemu and imago.
 ghost use Rattle.std.specs.Prelude.{◌≡◌, ℕ, ◌+◌, ◌-◌, ◌*◌, ◌^◌, ◌<◌, ◌≤◌, ◌↔◌, IsTrue, MatchOption, IsOk, IfOk, IsErrOf, IsOkUnless, length, refl, Some, None, true, false};
 ghost use Rattle.qcow2_types.specs.Header.{Shaped, layout_of, words_of_cluster};
 ghost use Rattle.qcow2_types.specs.Counts.{counters_of_block};

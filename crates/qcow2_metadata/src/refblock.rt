@@ -1,4 +1,4 @@
-// Refcount blocks.
+// Refcount blocks. A counter of one is a refcount in qemu and imago.
 ghost use Rattle.std.specs.Prelude.{◌≡◌, ℕ, ◌+◌, ◌-◌, ◌*◌, ◌^◌, ◌<◌, ◌≤◌, ◌↔◌, ◌==◌, true, false, length, replicate, slice_index, slice_set, IsTrue, IsOk, OnOk, OnErr, IfOk, IfErr, IsOkUnless, Some, None};
 ghost use Rattle.imago_storage.specs.Calls.{CountsFaults, Kept, Reads};
 ghost use Rattle.imago_storage.specs.State.{IsAlignment, unit_of};

@@ -1,4 +1,4 @@
-// L2 tables that are read where their bytes lie.
+// L2 tables that are read where their bytes lie, as qemu keeps its own, in slices; imago decodes all.
 ghost use Rattle.std.specs.Prelude.{◌≡◌, ℕ, ◌+◌, ◌*◌, ◌/◌, ◌%◌, ◌^◌, ◌<◌, ◌≤◌, length, slice_index, OnOk, IfOk, IfErr};
 ghost use Rattle.imago_storage.specs.Calls.{Kept};
 ghost use Rattle.qcow2_types.specs.Bytes.{bytes_of};

@@ -1,4 +1,4 @@
-// What the tables of 64-bit words have in common.
+// What the tables of 64-bit words have in common. A word of one is its entry in qemu and imago.
 //
 // From the sections "Host cluster management" and "Cluster mapping" of the format: the words of a table are big-endian, and
 // stand in a row from the table's place on.

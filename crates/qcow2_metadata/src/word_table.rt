@@ -1,4 +1,4 @@
-// Tables as they are kept in memory.
+// Tables as they are kept in memory, where qemu caches slices of them. A word is an entry in qemu and imago.
 ghost use Rattle.std.specs.Prelude.{◌≡◌, ℕ, ◌^◌, ◌<◌, ◌≤◌, IsTrue, length, Some, None, true, false};
 ghost use Rattle.qcow2_types.specs.Header.{layout_of};
 ghost use Rattle.qcow2_types.specs.TableBytes.{AreFit};

@@ -1,4 +1,5 @@
-//! The 64-bit words of tables, decoded.
+//! The 64-bit words of tables, which are their entries in qemu and imago, decoded. What an L2 entry says of a cluster is its descriptor
+//! in qemu, a standard or a compressed one.
 //!
 //! From the sections "Host cluster management" and "Cluster mapping" of the format.
 

@@ -1,5 +1,5 @@
 //! Each step in the words of what adds up: what it may show, and what is left of the clusters. The functions do nothing, and their
-//! contracts are the laws.
+//! contracts are the laws. What is handed out is allocated in qemu and imago.
 
 ghost use Rattle.std.specs.Prelude.{◌≡◌, ◌⊎◌, ◌+◌, ◌<◌, ◌≤◌, ◌++◌, ◌∷◌, [], ℕ, Option, false, true};
 ghost use Rattle.imago_storage.specs.Disk.{Value};

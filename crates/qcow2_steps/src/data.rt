@@ -1,5 +1,6 @@
 //! What an image becomes where bytes are written into clusters in a row in which no table, block or header stands: data that words name,
 //! what is kept for zeroes, and clusters that were handed out. The functions do nothing, and their contracts are the laws.
+//! What is named is referenced in qemu and imago, and what is handed out allocated.
 
 ghost use Rattle.std.specs.Prelude.{◌≡◌, ◌⊎◌, ◌+◌, ◌*◌, ◌/◌, ◌%◌, ◌<◌, ℕ, Bool, Some};
 ghost use Rattle.imago_storage.specs.Disk.{byte};

@@ -1,4 +1,5 @@
-//! The laws of single steps of a qcow2 image that is written.
+//! The laws of single steps of a qcow2 image that is written. What is named is referenced in qemu and imago, and
+//! what is handed out allocated.
 #![tactic(auto)]
 
 pub mod advancing;

@@ -1,4 +1,5 @@
 //! What an image becomes where its header names a longer L1 table. The functions do nothing, and their contracts are the laws.
+//! In qemu the step is in `qcow2_grow_l1_table`.
 
 ghost use Rattle.std.specs.Prelude.{◌≡◌, ℕ};
 ghost use Rattle.qcow2_types.specs.Bytes.{Bytes};

@@ -1,5 +1,5 @@
 //! What an image becomes where a word of the L1 table comes to name a new L2 table. The functions do nothing, and their contracts are the
-//! laws.
+//! laws. In qemu the step is in `l2_allocate`, and the word an L1 entry, as in imago.
 
 ghost use Rattle.std.specs.Prelude.{◌≡◌, ◌≢◌, ◌*◌, ◌/◌, Bool, ℕ};
 ghost use Rattle.qcow2_types.specs.Entries.{entry, l2_table};

@@ -1,5 +1,6 @@
 //! What an image becomes where a word of a cached L2 table is set. The functions do nothing, and their contracts are the laws.
 //! Nothing is asked of the file: it stays, and each of its places shows what it did.
+//! In qemu the word is an L2 entry, and one that comes to name a cluster is linked.
 
 ghost use Rattle.std.specs.Prelude.{◌≡◌, ◌≢◌, ◌+◌, ◌/◌, ◌≤◌, ◌++◌, ◌∷◌, [], ℕ, false};
 ghost use Rattle.qcow2_types.specs.Entries.{entry};

@@ -1,4 +1,4 @@
-// Numbers of clusters.
+// Numbers of clusters: qemu's `nb_clusters`.
 
 ghost use Rattle.std.specs.Prelude.{◌≡◌, ℕ, ◌+◌, ◌-◌, ◌*◌, ◌/◌, ◌%◌, ◌^◌, ◌<◌, ◌≤◌, Some, SomeIff};
 ghost use Rattle.std.specs.Fmt.{decimal};

@@ -1,4 +1,4 @@
-// The feature bits of the header.
+// The feature bits of the header: in qemu `QCOW2_INCOMPAT_DIRTY` and those beside it.
 
 ghost use Rattle.std.specs.Prelude.{◌≡◌, ◌<◌, ◌↔◌, IfSome, IsNone};
 ghost use Rattle.qcow2_types.specs.Features.{kind_of, incompatible_bit, compatible_bit, autoclear_bit};

@@ -1,4 +1,4 @@
-// Places in the guest's disk, and where the tables map them.
+// Places in the guest's disk, which are guest offsets in qemu and imago, and where the tables map them.
 
 ghost use Rattle.std.specs.Prelude.{◌≡◌, ℕ, ◌+◌, ◌-◌, ◌*◌, ◌/◌, ◌%◌, ◌^◌, ◌<◌, ◌≤◌, ◌++◌, codes, Some, SomeIff, false};
 ghost use Rattle.std.specs.Fmt.{digits};

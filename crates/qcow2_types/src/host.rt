@@ -1,4 +1,4 @@
-// Places in the image file, and where clusters of it are counted.
+// Places in the image file, which are host offsets in qemu and imago, and where clusters of it are counted: their refcounts.
 
 ghost use Rattle.std.specs.Prelude.{◌≡◌, ℕ, ◌+◌, ◌-◌, ◌*◌, ◌/◌, ◌%◌, ◌^◌, ◌<◌, ◌≤◌, ◌++◌, codes, Some, SomeIff, false};
 ghost use Rattle.std.specs.Fmt.{digits};

@@ -1,4 +1,5 @@
 //! What the constants and the definitions say of every image. The functions do nothing, and their contracts are the laws.
+//! A word of a table is an entry of it in qemu and imago, and a counter a refcount.
 
 ghost use Rattle.std.specs.Prelude.{◌≡◌, ◌≤◌, ◌-◌, ◌^◌, ℕ, Bool, List, [], ◌∷◌, Result, Ok};
 ghost use Rattle.qcow2_types.specs.BlockBytes.{ArePackable, block_bytes, Packs};

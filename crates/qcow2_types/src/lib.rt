@@ -1,4 +1,6 @@
 //! The qcow2 format: its constants, its meaning as definitions over the bytes of a file, and the small values of its metadata.
+//!
+//! In qemu and imago a word of a table is its entry, a counter a refcount, a place an offset, and a cluster that is named is referenced.
 #![tactic(auto)]
 
 pub mod bits;

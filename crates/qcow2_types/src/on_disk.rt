@@ -1,4 +1,4 @@
-// The parts of the header that have a fixed size, as structs and as bytes.
+// The parts of the header that have a fixed size, as structs and as bytes. In qemu they are one struct, `QCowHeader`.
 
 ghost use Rattle.std.specs.Prelude.{◌≡◌, ◌+◌, ◌≤◌, ◌++◌, ℕ, List, length, take};
 ghost use Rattle.std.specs.Int.{w32, w64, to_be_bytes};

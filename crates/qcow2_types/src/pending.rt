@@ -1,4 +1,5 @@
-// Clusters that are handed over, as values that nothing lets go by accident.
+// Clusters that are handed over, as values that nothing lets go by accident. What is
+// pending is in qemu an allocation that no table names yet.
 
 ghost use Rattle.std.specs.Prelude.{◌≡◌, true, false};
 ghost use Rattle.qcow2_types.specs.Pending.{FreeEntry};

@@ -1,5 +1,5 @@
 //! What one write into a consistent image leaves. The functions do nothing, and their contracts are the laws: f is the file
-//! before the write, and the image stays consistent under the same header.
+//! before the write, and the image stays consistent under the same header. What is named is referenced in qemu and imago.
 
 ghost use Rattle.std.specs.Prelude.{◌≡◌, ◌≢◌, ◌≤◌, ◌<◌, ◌+◌, ◌*◌, ◌/◌, ◌%◌, ◌^◌, ℕ, List, [], ◌∷◌, length, true, map, IsTrue, IsFalse, Some, Ok};
 ghost use Rattle.std.specs.Int.{w64, to_be_bytes};

@@ -1,5 +1,6 @@
 //! Two versions of an image: f, the file's, and g, that of the words in memory, which are to be written over it. The functions do
 //! nothing, and their contracts are the laws. They say nothing of how the words in memory are kept: only what each of them means.
+//! In qemu and imago these are the entries and refcounts of the caches, where dirty ones differ from the file's.
 
 ghost use Rattle.std.specs.Prelude.{◌≡◌, ◌≤◌, ◌+◌, ◌⊎◌, ℕ};
 ghost use Rattle.imago_storage.specs.Disk.{Value};

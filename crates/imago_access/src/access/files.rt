@@ -1,4 +1,4 @@
-// The files of a chain's layers, as they stand.
+// The files of a chain's layers, as they stand: protocol nodes, in qemu.
 ghost use Rattle.std.specs.Prelude.{◌≡◌, ◌≤◌, ◌∷◌, length, OnOk, IfErr, IsOk, IsErrOf};
 ghost use Rattle.imago_access.specs.Layers.{chain, layers};
 ghost use Rattle.imago_access.specs.Files.{AreRead, OverflowsIn, Pairs, WasNotCutOff, files_of};

@@ -1,4 +1,4 @@
-// Lookups, from the top layer downward.
+// Lookups, from the top layer downward: `bdrv_block_status` in qemu.
 ghost use Rattle.std.specs.Prelude.{◌≡◌, ◌∷◌, length, IsOk, IfOk, IfErr, IsErrOf, Some, None};
 ghost use Rattle.imago_storage.specs.declared.fault.Fault.{Fault};
 ghost use Rattle.imago_access.specs.Layers.{chain, layers};

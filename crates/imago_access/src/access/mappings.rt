@@ -1,4 +1,5 @@
-// Mappings that a caller prepares, writes to, and commits or cancels.
+// Mappings that a caller prepares, writes to, and commits or cancels. In qemu one is a
+// `QCowL2Meta`, and its commit the linking of L2 entries.
 ghost use Rattle.std.specs.Prelude.{◌≡◌, ◌<◌, ◌+◌, ◌^◌, length, IsOk, IfOk, IfErr, OnOk, IsErr, IsErrOf, IsSome, Some, None};
 ghost use Rattle.imago_storage.specs.Steps.{prepare, write_mapped};
 ghost use Rattle.imago_storage.specs.declared.fault.Fault.{Fault};

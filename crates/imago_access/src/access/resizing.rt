@@ -1,4 +1,4 @@
-// Changes of the size of a disk.
+// Changes of the size of a disk: `bdrv_truncate` in qemu.
 ghost use Rattle.std.specs.Prelude.{◌≡◌, ◌⊎◌, ◌≢◌, ◌<◌, ◌≤◌, IfErr, OnOk};
 ghost use Rattle.imago_storage.specs.Steps.{grow, shrink};
 ghost use Rattle.imago_access.specs.Layer.{IsFree};

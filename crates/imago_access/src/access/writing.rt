@@ -1,4 +1,4 @@
-// Writes, through mappings that are prepared and committed run by run.
+// Writes, through mappings that are prepared and committed run by run: in qemu such a mapping is a `QCowL2Meta`.
 ghost use Rattle.std.specs.Prelude.{⊤, ◌≡◌, ◌<◌, ◌≤◌, ◌+◌, List, length, IsOk, IfOk, IfErr, OnOk, IsErrOf, Some, None};
 ghost use Rattle.imago_storage.specs.State.{StorageState};
 ghost use Rattle.imago_storage.specs.Steps.{Call, write};

@@ -1,4 +1,4 @@
-// A VMDK image as a driver.
+// A VMDK image as a driver, which is a `BlockDriver` in qemu.
 ghost use Rattle.std.specs.Prelude.{IsErrOf, slice_index_or, ◌<◌, ◌≤◌, ℕ, ◌≡◌, ◌⊎◌, ◌∷◌, ◌-◌, ◌+◌, ◌*◌, ◌<◌, [], ⊤, min, map, refl, length, OnOk, IfOk, IfErr, IsOk, IsTrue, Ok, Err, Some, None};
 ghost use Rattle.std.proofs.Common.{inr};
 ghost use Rattle.std.proofs.Math.Nat.{le_refl};

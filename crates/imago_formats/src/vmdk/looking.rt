@@ -1,4 +1,4 @@
-// What lookups answer.
+// What lookups answer: `bdrv_block_status` in qemu, and `get_mapping` in imago.
 ghost use Rattle.std.specs.Prelude.{◌≡◌};
 ghost use Rattle.imago_formats.specs.VmdkLayer.{mapping_of};
 

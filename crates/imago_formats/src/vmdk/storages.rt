@@ -1,4 +1,5 @@
-// The storages of an image: the file of its descriptor, and those that its extents ask for.
+// The storages of an image: the file of its descriptor, and those that its extents ask for. A storage is
+// a protocol node in qemu.
 ghost use Rattle.std.specs.Prelude.{IsErrOf, ◌≡◌, ◌<◌, ◌∷◌, map, length, OnOk, IfErr, IsOk};
 ghost use Rattle.imago_storage.specs.Calls.{Cause, IsFaultless};
 ghost use Rattle.imago_formats.specs.VmdkFiles.{IsStopped, states};

@@ -1,4 +1,4 @@
-// Where the tables of an image stand, as its header says.
+// Where the tables of an image stand, as its header says. A place is an offset in qemu and imago.
 ghost use Rattle.std.specs.Prelude.{◌≡◌, ◌+◌, ◌-◌, ◌*◌, ◌/◌, ◌%◌, ◌^◌, length, None};
 ghost use Rattle.qcow2_types.specs.Header.{first_fault, refcount_table_entries, rules_of_size};
 ghost use Rattle.qcow2_types.specs.HeaderSwitch.{FirstFieldsFit};

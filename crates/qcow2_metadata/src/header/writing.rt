@@ -1,4 +1,4 @@
-// Writing a header.
+// Writing a header: `qcow2_update_header` in qemu.
 ghost use Rattle.std.specs.Prelude.{◌≡◌, ◌+◌, ◌≤◌, ◌++◌, length, drop, replicate, Some, None, OnOk, OnErr, IfOk, IfErr, IsTrue, IsFalse, if◌then◌else◌};
 ghost use Rattle.std.specs.Result.{result_err};
 ghost use Rattle.imago_storage.specs.State.{unit_of};
