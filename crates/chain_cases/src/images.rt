@@ -93,8 +93,12 @@ pub fn open_vmdk<S: Storage + Drop, F: ImplicitOpenGate<S>>(
     Ok(Vmdk::builder(storage).write(is_writing).open(alloc, files)?)
 }
 
-// The file of a name, which stands first, and the words behind it.
-fn opened<'x, 'y, S, F: NamedStorages<S>>(
+/// The file of a name, which stands first, and the words behind it.
+///
+/// # Errors
+///
+/// `Trouble::NoCall` where there is no such file; `Trouble::Refused` for want of memory.
+pub fn opened<'x, 'y, S, F: NamedStorages<S>>(
     files: &mut F,
     words: &'y [&'x str],
 ) -> Result<Split<'x, 'y, S>, Trouble> {
@@ -134,7 +138,7 @@ pub fn qcow2<S: Storage + Drop, F: NamedStorages<S> + ImplicitOpenGate<S>>(
     }
 }
 
-/// Opens a file of the case as a VMDK descriptor: `NAME`, and the words of `open_vmdk`.
+/// Opens a file of the case as a VMDK descriptor: `NAME`, and the words of `open_vmdk`, or `plain`, by which no extent's file is opened.
 ///
 /// # Errors
 ///
@@ -145,7 +149,10 @@ pub fn vmdk<S: Storage + Drop, F: NamedStorages<S> + ImplicitOpenGate<S>>(
     words: &[&str],
 ) -> Result<Vmdk<S>, Trouble> {
     let (storage, rest) = opened(files, words)?;
-    open_vmdk(alloc, storage, files, rest)
+    match rest {
+        ["plain"] => Ok(Vmdk::open_image(alloc, storage)?),
+        _ => open_vmdk(alloc, storage, files, rest),
+    }
 }
 
 /// Whether a file of the case begins as an image of a format does.

@@ -1,7 +1,7 @@
 // The layers of a disk, by words.
 use crate::files::NamedStorages;
 use crate::images::{qcow2, raw, vmdk};
-use access_calls::stacked;
+use access_calls::{stacked, top};
 use cases::{Trouble, joined};
 use imago_access::{FormatAccess, FormatDriverInstance, ImplicitOpenGate};
 use imago_storage::{FuseStorage, Storage};
@@ -43,6 +43,22 @@ pub fn add<S: Storage + Drop>(
     match below {
         None => Ok(FormatAccess::new(driver)),
         Some(below) => over(alloc, driver, below),
+    }
+}
+
+/// Opens the files that a descriptor on top asks for, but for those that are open.
+///
+/// # Errors
+///
+/// `Trouble::NoCall` where the top is no descriptor; `Trouble::Refused` as the call.
+pub fn open_extents<S: Storage, F: ImplicitOpenGate<S>>(
+    alloc: Global,
+    disk: &mut FormatAccess<ImageDriver<S>>,
+    files: &mut F,
+) -> Result<(), Trouble> {
+    match top(disk)? {
+        ImageDriver::Vmdk(vmdk) => Ok(vmdk.open_implicit_dependencies_gated(alloc, files)?),
+        ImageDriver::Raw(_) | ImageDriver::Qcow2(_) => Err(Trouble::NoCall),
     }
 }
 

@@ -17,7 +17,8 @@
 //! - `layer qcow2 NAME [writing] [backed | alone] [caches L R]`: a file as a qcow2 image, by its builder. Layers are below it, or none, by
 //!   what is said; its caches have room for so many L2 tables and refcount blocks.
 //! - `layer qcow2 NAME plain [writing]`: the same without a builder, by `open_image`.
-//! - `layer vmdk NAME [writing]`: a descriptor, whose extents are files of the case.
+//! - `layer vmdk NAME [writing]`: a descriptor, whose extents are files of the case. `layer vmdk NAME plain` opens none of these, and
+//!   `open_extents` those that aren't open yet of a descriptor on top.
 //! - `close` lets go of the disk.
 //! - `chain [writing] [number N] [LAYER [over LAYER] ..]`: files that are opened as a chain all at once, the top first, in the place of the
 //!   disk. A LAYER is `FORMAT FILE [with NAME FILE] ..`, where further files are handed in by the names that they have there.
@@ -33,6 +34,19 @@
 //!   its file, and the names and lengths of the further ones, with `/` behind each. `snapshot LAYER FILE OFFSET N` tells bytes of a copy.
 //! - `flatten SIZE [OFFSET N]`: the disk is copied into a new raw one of so many bytes in memory. It tells all of these, or a range.
 //! - `if_open CALL`: the call where a disk is open, and else `closed`.
+//!
+//! # Drivers
+//!
+//! - `image`: how long the image file is that the top's driver lends; `image OFFSET N` and `write_image OFFSET BYTES` read and change it.
+//!   `extra INDEX OFFSET N` and `write_extra INDEX OFFSET BYTES` do so with the file of an extent, and `extra_name INDEX` tells the name of
+//!   a further file, in quotes.
+//! - `into_image OFFSET N`: these bytes of the image file that the top's driver gives back; the disk is gone.
+//! - Of a qcow2 image on top: `names` that its header gives, each in quotes or `none`: whether its data is in an external file, the name of
+//!   that, of the backing file, and of its format; `failed`; `backing`, and `set_backing true | false`; `debug`.
+//! - `builder FORMAT NAME [writing] [options FILE]`: what a builder for a file says of its format and of what it was told (`without`
+//!   options, or the name in them), and the size of the disk that it opens.
+//! - `spend raw | vmdk NAME commit | cancel STORAGE OFFSET N`: a mapping without state is committed to a file as such an image, by its own
+//!   driver, or given up; what comes back stands behind a refusal. A descriptor's extents aren't opened.
 //!
 //! # Stops
 //!
@@ -62,15 +76,18 @@
 #![tactic(auto)]
 
 mod arguments;
+mod builders;
 mod chains;
 mod copies;
 mod files;
 mod images;
 mod layers;
+mod lending;
 mod logs;
 mod opened;
 mod openings;
 mod prefixes;
+mod qcow2_calls;
 mod scripts;
 mod stops;
 mod streams;

@@ -1,9 +1,12 @@
 // A disk over the files of a case, a prepared mapping beside it, and their calls.
+use crate::builders::{by_builder, spend};
 use crate::copies::{copied, flattened};
 use crate::files::NamedStorages;
-use crate::layers::{add, image_of};
+use crate::layers::{add, image_of, open_extents};
+use crate::lending::{given_back, lent};
 use crate::openings;
-use access_calls::{called, cancel, commit, prepare, prepared, run_of};
+use crate::qcow2_calls::said;
+use access_calls::{called, cancel, commit, done, prepare, prepared, run_of};
 use cases::{Trouble, number, ok, size};
 use imago_access::{FormatAccess, FormatDriverInstance, ImplicitOpenGate, PreparedDataMapping};
 use imago_storage::Storage;
@@ -190,6 +193,14 @@ impl<S: Storage + Drop> Opened<S> {
         self.told_mapping(alloc)
     }
 
+    // Bytes of the image file that the top driver gives back. The disk is gone then.
+    fn into_image(&mut self, alloc: Global, offset: u64, n: u64) -> Result<String, Trouble> {
+        match self.disk.take() {
+            Some(disk) => given_back(alloc, disk, offset, n),
+            None => Err(Trouble::NoCall),
+        }
+    }
+
     // The mapping of a case, or a call of its disk.
     fn called(&mut self, alloc: Global, words: &[&str]) -> Result<String, Trouble> {
         match words {
@@ -201,6 +212,14 @@ impl<S: Storage + Drop> Opened<S> {
             ["mapping", storage, offset, n] => self.make_mapping(alloc, [*storage, *offset, *n]),
             ["snapshot", rest @ ..] => copied(alloc, self.open()?, rest),
             ["flatten", rest @ ..] => flattened(alloc, self.open()?, rest),
+            ["into_image", offset, n] => self.into_image(alloc, number(offset)?, number(n)?),
+            [
+                "image" | "write_image" | "extra" | "write_extra" | "extra_name",
+                ..
+            ] => { lent(alloc, self.open()?, words) }
+            ["names" | "failed" | "backing" | "set_backing" | "debug", ..] => {
+                said(alloc, self.open()?, words)
+            }
             _ => called(alloc, self.open()?, words),
         }
     }
@@ -223,6 +242,9 @@ impl<S: Storage + Drop> Opened<S> {
                 put(&mut self.disk, None);
                 Ok(ok(alloc)?)
             }
+            ["open_extents"] => done(alloc, open_extents(alloc, self.open()?, files)),
+            ["builder", rest @ ..] => by_builder(alloc, files, rest),
+            ["spend", rest @ ..] => spend(alloc, files, rest),
             ["if_open", ..] if self.disk.is_none() => Ok("closed".to_string(alloc)?),
             ["if_open", rest @ ..] => self.called(alloc, rest),
             _ => self.called(alloc, words),
