@@ -7,9 +7,8 @@ use Rattle.qcow2_types.specs.Header.{Fields, cluster_size, words_of_cluster}
 use Rattle.qcow2_types.specs.Words.{block_offset}
 use Rattle.qcow2_types.specs.Counts.{counters_of_block}
 use Rattle.qcow2_types.specs.Pending.{FreeEntry}
-use Rattle.qcow2_metadata.specs.Growth.{IsEnough, IsGrownLength}
+use Rattle.qcow2_metadata.specs.Tables.{IsEnough, IsGrownLength, TableValue}
 use Rattle.qcow2_metadata.specs.Places.{IsInReach}
-use Rattle.qcow2_metadata.specs.Tables.{TableValue}
 use Rattle.qcow2_alloc.specs.Allocating.{Allocating, allocating_causes}
 use Rattle.qcow2_alloc.specs.Causes.{FailsFor}
 use Rattle.qcow2_alloc.specs.FreeList.{covers}

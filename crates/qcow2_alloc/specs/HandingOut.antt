@@ -8,7 +8,7 @@ use Rattle.qcow2_types.specs.Header.{words_of_cluster}
 use Rattle.qcow2_types.specs.Counts.{counters_of_block}
 use Rattle.qcow2_types.specs.Pending.{FreeEntry}
 use Rattle.qcow2_types.specs.References.{structure, meets}
-use Rattle.qcow2_metadata.specs.Growth.{IsGrownLength}
+use Rattle.qcow2_metadata.specs.Tables.{IsGrownLength}
 use Rattle.qcow2_metadata.specs.Places.{IsInReach}
 use Rattle.qcow2_alloc.specs.declared.cache.CacheDependency.TheVariants.{L2DependsOnRb}
 use Rattle.qcow2_alloc.specs.declared.cache.MetadataCaches.{MetadataCaches}

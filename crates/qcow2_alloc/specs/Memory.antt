@@ -1,11 +1,9 @@
 -- The metadata of an image in memory: cached tables and blocks, and the file with those that are not yet written put in their place.
 use Rattle.std.specs.Prelude.{ℕ, ◌*◌, ◌++◌, List, map, Option, Some, None, false, if◌then◌else◌}
 use Rattle.std.specs.List.{filter_map}
-use Rattle.qcow2_types.specs.Bytes.{Bytes}
+use Rattle.qcow2_types.specs.Bytes.{Bytes, Patch, over}
 use Rattle.qcow2_types.specs.Header.{Fields, cluster_size}
-use Rattle.qcow2_types.specs.TableBytes.{table_bytes}
-use Rattle.qcow2_types.specs.BlockBytes.{block_bytes}
-use Rattle.qcow2_types.specs.Over.{Patch, over}
+use Rattle.qcow2_types.specs.TableBytes.{table_bytes, block_bytes}
 use Rattle.qcow2_metadata.specs.Tables.{TableValue}
 use Rattle.qcow2_metadata.specs.Blocks.{Block}
 use Rattle.qcow2_alloc.specs.declared.async_lru_cache.Slot.{Slot}

@@ -14,9 +14,8 @@ use Rattle.qcow2_types.specs.Pending.{FreeEntry}
 use Rattle.qcow2_types.specs.Switched.{with_refcount_table}
 use Rattle.qcow2_types.specs.TableBytes.{AreFit, table_bytes}
 use Rattle.qcow2_types.specs.Words.{block_offset, block_word_sound}
-use Rattle.qcow2_metadata.specs.Growth.{IsEnough, IsGrownLength}
+use Rattle.qcow2_metadata.specs.Tables.{IsEnough, IsGrownLength, TableValue, IsPlacedTable, padded, table_place}
 use Rattle.qcow2_metadata.specs.Places.{IsInReach}
-use Rattle.qcow2_metadata.specs.Tables.{TableValue, IsPlacedTable, padded, table_place}
 use Rattle.qcow2_alloc.specs.declared.allocation.searching.Run.{Run}
 use Rattle.qcow2_alloc.specs.declared.cache.CacheDependency.TheVariants.{L2DependsOnRb}
 use Rattle.qcow2_alloc.specs.declared.cache.MetadataCaches.{MetadataCaches}

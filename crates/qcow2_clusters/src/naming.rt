@@ -1,6 +1,6 @@
 // Guest clusters in a row come to name clusters in a row that were reserved, or that they kept for their zeroes.
 ghost use Rattle.std.specs.Prelude.{◌≡◌, ◌≤◌, ◌<◌, ◌+◌, ◌-◌, ◌%◌, ◌^◌, length, OnOk, IfErr};
-ghost use Rattle.qcow2_types.specs.Places.{l2_entries};
+ghost use Rattle.qcow2_types.specs.Entries.{l2_entries};
 ghost use Rattle.qcow2_metadata.specs.Places.{IsInReach};
 ghost use Rattle.qcow2_alloc.specs.Allocators.{UsesTable};
 ghost use Rattle.qcow2_alloc.specs.Caches.{cached_file};

@@ -7,10 +7,9 @@ use Rattle.imago_storage.specs.State.{StorageState}
 use Rattle.imago_storage.specs.declared.storage.Storage.{Ghosts}
 use Rattle.imago_access.specs.Files.{IsKept}
 use Rattle.imago_access.specs.Stops.{IsMeant}
-use Rattle.qcow2_types.specs.Bytes.{Bytes, bytes_of}
+use Rattle.qcow2_types.specs.Bytes.{Bytes, bytes_of, over}
 use Rattle.qcow2_types.specs.Header.{Fields, Header, header_of, has_external_data}
 use Rattle.qcow2_types.specs.Consistency.{Consistent, IsConsistent, leaks}
-use Rattle.qcow2_types.specs.Over.{over}
 use Rattle.qcow2_types.specs.Pending.{FreeEntry}
 use Rattle.qcow2_alloc.specs.Caches.{cached_in, order_of}
 use Rattle.qcow2_alloc.specs.Memory.{Cached, memory}

@@ -5,7 +5,7 @@ use Rattle.std.proofs.lemmas.Nat.{div-add-mod', mod_below, pow_pos}
 use Rattle.std.proofs.Math.Arith.{mod-mul}
 use Rattle.std.proofs.Math.Nat.{div-lt_iff_lt-mul, lt-div-mul-add, div-mul-le_self, mul-le-mul, mul-le-mul_right, pow-le-pow_right, mul-add-div_right, mul-add-mod_self_right}
 use Rattle.qcow2_types.specs.Header.{Fields, Shaped}
-use Rattle.qcow2_types.specs.Places.{l2_entries}
+use Rattle.qcow2_types.specs.Entries.{l2_entries}
 
 -- The widths of a header.
 pub low-bits : (b : ℕ) (h : Fields) → b ≡ h.cluster_bits → Shaped h → 9 ≤ b

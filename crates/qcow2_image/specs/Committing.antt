@@ -4,7 +4,7 @@ use Rattle.imago_storage.specs.Calls.{IsFaultless, Later}
 use Rattle.imago_storage.specs.declared.fault.Fault.{Fault}
 use Rattle.imago_storage.specs.declared.storage.Storage.{Ghosts}
 use Rattle.imago_access.specs.declared.mapping.PreparedDataMapping.{PreparedDataMapping}
-use Rattle.qcow2_types.specs.Places.{l2_entries}
+use Rattle.qcow2_types.specs.Entries.{l2_entries}
 use Rattle.qcow2_metadata.specs.Places.{IsInReach}
 use Rattle.qcow2_alloc.specs.declared.cache.MetadataCaches.{MetadataCaches}
 use Rattle.qcow2_alloc.specs.Causes.{HasCause}

@@ -4,9 +4,8 @@ use Rattle.imago_storage.specs.Calls.{Kept, Later, IsFaultless}
 use Rattle.imago_storage.specs.declared.fault.Fault.{Fault}
 use Rattle.imago_storage.specs.declared.fault.Fault.TheVariants.{DamagedTable}
 use Rattle.imago_access.specs.Files.{WasNotCutOff}
-use Rattle.qcow2_types.specs.Entries.{entry}
+use Rattle.qcow2_types.specs.Entries.{entry, l2_entries}
 use Rattle.qcow2_types.specs.Header.{Fields, cluster_size, words_of_cluster}
-use Rattle.qcow2_types.specs.Places.{l2_entries}
 use Rattle.qcow2_types.specs.Words.{Mapping, data_at, zeroes, packed, damaged, table_offset}
 use Rattle.qcow2_types.specs.Words as words
 use Rattle.qcow2_metadata.specs.Tables.{TableValue, IsTable, l2_words, mapping_in}

@@ -4,7 +4,7 @@ ghost use Rattle.qcow2_types.specs.Header.{cluster_size};
 ghost use Rattle.qcow2_image.specs.Allocating.{Begins, EnsuresTable, EnsuresWord, FillsContent, FlushesFreed, FreesPending, IsShownInReach, LoadsSpace, PlacesContent, StoresContent, StoresMost, TellsKept, TellsShown, failed_cut, full_by, kept_by, placed_by, shown_of, waits_in};
 ghost use Rattle.qcow2_image.specs.FreeSpace.{enough_for_one, enough_for_table};
 ghost use Rattle.qcow2_metadata.specs.Places.{IsInReach};
-ghost use Rattle.qcow2_types.specs.Places.{l2_entries};
+ghost use Rattle.qcow2_types.specs.Entries.{l2_entries};
 ghost use Rattle.qcow2_metadata.specs.MappingView.{IsNamed, mapping_seen};
 ghost use Rattle.qcow2_clusters.specs.MakingTables.{CopiesTable, MakesTable};
 ghost use Rattle.qcow2_clusters.specs.Rest.{AreEmpty, HasEntries, lent};

@@ -1,6 +1,6 @@
 // Prepared mappings are committed or given up.
 ghost use Rattle.std.specs.Prelude.{◌≡◌, ◌≤◌, ◌-◌, ◌↔◌, IsTrue};
-ghost use Rattle.qcow2_types.specs.Places.{l2_entries};
+ghost use Rattle.qcow2_types.specs.Entries.{l2_entries};
 ghost use Rattle.qcow2_image.specs.Committing.{CancelsUnspent, CommitsUnspent, GivesBack, IsNamable, NamesHost, TakesUnspent, held_behind};
 
 use crate::mappings::Reserved;

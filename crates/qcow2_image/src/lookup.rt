@@ -1,6 +1,6 @@
 // Where the bytes of guest clusters are: through the L1 table and the cached L2 tables.
 ghost use Rattle.std.specs.Prelude.{◌≡◌, ◌+◌, ◌*◌, ◌%◌, ◌^◌, ◌<◌, ◌≤◌};
-ghost use Rattle.qcow2_types.specs.Places.{l2_entries};
+ghost use Rattle.qcow2_types.specs.Entries.{l2_entries};
 ghost use Rattle.qcow2_metadata.specs.Tables.{mapping_in};
 ghost use Rattle.qcow2_metadata.specs.MappingView.{IsNamed};
 ghost use Rattle.qcow2_alloc.specs.Allocators.{UsesTable};

@@ -4,7 +4,7 @@ use Rattle.std.proofs.Math.Nat.{div-mul-le_self, mul-div_cancel, mul-mod_left, p
 use Rattle.std.proofs.lemmas.Nat.{div-add-mod', mod_below, div_below, mul-le}
 use Rattle.std.proofs.lemmas.Bool.{cases_eq}
 use Rattle.qcow2_types.specs.Header.{Fields, Shaped, words_of_cluster}
-use Rattle.qcow2_metadata.specs.Growth.{IsEnough, IsGrownLength}
+use Rattle.qcow2_metadata.specs.Tables.{IsEnough, IsGrownLength}
 
 -- so many words as a cluster has
 pub cluster_words_bounds : (h : Fields) → Shaped h → (64 ≤ words_of_cluster h) × (words_of_cluster h ≤ 2 ^ 18)

@@ -3,9 +3,8 @@ use Rattle.std.proofs.Common.{◌≡◌, refl, ℕ, ◌+◌, ◌-◌, ◌*◌, �
 use Rattle.std.specs.Prelude.{Bool, true, false, not, ◌&&◌, ◌||◌, ◌==◌, nat_le, if◌then◌else◌, IsTrue, Option, Some, None, replicate}
 use Rattle.std.proofs.lemmas.Nat.{div-mul-add, mod-pow-add, mod_below, pow_pos}
 use Rattle.std.proofs.Math.Pow.{mod-mod-pow}
-use Rattle.qcow2_types.specs.Words.{Layout, unmapped, data_at, zeroes, packed, damaged, mapping_of, is_damaged, is_copied, is_place, has_bit, max_offset, table_offset, standard_word_sound, names_cluster, packed_place}
+use Rattle.qcow2_types.specs.Words.{Layout, unmapped, data_at, zeroes, packed, damaged, mapping_of, is_damaged, is_copied, is_place, has_bit, max_offset, table_offset, standard_word_sound, names_cluster, packed_place, unmarked_mapping}
 use Rattle.qcow2_metadata.specs.Places.{IsInReach}
-use Rattle.qcow2_types.specs.Unmarked.{unmarked_mapping}
 use Rattle.qcow2_metadata.specs.Tables.{l2_words, word_sound, AreSound, zero_word, shared_word, without_mark}
 use Rattle.qcow2_types.specs.TableBytes.{AreFit}
 use Rattle.qcow2_metadata.specs.Allocations.{IsKeptInReach, zeroed_word}

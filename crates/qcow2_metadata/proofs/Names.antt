@@ -12,7 +12,7 @@ use Rattle.qcow2_metadata.specs.declared.features.FeatureName.{FeatureName}
 use Rattle.qcow2_types.specs.declared.features.FeatureType.{FeatureType}
 use Rattle.qcow2_types.specs.declared.features.FeatureType.TheVariants.{Incompatible, Compatible, Autoclear}
 use Rattle.qcow2_types.specs.Features.{kind_of}
-use Rattle.qcow2_metadata.specs.Kinds.{seen_name}
+use Rattle.qcow2_metadata.specs.Features.{seen_name}
 use Rattle.qcow2_metadata.proofs.Places.{place-or-end}
 
 module _ (x d : FeatureName) where

@@ -7,7 +7,7 @@ use Rattle.std.proofs.lemmas.Nat.{div-mul-add, pow_pos, pow-add}
 use Rattle.std.proofs.lemmas.List.{get_or-drop, length-drop, same_lists, get_or-replicate, length-replicate}
 use Rattle.std.proofs.lemmas.List.FromFn.{length-map-range_with_len, get_or-map-range_with_len}
 use Rattle.std.proofs.lemmas.Int.Digits.{number_push}
-use Rattle.qcow2_types.specs.BlockBytes.{Packs}
+use Rattle.qcow2_types.specs.TableBytes.{Packs}
 use Rattle.qcow2_types.specs.Bytes.{Bytes, bytes_of, be}
 use Rattle.qcow2_types.specs.Header.{Fields, Shaped, cluster_size}
 use Rattle.qcow2_types.specs.Counts.{counter_of, wide_counter, narrow_counter, counters_of_block}

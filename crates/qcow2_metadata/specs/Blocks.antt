@@ -6,7 +6,7 @@ use Rattle.imago_storage.specs.Through.{PutAtOnce}
 use Rattle.imago_storage.specs.declared.fault.Fault.{Fault}
 use Rattle.qcow2_types.specs.Bytes.{Bytes}
 use Rattle.qcow2_types.specs.Header.{Fields, cluster_size}
-use Rattle.qcow2_types.specs.BlockBytes.{Packs}
+use Rattle.qcow2_types.specs.TableBytes.{Packs}
 use Rattle.qcow2_types.specs.Counts.{counter, counters_of_block}
 
 -- what contracts see of a block

@@ -5,8 +5,7 @@ use Rattle.std.specs.String.{string_bytes}
 use Rattle.std.specs.declared.alloc.Global.{Global}
 use Rattle.qcow2_types.specs.Header.{Header as HeaderRecord}
 use Rattle.qcow2_metadata.specs.FieldsView.{seen_fields, IsHeader}
-use Rattle.qcow2_metadata.specs.Kinds.{seen_name}
-use Rattle.qcow2_metadata.specs.Features.{in_order}
+use Rattle.qcow2_metadata.specs.Features.{seen_name, in_order}
 use Rattle.qcow2_metadata.specs.declared.header.Header.TheInside.{Inside}
 
 -- the bytes of a text, where there is one

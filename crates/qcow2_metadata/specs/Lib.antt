@@ -1,4 +1,3 @@
-pub mod Kinds
 pub mod Parts
 pub mod FieldsView
 pub mod HeaderView
@@ -15,7 +14,5 @@ pub mod Reloading
 pub mod Tables
 pub mod LayoutView
 pub mod MappingView
-pub mod Growth
 pub mod Allocations
 pub mod TableView
-pub mod StoredView

@@ -1,5 +1,5 @@
 -- Tables of 64-bit words: the L1 table, L2 tables and the refcount table.
-use Rattle.std.specs.Prelude.{◌≡◌, ⊤, ℕ, ◌+◌, ◌-◌, ◌*◌, ◌%◌, ◌^◌, ◌<◌, ◌≤◌, Bool, false, not, ◌&&◌, ◌||◌, ◌==◌, if◌then◌else◌, List, length, map, slice_index, slice_set, ◌++◌, replicate, max, true, IsTrue, Option, Some, None}
+use Rattle.std.specs.Prelude.{◌≡◌, ⊤, ℕ, ◌+◌, ◌-◌, ◌*◌, ◌%◌, ◌^◌, ◌<◌, ◌≤◌, Bool, false, not, ◌&&◌, ◌||◌, ◌==◌, if◌then◌else◌, List, length, map, slice_index, slice_set, ◌++◌, replicate, max, true, IsTrue, Option, Some, None, ◌/◌}
 use Rattle.std.specs.List.{range_with_len}
 use Rattle.qcow2_types.specs.Bytes.{Bytes, word}
 use Rattle.qcow2_types.specs.TableBytes.{AreFit}
@@ -152,3 +152,15 @@ with_word table i w = record table { words = slice_set table.words i w; modified
 pub record IsNamable (cluster_bits : ℕ) (cluster : Option ℕ) : Type 0 where
   pub placed : IsPlaced cluster_bits cluster
   pub some : 0 < place_of cluster_bits cluster
+
+-- A refcount table that has grown to n words fills its clusters, each of which has so many words, and reaches past an index. The blocks
+-- of its words from there on, each of which has so many counters, have room to count them all and the table's clusters.
+pub record IsEnough (words counters at n : ℕ) : Type 0 where
+  pub whole : n % words ≡ 0
+  pub above : at < n
+  pub room : n / words ≤ (n - at) * (counters - 1)
+
+-- the least such length
+pub record IsGrownLength (words counters at n : ℕ) : Type 0 where
+  pub enough : IsEnough words counters at n
+  pub least : (m : ℕ) → IsEnough words counters at m → n ≤ m

@@ -2,7 +2,7 @@
 ghost use Rattle.std.specs.Prelude.{◌≡◌, ◌≤◌, ◌++◌, map, replicate, flat_map, OnOk, IfOk};
 ghost use Rattle.std.specs.Option.{option_copied};
 ghost use Rattle.qcow2_types.specs.HeaderBytes.{extension_bytes, extension_of, feature_bytes, names_data};
-ghost use Rattle.qcow2_metadata.specs.Kinds.{seen_name};
+ghost use Rattle.qcow2_metadata.specs.Features.{seen_name};
 
 use crate::extensions::FEATURE_NAMES;
 use crate::features::FeatureName;

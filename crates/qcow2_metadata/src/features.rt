@@ -4,8 +4,7 @@ ghost use Rattle.std.specs.List.{position};
 ghost use Rattle.std.specs.Option.{option_copied, option_map, option_to_list};
 ghost use Rattle.qcow2_types.specs.Header.{comes_before as is_before, with_name, feature_in, features_read};
 ghost use Rattle.qcow2_types.specs.Features.{kind_of};
-ghost use Rattle.qcow2_metadata.specs.Kinds.{seen_name};
-ghost use Rattle.qcow2_metadata.specs.Features.{name_of, in_order};
+ghost use Rattle.qcow2_metadata.specs.Features.{seen_name, name_of, in_order};
 
 use qcow2_types::FeatureType;
 use std::alloc::{AllocError, Global};
@@ -23,7 +22,7 @@ pub(crate) struct FeatureName {
 const ENTRY_LENGTH: usize = 48;
 
 impl FeatureName {
-    ghost use Rattle.qcow2_metadata.specs.Kinds.{seen_name};
+    ghost use Rattle.qcow2_metadata.specs.Features.{seen_name};
 
     // Whether it stands before the other: by kind, and in a kind by bit.
     fn comes_before(&self, other: &FeatureName) -> bool

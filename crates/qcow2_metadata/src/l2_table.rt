@@ -2,7 +2,7 @@
 ghost use Rattle.std.specs.Prelude.{◌≡◌, ℕ, ◌+◌, ◌*◌, ◌%◌, ◌^◌, ◌<◌, ◌≤◌, ◌↔◌, ◌⊎◌, IsTrue, IsOk, OnOk, OnErr, IfOk, IsOkUnless, MatchOption, length, map, replicate, refl, Some, None, true, false};
 ghost use Rattle.std.specs.Option.{is_some};
 ghost use Rattle.qcow2_types.specs.Header.{layout_of, words_of_cluster};
-ghost use Rattle.qcow2_types.specs.Places.{l2_entries};
+ghost use Rattle.qcow2_types.specs.Entries.{l2_entries};
 ghost use Rattle.qcow2_types.specs.Words.{mapping_of};
 ghost use Rattle.imago_storage.specs.Through.{PutAtOnce};
 ghost use Rattle.qcow2_metadata.specs.Places.{IsInReach};

@@ -2,18 +2,16 @@
 //! A word of a table is an entry of it in qemu and imago.
 
 ghost use Rattle.std.specs.Prelude.{◌≡◌, ◌≢◌, ◌⊎◌, ◌≤◌, ◌+◌, ◌*◌, ◌^◌, ◌<◌, ◌-◌, ℕ, Bool, true, false, IsTrue, Option, None, Some, Ok, List, [], length, slice_index, slice_set};
-ghost use Rattle.qcow2_types.specs.BlockBytes.{Packs};
+ghost use Rattle.qcow2_types.specs.TableBytes.{Packs, AreFit, table_bytes};
 ghost use Rattle.qcow2_types.specs.Bytes.{Bytes, run, splice};
 ghost use Rattle.qcow2_types.specs.Header.{Header as HeaderRecord, header_of, first_fault, layout_of, rules_of_size};
 ghost use Rattle.qcow2_types.specs.HeaderBytes.{first_bytes, fits_first_cluster, header_bytes, written, new_header};
 ghost use Rattle.qcow2_types.specs.HeaderSwitch.{OnlyPlaces, IsNameBehind};
-ghost use Rattle.qcow2_types.specs.Unmarked.{unmarked_mapping};
-ghost use Rattle.qcow2_types.specs.Words.{Layout, block_offset, data_at, is_damaged, mapping_of, table_offset, unmapped, zeroes};
+ghost use Rattle.qcow2_types.specs.Words.{unmarked_mapping, Layout, block_offset, data_at, is_damaged, mapping_of, table_offset, unmapped, zeroes};
 ghost use Rattle.qcow2_metadata.specs.Allocations.{kept_for_zero, zeroed_word};
 ghost use Rattle.qcow2_metadata.specs.Places.{IsInReach};
 ghost use Rattle.qcow2_metadata.specs.Reloading.{is_text, IsReloadable};
 ghost use Rattle.qcow2_metadata.specs.Tables.{shared_word, words_in};
-ghost use Rattle.qcow2_types.specs.TableBytes.{AreFit, table_bytes};
 
 use crate::Header;
 use crate::layout::TableLayout;

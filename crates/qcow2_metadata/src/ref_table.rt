@@ -2,9 +2,8 @@
 ghost use Rattle.std.specs.Prelude.{◌≡◌, ℕ, ◌+◌, ◌-◌, ◌*◌, ◌^◌, ◌<◌, ◌≤◌, ◌↔◌, IsTrue, MatchOption, IsOk, IfOk, IsErrOf, IsOkUnless, length, refl, Some, None, true, false};
 ghost use Rattle.qcow2_types.specs.Header.{Shaped, layout_of, words_of_cluster};
 ghost use Rattle.qcow2_types.specs.Counts.{counters_of_block};
-ghost use Rattle.qcow2_metadata.specs.Growth.{IsEnough, IsGrownLength};
+ghost use Rattle.qcow2_metadata.specs.Tables.{IsEnough, IsGrownLength, IsNamable, padded, with_word};
 ghost use Rattle.qcow2_metadata.specs.Places.{place_of};
-ghost use Rattle.qcow2_metadata.specs.Tables.{IsNamable, padded, with_word};
 
 use crate::Header;
 use crate::clusters::first_byte_of;

@@ -3,7 +3,7 @@ ghost use Rattle.std.specs.Prelude.{◌≡◌, ℕ, ◌+◌, ◌*◌, ◌/◌, �
 ghost use Rattle.imago_storage.specs.Calls.{Kept};
 ghost use Rattle.qcow2_types.specs.Bytes.{bytes_of};
 ghost use Rattle.qcow2_types.specs.Header.{cluster_size, layout_of, words_of_cluster};
-ghost use Rattle.qcow2_types.specs.Places.{l2_entries};
+ghost use Rattle.qcow2_types.specs.Entries.{l2_entries};
 ghost use Rattle.qcow2_types.specs.Words.{mapping_of};
 ghost use Rattle.qcow2_metadata.specs.MappingView.{mapping_seen, BacksAt, IsNamed};
 ghost use Rattle.qcow2_metadata.specs.Places.{IsInReach};
@@ -28,7 +28,7 @@ pub struct StoredL2Table {
 }
 
 impl Model for StoredL2Table {
-    ghost use Rattle.qcow2_metadata.specs.StoredView.{StoredValue, seen_stored, IsStored};
+    ghost use Rattle.qcow2_metadata.specs.TableView.{StoredValue, seen_stored, IsStored};
 
     ghost Value = { StoredValue };
 

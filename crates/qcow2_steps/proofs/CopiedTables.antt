@@ -13,8 +13,7 @@ use Rattle.qcow2_types.specs.Header.{Fields, Header, cluster_size, layout_of, wo
 use Rattle.qcow2_types.specs.References.{Weight, contents, meets, of_cluster, of_copied, of_mapping, of_table, of_table_or_none, refs, structure}
 use Rattle.qcow2_types.specs.Slots.{slot}
 use Rattle.qcow2_types.specs.Steps.{TableReplaced, TableSwapped}
-use Rattle.qcow2_types.specs.Unmarked.{unmarked_mapping}
-use Rattle.qcow2_types.specs.Words.{Mapping, data_at, zeroes, packed, unmapped, damaged, is_damaged, l1_word_sound, mapping_of, table_offset}
+use Rattle.qcow2_types.specs.Words.{unmarked_mapping, Mapping, data_at, zeroes, packed, unmapped, damaged, is_damaged, l1_word_sound, mapping_of, table_offset}
 use Rattle.qcow2_types.proofs.Counting.Consistent.{consistent-shaped, copied-named-once, meets-own, meets-other, named-counted, some-words, structure-named-once}
 use Rattle.qcow2_types.proofs.Counting.Limit.{sum-zero}
 use Rattle.qcow2_types.proofs.Counting.Named.{structure-le-refs}

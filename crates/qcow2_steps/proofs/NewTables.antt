@@ -14,9 +14,8 @@ use Rattle.qcow2_types.specs.Header.{Fields, cluster_size, layout_of, words_of_c
 use Rattle.qcow2_types.specs.References.{meets, of_cluster, of_copied, of_mapping, refs, structure}
 use Rattle.qcow2_types.specs.Slots.{Live, or_none, over_slots, slot}
 use Rattle.qcow2_types.specs.Steps.{TableSwapped}
-use Rattle.qcow2_types.specs.Unmarked.{unmarked_mapping}
+use Rattle.qcow2_types.specs.Words.{unmarked_mapping, Mapping, data_at, zeroes, packed, unmapped, damaged, mapping_of}
 use Rattle.qcow2_types.specs.Versions.{SamePlaces, copied, named, of_either}
-use Rattle.qcow2_types.specs.Words.{Mapping, data_at, zeroes, packed, unmapped, damaged, mapping_of}
 use Rattle.qcow2_types.proofs.Counting.Consistent.{meets-other, meets-own, named-counted}
 use Rattle.qcow2_types.proofs.Counting.Either.{refs-cached, refs-file}
 use Rattle.qcow2_types.proofs.Changes.Frames.{l1-part, splice-is-outside, word-same}

@@ -8,8 +8,7 @@ use Rattle.qcow2_types.specs.Entries.{l2_mapping, l2_table}
 use Rattle.qcow2_types.specs.Header.{Fields, cluster_size, words_of_cluster}
 use Rattle.qcow2_types.specs.References.{meets, of_cluster}
 use Rattle.qcow2_types.specs.Slots.{slot}
-use Rattle.qcow2_types.specs.Unmarked.{unmarked_mapping}
-use Rattle.qcow2_types.specs.Words.{Mapping, l1_word_sound, table_offset, unmapped}
+use Rattle.qcow2_types.specs.Words.{unmarked_mapping, Mapping, l1_word_sound, table_offset, unmapped}
 use Rattle.qcow2_metadata.specs.Tables.{words_in}
 use Rattle.qcow2_alloc.specs.Quiet.{Metadata}
 use Rattle.qcow2_steps.specs.Words.{IsReserved}

@@ -36,3 +36,12 @@ sum_below (suc n) f = f n + sum_below n f
 unfoldable pub all_below : ℕ → (ℕ → Bool) → Bool
 all_below zero p = true
 all_below (suc n) p = p n && all_below n p
+
+-- bytes that are to be written, with their place
+abbrev pub Patch : Type 0
+Patch = ℕ × List ℕ
+
+-- the file with all of them over it, the first on top
+unfoldable pub over : Bytes → List Patch → Bytes
+over f [] = f
+over f (e ∷ es) = splice (over f es) e.0 e.1

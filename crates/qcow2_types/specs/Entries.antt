@@ -1,5 +1,5 @@
 -- Where a guest cluster is: through the L1 table and an L2 table.
-use Rattle.std.specs.Prelude.{ℕ, ◌/◌, ◌%◌, Bool, not, ◌==◌, nat_lt, if◌then◌else◌}
+use Rattle.std.specs.Prelude.{ℕ, ◌/◌, ◌%◌, Bool, not, ◌==◌, nat_lt, if◌then◌else◌, ◌^◌}
 use Rattle.qcow2_types.specs.Bytes.{Bytes, word, all_below}
 use Rattle.qcow2_types.specs.Words.{Mapping, damaged, unmapped, mapping_of, is_damaged, l1_word_sound, table_offset}
 use Rattle.qcow2_types.specs.Header.{Fields, words_of_cluster, layout_of}
@@ -31,3 +31,7 @@ entry_through f h table i = if table == 0 then unmapped else entry_of_table f h 
 -- guest cluster g: word g mod e of the L2 table that L1 word g / e names, with e words to a table
 unfoldable pub entry : Bytes → Fields → ℕ → Mapping
 entry f h g = let e = words_of_cluster h in if l1_table_sound f h then entry_through f h (l2_table f h (g / e)) (g % e) else damaged
+
+-- the words of an L2 table: 8 bytes each, in one cluster of 2^cluster_bits bytes
+abbrev pub l2_entries : ℕ → ℕ
+l2_entries cluster_bits = 2 ^ cluster_bits / 8

@@ -1,13 +1,10 @@
 pub mod Bytes
 pub mod TableBytes
-pub mod BlockBytes
-pub mod Over
 pub mod Words
 pub mod Header
 pub mod Entries
 pub mod Counts
 pub mod Slots
-pub mod Unmarked
 pub mod Disk
 pub mod References
 pub mod Consistency
@@ -16,7 +13,6 @@ pub mod Versions
 pub mod WorkedImage
 pub mod Steps
 pub mod Switched
-pub mod Places
 pub mod Pending
 pub mod Features
 pub mod OnDisk

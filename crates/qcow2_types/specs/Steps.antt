@@ -2,7 +2,7 @@
 use Rattle.std.specs.Prelude.{Bool, true, Ok, ◌≡◌, ◌≢◌, ℕ, ◌+◌, ◌*◌, ◌/◌, ◌%◌, ◌<◌, ◌⊎◌}
 use Rattle.imago_storage.specs.Disk.{Value}
 use Rattle.qcow2_types.specs.Bytes.{Bytes, word, sum_below}
-use Rattle.qcow2_types.specs.Words.{Mapping, unmapped, data_at}
+use Rattle.qcow2_types.specs.Words.{Mapping, unmapped, data_at, unmarked_mapping}
 use Rattle.qcow2_types.specs.Header.{Fields, Header, header_of, cluster_size, words_of_cluster}
 use Rattle.qcow2_types.specs.Entries.{entry, l2_table, l2_mapping}
 use Rattle.qcow2_types.specs.Counts.{block_at, count, counter, counters_of_block}
@@ -10,7 +10,6 @@ use Rattle.qcow2_types.specs.References.{Weight, structure as structure_sum, con
 use Rattle.qcow2_types.specs.Consistency.{IsConsistent}
 use Rattle.qcow2_types.specs.Disk.{shown}
 use Rattle.qcow2_types.specs.Slots.{slot, Live}
-use Rattle.qcow2_types.specs.Unmarked.{unmarked_mapping}
 use Rattle.qcow2_types.specs.Frames.{Same, Kept, nothing, block, table, l1_word, block_word, ShowsAs}
 use Rattle.qcow2_types.specs.Versions.{KeepsSlots, SamePlaces}
 

@@ -99,3 +99,9 @@ mapping_of layout w = if has_bit w 62 then packed_mapping layout.cluster_bits w 
 abbrev pub is_damaged : Mapping → Bool
 is_damaged damaged = true
 is_damaged _ = false
+
+-- a mapping without the mark that the reference count of its cluster is 1: of what is shown it says nothing
+abbrev pub unmarked_mapping : Mapping → Mapping
+unmarked_mapping (data_at cluster copied) = data_at cluster false
+unmarked_mapping (zeroes cluster copied) = zeroes cluster false
+unmarked_mapping mapping = mapping

@@ -2,7 +2,7 @@
 //! A word of a table is an entry of it in qemu and imago, and a counter a refcount.
 
 ghost use Rattle.std.specs.Prelude.{◌≡◌, ◌≤◌, ◌-◌, ◌^◌, ℕ, Bool, List, [], ◌∷◌, Result, Ok};
-ghost use Rattle.qcow2_types.specs.BlockBytes.{ArePackable, block_bytes, Packs};
+ghost use Rattle.qcow2_types.specs.TableBytes.{ArePackable, block_bytes, Packs};
 ghost use Rattle.qcow2_types.specs.Bytes.{Bytes, be};
 ghost use Rattle.qcow2_types.specs.Words.{table_offset};
 ghost use Rattle.qcow2_types.specs.Header.{Header, Limited, header_of, cluster_size};

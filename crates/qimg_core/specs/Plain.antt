@@ -9,9 +9,8 @@ use Rattle.imago_storage.specs.declared.fault.Fault.TheVariants.{RangeOverflow, 
 use Rattle.qcow2_types.specs.Bytes.{Bytes}
 use Rattle.qcow2_types.specs.Words.{Mapping, mapping_of, table_offset}
 use Rattle.qcow2_types.specs.Header.{Fields, Header, Rule, header_of, first_fault, has_external_data}
-use Rattle.qcow2_types.specs.Entries.{l2_table, l1_table_sound}
+use Rattle.qcow2_types.specs.Entries.{l2_table, l1_table_sound, l2_entries}
 use Rattle.qcow2_types.specs.Disk.{Layer, qcow2, at, shown, shown_by, chain_size}
-use Rattle.qcow2_types.specs.Places.{l2_entries}
 use Rattle.qcow2_metadata.specs.Tables.{TableValue}
 use Rattle.std.specs.Prelude.{Vec, String}
 use Rattle.std.specs.declared.alloc.Global.{Global}

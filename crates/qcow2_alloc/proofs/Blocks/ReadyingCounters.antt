@@ -12,9 +12,8 @@ use Rattle.imago_storage.proofs.Composing.{keeps_on}
 use Rattle.qcow2_types.specs.Counts.{counters_of_block}
 use Rattle.qcow2_types.specs.Header.{Header, words_of_cluster}
 use Rattle.qcow2_types.specs.Switched.{with_refcount_table}
-use Rattle.qcow2_metadata.specs.Growth.{IsGrownLength}
+use Rattle.qcow2_metadata.specs.Tables.{IsGrownLength, TableValue}
 use Rattle.qcow2_metadata.specs.Places.{IsInReach}
-use Rattle.qcow2_metadata.specs.Tables.{TableValue}
 use Rattle.qcow2_alloc.specs.declared.allocation.readying_runs.Provision.{Provision}
 use Rattle.qcow2_alloc.specs.declared.allocation.handing_out.Readiness.{Readiness}
 use Rattle.qcow2_alloc.specs.declared.allocation.handing_out.Readiness.TheVariants.{Ready, NoPlace}

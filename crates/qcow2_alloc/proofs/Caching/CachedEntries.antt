@@ -5,10 +5,9 @@ use Rattle.std.specs.List.{AllByRecursion, filter_map}
 use Rattle.std.proofs.lemmas.List.{append_assoc}
 use Rattle.std.proofs.lemmas.List.Elements.{filter_map-append}
 use Rattle.std.proofs.lemmas.Nat.{pow_pos}
-use Rattle.qcow2_types.specs.Bytes.{Bytes, splice}
+use Rattle.qcow2_types.specs.Bytes.{Bytes, splice, Patch, over}
 use Rattle.qcow2_types.specs.Header.{Fields, Header, cluster_size}
 use Rattle.qcow2_types.specs.Consistency.{IsConsistent}
-use Rattle.qcow2_types.specs.Over.{Patch, over}
 use Rattle.qcow2_types.proofs.Changes.Over.{IsClear, over-first, over-settled, over-shows}
 use Rattle.qcow2_types.proofs.Changes.Patches.{IsPatch, clear-apart}
 use Rattle.qcow2_alloc.specs.declared.async_lru_cache.Slot.{Slot}

@@ -2,7 +2,7 @@
 use Rattle.std.proofs.Common.{◌≡◌, ◌≢◌, ℕ, ◌≤◌, refl, arith, sym, ◌∙◌, [], inl, inr}
 use Rattle.std.proofs.lemmas.Bool.{cases_eq}
 use Rattle.std.proofs.lemmas.Bool.Decides.{nat_tests}
-use Rattle.qcow2_types.specs.Bytes.{Bytes}
+use Rattle.qcow2_types.specs.Bytes.{Bytes, over}
 use Rattle.qcow2_types.specs.Header.{Header}
 use Rattle.qcow2_types.specs.Entries.{l2_table}
 use Rattle.qcow2_types.specs.Counts.{count}
@@ -13,7 +13,6 @@ use Rattle.qcow2_types.proofs.Counting.Either.{named-clean}
 use Rattle.qcow2_types.proofs.Counting.Slots.{contents-slots, slots-same}
 use Rattle.qcow2_alloc.specs.declared.cache.CacheDependency.TheVariants.{Unset}
 use Rattle.std.specs.List.{IsDistinct}
-use Rattle.qcow2_types.specs.Over.{over}
 use Rattle.qcow2_alloc.specs.Safety.{Safe}
 
 -- what is consistent by itself

@@ -4,10 +4,9 @@ use Rattle.std.specs.Prelude.{nat_eq}
 use Rattle.std.specs.List.{AllByRecursion, IsDistinct, filter_map}
 use Rattle.std.specs.Map.{keys_of, lookup, remove_entry}
 use Rattle.std.proofs.lemmas.Bool.{cases_Bool, eqb-true}
-use Rattle.qcow2_types.specs.Bytes.{Bytes}
+use Rattle.qcow2_types.specs.Bytes.{Bytes, Patch, over}
 use Rattle.qcow2_types.specs.Header.{cluster_size, refcount_table_entries}
-use Rattle.qcow2_types.specs.BlockBytes.{block_bytes}
-use Rattle.qcow2_types.specs.Over.{Patch, over}
+use Rattle.qcow2_types.specs.TableBytes.{block_bytes}
 use Rattle.qcow2_types.specs.Counts.{block_at, count}
 use Rattle.qcow2_types.specs.References.{meets}
 use Rattle.qcow2_types.proofs.Counting.Consistent.{meets-own}

@@ -5,7 +5,7 @@ use Rattle.imago_storage.specs.State.{StorageState}
 use Rattle.imago_storage.specs.Through.{PutAtOnce}
 use Rattle.imago_storage.specs.declared.fault.Fault.{Fault}
 use Rattle.qcow2_types.specs.Bytes.{bytes_of}
-use Rattle.qcow2_types.specs.BlockBytes.{block_bytes}
+use Rattle.qcow2_types.specs.TableBytes.{block_bytes}
 use Rattle.qcow2_types.specs.Counts.{counter_of}
 use Rattle.qcow2_types.specs.Header.{Header}
 use Rattle.qcow2_types.proofs.Numbers.BlockBytes.{bytes-only}

@@ -10,7 +10,7 @@ use Rattle.qcow2_types.specs.Bytes.{Bytes, bytes_of, splice}
 use Rattle.qcow2_types.specs.Header.{Header, Shaped, cluster_size, refcount_table_entries}
 use Rattle.qcow2_types.specs.Counts.{block_at, count, counter, counter_of, counters_of_block}
 use Rattle.qcow2_types.specs.References.{refs}
-use Rattle.qcow2_types.specs.BlockBytes.{block_bytes}
+use Rattle.qcow2_types.specs.TableBytes.{block_bytes}
 use Rattle.qcow2_types.specs.Frames.{Same, Outside, Kept, block}
 use Rattle.qcow2_types.specs.Steps.{BlockWritten}
 use Rattle.qcow2_types.specs.Versions.{SamePlaces, IsBetween, KeepsSlots}

@@ -7,7 +7,7 @@ use Rattle.imago_storage.specs.declared.fault.Fault.TheVariants.{Memory, Damaged
 use Rattle.qcow2_types.specs.Header.{Header, words_of_cluster}
 use Rattle.qcow2_types.specs.Counts.{counters_of_block}
 use Rattle.qcow2_types.specs.Words.{Layout}
-use Rattle.qcow2_metadata.specs.Growth.{IsGrownLength}
+use Rattle.qcow2_metadata.specs.Tables.{IsGrownLength}
 use Rattle.qcow2_alloc.specs.declared.cache.CacheDependency.TheVariants.{L2DependsOnRb}
 use Rattle.qcow2_alloc.specs.declared.cache.MetadataCaches.{MetadataCaches}
 use Rattle.qcow2_alloc.specs.declared.file.ImageFile.{ImageFile}

@@ -9,8 +9,7 @@ use Rattle.imago_storage.proofs.Composing.{keeps_on, later_both}
 use Rattle.qcow2_types.specs.Counts.{counters_of_block}
 use Rattle.qcow2_types.specs.Header.{Fields, Header, words_of_cluster}
 use Rattle.qcow2_types.specs.Words.{Layout, block_offset}
-use Rattle.qcow2_metadata.specs.Growth.{IsGrownLength}
-use Rattle.qcow2_metadata.specs.Tables.{TableValue}
+use Rattle.qcow2_metadata.specs.Tables.{IsGrownLength, TableValue}
 use Rattle.qcow2_alloc.specs.declared.allocation.searching.Run.{Run}
 use Rattle.qcow2_alloc.specs.declared.cache.CacheDependency.TheVariants.{L2DependsOnRb}
 use Rattle.qcow2_alloc.specs.declared.cache.MetadataCaches.{MetadataCaches}

@@ -13,7 +13,7 @@ use Rattle.qcow2_types.specs.Entries.{l2_table}
 use Rattle.qcow2_types.specs.Counts.{block_at, count, counter, counter_of, counter_bits, counters_of_block}
 use Rattle.qcow2_types.specs.References.{structure, of_copied, meets, refs}
 use Rattle.qcow2_types.specs.Slots.{slot as slot_in}
-use Rattle.qcow2_types.specs.BlockBytes.{block_bytes, Packs}
+use Rattle.qcow2_types.specs.TableBytes.{block_bytes, Packs}
 use Rattle.qcow2_types.specs.Consistency.{IsConsistent}
 use Rattle.qcow2_types.specs.Frames.{Same, Outside, Kept, block}
 use Rattle.qcow2_types.specs.Steps.{BlockWritten, CounterWritten}

@@ -4,14 +4,12 @@ use Rattle.std.specs.Prelude.{nat_eq, if◌then◌else◌}
 use Rattle.std.specs.List.{AllByRecursion, IsDistinct, filter_map}
 use Rattle.std.specs.Map.{keys_of}
 use Rattle.std.proofs.lemmas.Bool.{cases_Bool}
-use Rattle.qcow2_types.specs.Bytes.{Bytes}
-use Rattle.qcow2_types.specs.BlockBytes.{block_bytes}
+use Rattle.qcow2_types.specs.Bytes.{Bytes, Patch}
+use Rattle.qcow2_types.specs.TableBytes.{block_bytes, table_bytes}
 use Rattle.qcow2_types.specs.Consistency.{IsConsistent}
 use Rattle.qcow2_types.specs.Counts.{count}
 use Rattle.qcow2_types.specs.Header.{Fields, Header}
-use Rattle.qcow2_types.specs.Over.{Patch}
 use Rattle.qcow2_types.specs.References.{refs}
-use Rattle.qcow2_types.specs.TableBytes.{table_bytes}
 use Rattle.qcow2_types.specs.Versions.{NamedApart}
 use Rattle.qcow2_metadata.specs.Blocks.{Block}
 use Rattle.qcow2_metadata.specs.Tables.{TableValue}

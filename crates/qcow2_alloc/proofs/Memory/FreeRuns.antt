@@ -11,14 +11,13 @@ use Rattle.imago_storage.specs.Calls.{Mixed, Spliced}
 use Rattle.imago_storage.specs.Through.{Put, Stops}
 use Rattle.imago_storage.specs.declared.fault.Fault.{Fault}
 use Rattle.imago_storage.proofs.Composing.{stops_weaker}
-use Rattle.qcow2_types.specs.Bytes.{Bytes, bytes_of, splice}
-use Rattle.qcow2_types.specs.BlockBytes.{Packs}
+use Rattle.qcow2_types.specs.Bytes.{Bytes, bytes_of, splice, Patch, over}
+use Rattle.qcow2_types.specs.TableBytes.{Packs}
 use Rattle.qcow2_types.specs.Words.{Mapping}
 use Rattle.qcow2_types.specs.Header.{Fields, Header, Shaped, cluster_size}
 use Rattle.qcow2_types.specs.Entries.{l2_table}
 use Rattle.qcow2_types.specs.Counts.{block_at, counter, counter_of, counters_of_block}
 use Rattle.qcow2_types.specs.Frames.{Same, Outside, touches}
-use Rattle.qcow2_types.specs.Over.{Patch, over}
 use Rattle.qcow2_types.specs.References.{of_mapping, meets}
 use Rattle.qcow2_types.specs.Slots.{slot, Live}
 use Rattle.qcow2_types.specs.Steps.{FreeWritten}

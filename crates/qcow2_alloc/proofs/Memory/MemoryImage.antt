@@ -4,13 +4,12 @@ use Rattle.std.specs.Prelude.{true}
 use Rattle.std.specs.List.{AllByRecursion}
 use Rattle.std.proofs.lemmas.Bool.Decides.{nat_tests}
 use Rattle.std.proofs.lemmas.Nat.{pow_pos}
-use Rattle.qcow2_types.specs.Bytes.{Bytes, splice}
+use Rattle.qcow2_types.specs.Bytes.{Bytes, splice, Patch, over}
 use Rattle.qcow2_types.specs.Header.{Header, cluster_size}
 use Rattle.qcow2_types.specs.Entries.{l2_table}
 use Rattle.qcow2_types.specs.Counts.{block_at}
 use Rattle.qcow2_types.specs.Consistency.{IsConsistent}
 use Rattle.qcow2_types.specs.Frames.{Same, touches}
-use Rattle.qcow2_types.specs.Over.{Patch, over}
 use Rattle.qcow2_types.proofs.Counting.Consistent.{header-kept}
 use Rattle.qcow2_types.proofs.Changes.Frames.{untouched, splice-is-outside, word-same, entries-fit}
 use Rattle.qcow2_types.proofs.Counting.Parts.{Part, header, l1_table, refcount_table, block_of, table_of, IsPart, part_weight, other-part, touches-inside}

@@ -13,8 +13,7 @@ use Rattle.qcow2_types.specs.Header.{Fields, Header, Shaped, cluster_size, layou
 use Rattle.qcow2_types.specs.Counts.{counters_of_block}
 use Rattle.qcow2_types.proofs.Fields.HeaderFrame.{header-fields, header-shaped}
 use Rattle.qcow2_metadata.proofs.Powers.{power-counters}
-use Rattle.qcow2_types.specs.TableBytes.{table_bytes}
-use Rattle.qcow2_types.specs.BlockBytes.{block_bytes}
+use Rattle.qcow2_types.specs.TableBytes.{table_bytes, block_bytes}
 use Rattle.qcow2_types.specs.Consistency.{IsConsistent}
 use Rattle.qcow2_types.proofs.Changes.Over.{IsClear, words-length}
 use Rattle.qcow2_types.proofs.Counting.Parts.{block_of, table_of}

@@ -1,12 +1,11 @@
 -- What holds of each safe image, and of clean caches.
 use Rattle.std.proofs.Common.{◌≡◌, ℕ, ◌^◌, ◌≤◌, ap, sym, subst, ◌∙◌, List, ◌++◌, true}
 use Rattle.std.specs.List.{filter_map}
-use Rattle.qcow2_types.specs.Bytes.{Bytes, bytes_of}
+use Rattle.qcow2_types.specs.Bytes.{Bytes, bytes_of, Patch, over}
 use Rattle.qcow2_types.specs.Words.{Layout, max_offset}
 use Rattle.qcow2_types.specs.Header.{Fields, Header, cluster_size}
 use Rattle.qcow2_types.specs.Entries.{l2_table}
 use Rattle.qcow2_types.specs.Counts.{block_at}
-use Rattle.qcow2_types.specs.Over.{Patch, over}
 use Rattle.qcow2_types.specs.Versions.{named}
 use Rattle.qcow2_types.proofs.Counting.Either.{named-falls}
 use Rattle.qcow2_types.proofs.Counting.Sound.{sound-words}

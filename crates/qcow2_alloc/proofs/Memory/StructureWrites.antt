@@ -6,11 +6,10 @@ use Rattle.std.proofs.lemmas.Bool.{cases_lt}
 use Rattle.std.proofs.lemmas.Bool.Decides.{nat_tests}
 use Rattle.std.proofs.lemmas.List.{append-nil}
 use Rattle.std.proofs.lemmas.Nat.{pow_pos}
-use Rattle.qcow2_types.specs.Bytes.{Bytes, splice}
+use Rattle.qcow2_types.specs.Bytes.{Bytes, splice, Patch, over}
 use Rattle.qcow2_types.specs.Header.{Fields, Header, cluster_size}
 use Rattle.qcow2_types.specs.Consistency.{IsConsistent}
 use Rattle.qcow2_types.specs.Frames.{Same, Outside, touches}
-use Rattle.qcow2_types.specs.Over.{Patch, over}
 use Rattle.qcow2_types.specs.References.{meets}
 use Rattle.qcow2_types.proofs.Changes.Over.{IsClear, over-first}
 use Rattle.qcow2_types.proofs.Counting.Parts.{Part, header, IsPart, part_weight}

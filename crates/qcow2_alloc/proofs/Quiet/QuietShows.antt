@@ -6,13 +6,12 @@ use Rattle.std.proofs.lemmas.Bool.{cases_lt}
 use Rattle.std.proofs.lemmas.Bool.Decides.{nat_tests}
 use Rattle.std.proofs.lemmas.Nat.{pow_pos}
 use Rattle.std.proofs.Math.Nat.{div-mul-le_self, lt-div-mul-add, le-max_left, le-max_right}
-use Rattle.qcow2_types.specs.Bytes.{Bytes, word}
+use Rattle.qcow2_types.specs.Bytes.{Bytes, word, Patch}
 use Rattle.qcow2_types.specs.Words.{Mapping}
 use Rattle.qcow2_types.specs.Header.{Fields, Header, cluster_size}
 use Rattle.qcow2_types.specs.Entries.{l2_table}
 use Rattle.qcow2_types.specs.Consistency.{IsConsistent}
 use Rattle.qcow2_types.specs.Frames.{Same, touches}
-use Rattle.qcow2_types.specs.Over.{Patch}
 use Rattle.qcow2_types.specs.References.{Weight, structure, of_mapping, meets}
 use Rattle.qcow2_types.specs.Slots.{slot, Live, over_slots}
 use Rattle.qcow2_types.specs.Versions.{of_either, named, NamedApart}

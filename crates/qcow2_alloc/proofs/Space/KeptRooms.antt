@@ -9,9 +9,8 @@ use Rattle.qcow2_types.specs.Header.{Shaped, words_of_cluster}
 use Rattle.qcow2_types.proofs.Counting.Leaks.{count-no-block}
 use Rattle.qcow2_types.proofs.Counting.Parts.{block-inside}
 use Rattle.qcow2_metadata.specs.Places.{IsInReach}
-use Rattle.qcow2_metadata.specs.Tables.{TableValue}
+use Rattle.qcow2_metadata.specs.Tables.{TableValue, IsEnough, IsGrownLength}
 use Rattle.qcow2_alloc.specs.FillingBlocks.{FillsFrom}
-use Rattle.qcow2_metadata.specs.Growth.{IsEnough, IsGrownLength}
 use Rattle.qcow2_alloc.specs.Growing.{IsFirstRoom}
 use Rattle.qcow2_alloc.specs.GrowingTables.{IsRoomToGrow, IsRoomInReach, NoPlaceToGrow, TableGrown}
 use Rattle.qcow2_alloc.specs.Quiet.{Metadata, IsSound, in_memory, counted}

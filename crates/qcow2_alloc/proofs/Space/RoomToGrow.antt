@@ -2,8 +2,7 @@
 use Rattle.std.proofs.Common.{◌≡◌, ℕ, ◌+◌, ◌-◌, ◌*◌, ◌/◌, ◌%◌, ◌^◌, ◌<◌, ◌≤◌, arith, ap, ◌∙◌, inl, inr}
 use Rattle.std.proofs.lemmas.Bool.{cases_lt}
 use Rattle.std.proofs.Math.Nat.{mul-le-mul, div-mul-le_self, lt-div-mul-add, mul-div_left}
-use Rattle.qcow2_metadata.specs.Growth.{IsEnough, IsGrownLength}
-use Rattle.qcow2_metadata.specs.Tables.{TableValue}
+use Rattle.qcow2_metadata.specs.Tables.{IsEnough, IsGrownLength, TableValue}
 use Rattle.qcow2_alloc.specs.Growing.{lacking, IsFirstRoom}
 use Rattle.qcow2_alloc.proofs.Growth.FindingRoom.{lacking-few}
 use Rattle.qcow2_alloc.proofs.Space.KeepingRoom.{RoomKept, edge, edge-near, room-near, room-long, quotient-few}

@@ -3,7 +3,7 @@ ghost use Rattle.std.specs.Prelude.{◌≡◌, ◌≤◌, IfOk, IsOkUnless, map}
 ghost use Rattle.qcow2_types.specs.HeaderBytes.{new_header, new_fields, first_features};
 ghost use Rattle.qcow2_metadata.specs.FieldsView.{seen_fields};
 ghost use Rattle.qcow2_metadata.specs.HeaderView.{seen_text};
-ghost use Rattle.qcow2_metadata.specs.Kinds.{seen_name};
+ghost use Rattle.qcow2_metadata.specs.Features.{seen_name};
 ghost use Rattle.qcow2_types.specs.Features.{incompatible_bit};
 
 use super::Header;

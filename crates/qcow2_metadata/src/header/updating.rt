@@ -1,7 +1,7 @@
 // Taking over what another header says of an image that is open.
 ghost use Rattle.std.specs.Prelude.{◌≡◌, ◌↔◌, map, IsTrue, IsOk, OnOk, OnErr, IsOkUnless};
 ghost use Rattle.std.specs.Option.{option_copied};
-ghost use Rattle.qcow2_metadata.specs.Kinds.{seen_name};
+ghost use Rattle.qcow2_metadata.specs.Features.{seen_name};
 ghost use Rattle.qcow2_metadata.specs.Updates.{SameTexts, with_places_of};
 
 use super::Header;

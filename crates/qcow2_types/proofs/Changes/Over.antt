@@ -7,8 +7,7 @@ use Rattle.std.proofs.lemmas.Bool.{cases_lt}
 use Rattle.std.proofs.lemmas.List.{get_or_append_left, get_or-append_right}
 use Rattle.std.proofs.lemmas.Nat.{from_be_bytes-to_be_bytes_8}
 use Rattle.std.proofs.Math.Path.{fun_ext}
-use Rattle.qcow2_types.specs.Bytes.{Bytes, be, word, splice, bytes_of}
-use Rattle.qcow2_types.specs.Over.{Patch, over}
+use Rattle.qcow2_types.specs.Bytes.{Bytes, be, word, splice, bytes_of, Patch, over}
 use Rattle.qcow2_types.specs.TableBytes.{AreFit, table_bytes}
 use Rattle.qcow2_types.proofs.Numbers.Splices.{be-same, splice-outside, splice-inside, be-of-bytes}
 

@@ -6,7 +6,7 @@ use Rattle.std.proofs.lemmas.Nat.{pow_pos}
 use Rattle.std.proofs.lemmas.List.{length-replicate}
 use Rattle.std.proofs.lemmas.Bool.{cases_lt}
 use Rattle.std.proofs.lemmas.Bool.Decides.{nat_tests}
-use Rattle.qcow2_types.specs.Bytes.{Bytes}
+use Rattle.qcow2_types.specs.Bytes.{Bytes, Patch, over}
 use Rattle.qcow2_types.specs.Words.{is_place}
 use Rattle.qcow2_types.specs.Header.{Fields, Header, cluster_size}
 use Rattle.qcow2_types.specs.Entries.{l2_table}
@@ -15,7 +15,6 @@ use Rattle.qcow2_types.specs.References.{structure}
 use Rattle.qcow2_types.specs.Consistency.{IsConsistent}
 use Rattle.qcow2_types.specs.Frames.{touches, Same}
 use Rattle.qcow2_types.specs.Versions.{SamePlaces}
-use Rattle.qcow2_types.specs.Over.{Patch, over}
 use Rattle.qcow2_types.proofs.Changes.Over.{IsClear, over-clear}
 use Rattle.qcow2_types.proofs.Counting.Parts.{Part, header, l1_table, refcount_table, block_of, table_of, IsPart, part_weight, other-part, touches-once, touches-inside}
 use Rattle.qcow2_types.proofs.Changes.Frames.{l2_table-same, block_at-same}

@@ -10,7 +10,7 @@ use Rattle.std.proofs.lemmas.List.{get_or_past, same_lists}
 use Rattle.std.proofs.lemmas.List.FromFn.{length-map-range_with_len, get_or-map-range_with_len}
 use Rattle.qcow2_types.specs.Bytes.{bytes_of}
 use Rattle.qcow2_types.specs.Counts.{counter_of, wide_counter, narrow_counter}
-use Rattle.qcow2_types.specs.BlockBytes.{block_bytes, wide_byte, narrow_byte, Packs, ArePackable}
+use Rattle.qcow2_types.specs.TableBytes.{block_bytes, wide_byte, narrow_byte, Packs, ArePackable}
 use Rattle.qcow2_types.proofs.Counting.Counters.{whole}
 use Rattle.qcow2_types.proofs.Numbers.Digits.{digits-below, digit-found, digits-make, be-of-digits, be-digit, bytes-bits, be-below}
 use Rattle.qcow2_types.proofs.Numbers.Sums.{sum-same}

@@ -5,13 +5,12 @@ use Rattle.std.proofs.lemmas.Bool.{cases_eq, cases_lt, le-ltb}
 use Rattle.std.proofs.lemmas.Bool.Decides.{nat_tests}
 use Rattle.std.proofs.lemmas.Nat.{mod_below}
 use Rattle.qcow2_types.specs.Bytes.{Bytes}
-use Rattle.qcow2_types.specs.Words.{Mapping, data_at, unmapped}
+use Rattle.qcow2_types.specs.Words.{Mapping, data_at, unmapped, unmarked_mapping}
 use Rattle.qcow2_types.specs.Header.{Fields, cluster_size, words_of_cluster}
 use Rattle.qcow2_types.specs.Entries.{entry, l2_table}
 use Rattle.imago_storage.specs.Disk.{Value}
 use Rattle.qcow2_types.specs.Disk.{shown, shown_by, host_byte}
 use Rattle.qcow2_types.specs.Slots.{slot, Live, over_slots, guest_slot}
-use Rattle.qcow2_types.specs.Unmarked.{unmarked_mapping}
 use Rattle.qcow2_types.specs.Frames.{Same, Outside, ShowsAs}
 use Rattle.qcow2_types.specs.Versions.{KeepsSlots}
 use Rattle.qcow2_types.specs.References.{contents, of_mapping, meets}

@@ -5,7 +5,7 @@ use Rattle.std.proofs.lemmas.Bool.{cases_lt, le-ltb}
 use Rattle.std.proofs.lemmas.Bool.Decides.{nat_tests}
 use Rattle.std.proofs.lemmas.Nat.{mod_below, pow_pos}
 use Rattle.qcow2_types.specs.Bytes.{Bytes, all_below}
-use Rattle.qcow2_types.specs.Words.{Mapping, data_at, zeroes, packed, unmapped, damaged}
+use Rattle.qcow2_types.specs.Words.{Mapping, data_at, zeroes, packed, unmapped, damaged, unmarked_mapping}
 use Rattle.qcow2_types.specs.Header.{Fields, cluster_size, words_of_cluster, has_external_data}
 use Rattle.qcow2_types.specs.Entries.{entry, l2_table, l2_table_sound, l1_table_sound}
 use Rattle.qcow2_types.specs.Disk.{shown_by, host_byte, shown}
@@ -14,7 +14,6 @@ use Rattle.qcow2_types.specs.Consistency.{tables_sound}
 use Rattle.qcow2_types.proofs.Counting.Bounded.{all-below}
 use Rattle.qcow2_types.specs.Frames.{Same, ShowsAs}
 use Rattle.qcow2_types.specs.Slots.{guest_slot}
-use Rattle.qcow2_types.specs.Unmarked.{unmarked_mapping}
 
 -- the mark of a cluster says nothing of its value
 pub unmarked-value : (m : Mapping) (host : ℕ → Value) (below : Value) → shown_by m host below ≡ shown_by (unmarked_mapping m) host below

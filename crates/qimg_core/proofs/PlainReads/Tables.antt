@@ -12,9 +12,8 @@ use Rattle.imago_storage.specs.declared.fault.Fault.TheVariants.{Memory, Storage
 use Rattle.qcow2_types.specs.Bytes.{Bytes, word}
 use Rattle.qcow2_types.specs.Words.{Mapping, data_at, zeroes, packed, unmapped, damaged, max_offset, mapping_of, table_offset}
 use Rattle.qcow2_types.specs.Header.{Fields, cluster_size, words_of_cluster, layout_of, has_external_data}
-use Rattle.qcow2_types.specs.Entries.{entry, entry_through, l2_table, l1_table_sound, l2_table_sound}
+use Rattle.qcow2_types.specs.Entries.{entry, entry_through, l2_table, l1_table_sound, l2_table_sound, l2_entries}
 use Rattle.qcow2_types.specs.Disk.{shown_by, host_byte}
-use Rattle.qcow2_types.specs.Places.{l2_entries}
 use Rattle.qcow2_types.proofs.Counting.TableSizes.{entries_power}
 use Rattle.qcow2_metadata.specs.Tables.{TableValue, AreSound, HasUnsound, WhyNotLoaded, words_in, table_in, place_or_none, l2_words}
 use Rattle.qcow2_metadata.proofs.TableFacts.{words_long}

@@ -4,8 +4,7 @@ ghost use Rattle.std.specs.Prelude.{◌≡◌, ℕ, ◌+◌, ◌*◌, ◌/◌, �
 ghost use Rattle.imago_storage.specs.Calls.{CountsFaults, Kept, Reads};
 ghost use Rattle.imago_storage.specs.Disk.{Shows};
 ghost use Rattle.qcow2_types.specs.Header.{header_of, has_external_data};
-ghost use Rattle.qcow2_types.specs.Entries.{l1_table_sound};
-ghost use Rattle.qcow2_types.specs.Places.{l2_entries};
+ghost use Rattle.qcow2_types.specs.Entries.{l1_table_sound, l2_entries};
 ghost use Rattle.qcow2_metadata.specs.MappingView.{mapping_seen, IsNamed};
 ghost use Rattle.qcow2_metadata.specs.Loading.{file};
 ghost use Rattle.qimg_core.specs.Plain.{NamesTables, NotShown, mapped_value, table_value, image_value};

@@ -3,7 +3,7 @@ use Rattle.std.proofs.Math.Nat.{le-div_iff_mul-le}
 use Rattle.std.proofs.Math.Pow.{pow_mono}
 use Rattle.std.proofs.lemmas.Nat.{mod_below, pow_pos}
 use Rattle.std.proofs.lemmas.Bool.{leb-true, le-leb}
-use Rattle.qcow2_types.specs.Places.{l2_entries}
+use Rattle.qcow2_types.specs.Entries.{l2_entries}
 use Rattle.qcow2_image.proofs.committing.is_nameable.Goals as goal
 
 -- A table has words.

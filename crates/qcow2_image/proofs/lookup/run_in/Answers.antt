@@ -1,6 +1,6 @@
 use Rattle.std.proofs.Common.{◌≡◌, ◌+◌, ◌-◌, ◌*◌, ◌%◌, ◌^◌, ◌<◌, ℕ, arith, ap, sym, subst, ◌∙◌, true, false}
 use Rattle.std.proofs.lemmas.Nat.{pow_pos}
-use Rattle.qcow2_types.specs.Places.{l2_entries}
+use Rattle.qcow2_types.specs.Entries.{l2_entries}
 use Rattle.qcow2_types.specs.Words.{Mapping}
 use Rattle.qcow2_metadata.specs.Tables.{mapping_in}
 use Rattle.qcow2_metadata.specs.MappingView.{BacksAt, follows, mapping_seen}

@@ -1,5 +1,5 @@
 use Rattle.std.specs.Prelude.{◌≡◌, ◌+◌, ◌-◌, ◌*◌, ◌%◌, ◌^◌, ◌<◌, ◌≤◌, ℕ}
-use Rattle.qcow2_types.specs.Places.{l2_entries}
+use Rattle.qcow2_types.specs.Entries.{l2_entries}
 use Rattle.qcow2_metadata.specs.Tables.{mapping_in}
 use Rattle.qcow2_metadata.specs.MappingView.{mapping_seen, IsNamed, BacksAt}
 use Rattle.qcow2_image.specs.Looking.{Follows}

@@ -1,7 +1,7 @@
 use Rattle.std.proofs.Common.{◌≡◌, map, take}
 use Rattle.std.specs.Prelude.{flat_map}
 use Rattle.qcow2_types.specs.HeaderBytes.{feature_bytes}
-use Rattle.qcow2_metadata.specs.Kinds.{seen_name}
+use Rattle.qcow2_metadata.specs.Features.{seen_name}
 use Rattle.qcow2_metadata.proofs.extension_bytes.bytes_of_names.Given as goal
 
 -- The names so far are written.

@@ -1,8 +1,7 @@
 use Rattle.std.proofs.Common.{◌≡◌, drop}
 use Rattle.std.specs.Prelude.{map}
 use Rattle.qcow2_types.specs.Features.{kind_of}
-use Rattle.qcow2_metadata.specs.Kinds.{seen_name}
-use Rattle.qcow2_metadata.specs.Features.{name_of}
+use Rattle.qcow2_metadata.specs.Features.{seen_name, name_of}
 use Rattle.qcow2_metadata.proofs.features.name_in.Given as goal
 
 -- The name is not among those before.

@@ -1,7 +1,7 @@
 use Rattle.std.proofs.Common.{◌≡◌, ◌-◌, ◌/◌, arith, [], length, Some, map}
 use Rattle.std.specs.Option.{option_map}
 use Rattle.qcow2_types.specs.Header.{with_names, features_of}
-use Rattle.qcow2_metadata.specs.Kinds.{seen_name}
+use Rattle.qcow2_metadata.specs.Features.{seen_name}
 use Rattle.qcow2_metadata.proofs.Names.{entry-read}
 use Rattle.qcow2_metadata.proofs.Order.{features-ordered}
 use Rattle.qcow2_metadata.proofs.features.names_in.Goals as goal

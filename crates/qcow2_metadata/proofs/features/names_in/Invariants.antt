@@ -1,6 +1,6 @@
 use Rattle.std.proofs.Common.{◌≡◌, ◌-◌, ◌*◌, ◌/◌, map, length, [], drop}
 use Rattle.qcow2_types.specs.Header.{with_names, features_of}
-use Rattle.qcow2_metadata.specs.Kinds.{seen_name}
+use Rattle.qcow2_metadata.specs.Features.{seen_name}
 use Rattle.qcow2_metadata.proofs.features.names_in.Given as goal
 
 -- The names so far, and those that are still to be read, are all.

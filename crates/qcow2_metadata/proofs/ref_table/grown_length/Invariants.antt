@@ -1,5 +1,5 @@
 use Rattle.std.proofs.Common.{ℕ, ◌+◌, ◌*◌, ◌/◌, ◌≤◌}
-use Rattle.qcow2_metadata.specs.Growth.{IsEnough}
+use Rattle.qcow2_metadata.specs.Tables.{IsEnough}
 use Rattle.qcow2_metadata.proofs.ref_table.grown_length.Given as goal
 
 -- No length of fewer clusters is enough.

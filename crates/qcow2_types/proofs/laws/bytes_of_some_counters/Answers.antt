@@ -1,5 +1,5 @@
 use Rattle.std.proofs.Common.{refl}
-use Rattle.qcow2_types.specs.BlockBytes.{block_bytes}
+use Rattle.qcow2_types.specs.TableBytes.{block_bytes}
 use Rattle.qcow2_types.specs.Bytes.{sum_below}
 use Rattle.qcow2_types.proofs.laws.bytes_of_some_counters.Goals as goal
 

@@ -1,5 +1,5 @@
 use Rattle.std.proofs.Common.{◌≡◌, ◌∙◌, ◌/◌, ap, ℕ, Ok}
-use Rattle.qcow2_types.specs.Places.{l2_entries}
+use Rattle.qcow2_types.specs.Entries.{l2_entries}
 use Rattle.qcow2_types.specs.Header.{words_of_cluster}
 use Rattle.qcow2_image.proofs.Beginning.{begins-err, begins-then}
 use Rattle.qcow2_image.proofs.ClusterSteps.{table-behind-word, table-wordless}

@@ -1,6 +1,6 @@
 use Rattle.std.proofs.Common.{arith, refl}
 use Rattle.std.proofs.lemmas.Nat.{mod_below}
-use Rattle.qcow2_types.specs.Places.{l2_entries}
+use Rattle.qcow2_types.specs.Entries.{l2_entries}
 use Rattle.qcow2_image.proofs.Ranges.{high-bits, low-bits, some-words}
 use Rattle.qcow2_image.proofs.qcow2.Qcow2.kept_at.Goals as goal
 

@@ -1,7 +1,7 @@
 use Rattle.std.proofs.Common.{refl, ap, sym, subst, ◌∙◌, arith, ℕ, ◌/◌, Result, Ok}
 use Rattle.std.specs.Prelude.{slice_index}
 use Rattle.imago_storage.specs.declared.fault.Fault.{Fault}
-use Rattle.qcow2_types.specs.Places.{l2_entries}
+use Rattle.qcow2_types.specs.Entries.{l2_entries}
 use Rattle.qcow2_types.specs.Words.{is_copied}
 use Rattle.qcow2_image.specs.Allocating.{Begins, EnsuresTable}
 use Rattle.qcow2_image.specs.FreeSpace.{enough_for_one}

@@ -2,9 +2,8 @@ use Rattle.std.proofs.Common.{◌≡◌, ℕ, ◌+◌, ◌-◌, ◌*◌, ◌/◌
 use Rattle.std.specs.Prelude.{min, ◌⊎◌}
 use Rattle.std.proofs.lemmas.Nat.{mod_below, pow_pos, div-add-mod'}
 use Rattle.std.proofs.Math.Nat.{pow-le-pow_right}
-use Rattle.qcow2_types.specs.Places.{l2_entries}
+use Rattle.qcow2_types.specs.Entries.{l2_entries, entry}
 use Rattle.qcow2_types.specs.Header.{cluster_size}
-use Rattle.qcow2_types.specs.Entries.{entry}
 use Rattle.qcow2_types.specs.Words.{damaged}
 use Rattle.qcow2_metadata.specs.MappingView.{mapping_seen, IsNamed}
 use Rattle.qcow2_metadata.specs.declared.mapping.L2Mapping.{L2Mapping}

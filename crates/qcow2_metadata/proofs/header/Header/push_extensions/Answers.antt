@@ -6,7 +6,7 @@ use Rattle.std.proofs.lemmas.Result.{IfOk-equal}
 use Rattle.qcow2_types.specs.Header.{Header as HeaderRecord}
 use Rattle.qcow2_types.specs.HeaderBytes.{extensions_bytes, extension_bytes, extension_of, names_data}
 use Rattle.qcow2_metadata.specs.HeaderView.{seen_header}
-use Rattle.qcow2_metadata.specs.Kinds.{seen_name}
+use Rattle.qcow2_metadata.specs.Features.{seen_name}
 use Rattle.qcow2_metadata.specs.declared.features.FeatureName.{FeatureName}
 use Rattle.qcow2_metadata.proofs.Extending.{pushed-last, extensions-newer, extensions-older}
 use Rattle.qcow2_metadata.proofs.header.Header.push_extensions.Goals as goal

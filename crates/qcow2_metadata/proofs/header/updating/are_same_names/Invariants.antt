@@ -1,5 +1,5 @@
 use Rattle.std.proofs.Common.{◌≡◌, ◌↔◌, map, length, drop}
-use Rattle.qcow2_metadata.specs.Kinds.{seen_name}
+use Rattle.qcow2_metadata.specs.Features.{seen_name}
 use Rattle.qcow2_metadata.proofs.header.updating.are_same_names.Given as goal
 
 -- They are the same if the rests are, and only then.

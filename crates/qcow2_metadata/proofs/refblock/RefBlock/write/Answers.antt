@@ -1,6 +1,6 @@
 use Rattle.std.proofs.Common.{◌≡◌, ◌%◌, ◌^◌, ◌∙◌, ap, sym, subst}
 use Rattle.qcow2_metadata.specs.Blocks.{Block}
-use Rattle.qcow2_types.specs.BlockBytes.{Packs}
+use Rattle.qcow2_types.specs.TableBytes.{Packs}
 use Rattle.qcow2_metadata.specs.Places.{IsPlaced, place_of}
 use Rattle.qcow2_metadata.proofs.Packed.{block-packs}
 use Rattle.qcow2_metadata.proofs.PlaceLemmas.{place-whole}

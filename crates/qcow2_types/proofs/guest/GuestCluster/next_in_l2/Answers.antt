@@ -1,7 +1,7 @@
 -- A cluster whose index isn't the table's last has a next one.
 use Rattle.std.proofs.Common.{◌≡◌, ℕ, ◌+◌, ◌-◌, ◌*◌, ◌%◌, ◌^◌, ◌<◌, ◌≤◌, arith, ap, ◌∙◌}
 use Rattle.std.proofs.lemmas.Nat.{one_shl, mod_below, pow_pos, pow_below}
-use Rattle.qcow2_types.specs.Places.{l2_entries}
+use Rattle.qcow2_types.specs.Entries.{l2_entries}
 use Rattle.qcow2_types.proofs.Counting.TableSizes.{entries_power, next_below}
 use Rattle.qcow2_types.proofs.guest.GuestCluster.next_in_l2.Goals as goal
 

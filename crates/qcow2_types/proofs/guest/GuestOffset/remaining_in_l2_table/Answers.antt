@@ -1,7 +1,7 @@
 -- What a table maps is a power of 2, which the shift computes.
 use Rattle.std.proofs.Common.{◌≡◌, ℕ, ◌-◌, ◌*◌, ◌%◌, ◌^◌, arith, refl}
 use Rattle.std.proofs.lemmas.Nat.{one_shl}
-use Rattle.qcow2_types.specs.Places.{l2_entries}
+use Rattle.qcow2_types.specs.Entries.{l2_entries}
 use Rattle.qcow2_types.proofs.Counting.TableSizes.{mapped_power}
 use Rattle.qcow2_types.proofs.guest.GuestOffset.remaining_in_l2_table.Goals as goal
 

@@ -1,6 +1,6 @@
 use Rattle.std.proofs.Common.{◌≡◌, ℕ, ◌-◌, ◌*◌, ◌%◌, ◌<◌, ◌^◌, ◌≤◌, arith}
 use Rattle.std.proofs.lemmas.Nat.{mod_below, pow_pos}
-use Rattle.qcow2_types.specs.Places.{l2_entries}
+use Rattle.qcow2_types.specs.Entries.{l2_entries}
 use Rattle.qcow2_types.proofs.Counting.TableSizes.{mapped_power}
 use Rattle.qimg_core.proofs.plain.pieces.in_table.Goals as goal
 

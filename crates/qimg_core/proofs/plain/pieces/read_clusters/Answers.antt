@@ -1,6 +1,6 @@
 use Rattle.std.proofs.Common.{◌≡◌, ℕ, ◌+◌, ◌-◌, ◌/◌, ◌%◌, ◌<◌, ◌≤◌, ◌^◌, length, refl, arith, subst, take, drop, length-take, length-drop, ap, sym, ◌∙◌}
 use Rattle.qcow2_types.specs.Bytes.{Bytes}
-use Rattle.qcow2_types.specs.Places.{l2_entries}
+use Rattle.qcow2_types.specs.Entries.{l2_entries}
 use Rattle.qcow2_types.specs.Words.{Mapping, mapping_of}
 use Rattle.std.specs.Prelude.{slice_index}
 use Rattle.qcow2_metadata.specs.MappingView.{mapping_seen}

@@ -1,7 +1,7 @@
 use Rattle.std.proofs.Common.{◌≡◌, ℕ, ◌*◌, ◌/◌, ◌^◌, length, List, sym, ap, ◌∙◌, arith}
 use Rattle.std.specs.Prelude.{Option, slice_index}
 use Rattle.qcow2_types.specs.Words.{table_offset}
-use Rattle.qcow2_types.specs.Places.{l2_entries}
+use Rattle.qcow2_types.specs.Entries.{l2_entries}
 use Rattle.qcow2_metadata.specs.Tables.{place_or_none}
 use Rattle.qcow2_metadata.specs.Loading.{file}
 use Rattle.qimg_core.specs.Plain.{image_value, table_value}
