@@ -1,13 +1,13 @@
 -- Writes of cached tables and blocks, in the announced order.
 pub mod Turns
-pub mod WritingEntries
-pub mod WritingTables
-pub mod WritingBlocks
-pub mod Going
+pub mod EntryWriteBacks
+pub mod TableWriteBacks
+pub mod BlockWriteBacks
+pub mod WriteSequences
 pub mod Faultless
-pub mod FlushingEntries
-pub mod FlushingTables
-pub mod FlushingBlocks
-pub mod Announcing
-pub mod Counting
-pub mod Kept
+pub mod EntryFlushes
+pub mod TableFlushes
+pub mod BlockFlushes
+pub mod OrderAnnouncements
+pub mod FlushRefusals
+pub mod EntriesAfterWrites

@@ -1,8 +1,8 @@
 -- Clusters that wait to be freed are counted down.
 pub mod Lists
-pub mod Listed
-pub mod FreeingClusters
-pub mod FreeingLists
-pub mod FreeingEntries
-pub mod FreeingInTurn
-pub mod FreeingRest
+pub mod ClusterOccurrences
+pub mod ClusterFrees
+pub mod ShorterLists
+pub mod EntryFrees
+pub mod FreesInTurn
+pub mod ListRemainders

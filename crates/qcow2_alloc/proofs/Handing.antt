@@ -1,10 +1,10 @@
 -- Clusters are handed out.
-pub mod CountingOne
-pub mod HandedOut
-pub mod AllocatingAt
-pub mod AllocatingReadied
-pub mod AnnouncedOrders
-pub mod HandingOut
-pub mod Allocating
-pub mod ReadyingRuns
-pub mod AllocatingRuns
+pub mod SingleCounts
+pub mod ClustersHandedOut
+pub mod SingleAllocations
+pub mod AllocationsWithCounters
+pub mod BlocksBeforeTables
+pub mod AllocationsInOrder
+pub mod CountSequences
+pub mod RunReadiness
+pub mod RunAllocations

@@ -4,11 +4,11 @@ pub mod Patches
 pub mod MemoryWords
 pub mod SafeLaws
 pub mod MemoryImage
-pub mod ChangingEntries
-pub mod ChangingCounters
-pub mod ChangingWords
-pub mod DroppingNames
-pub mod KeptEntries
+pub mod EntryChanges
+pub mod CounterChanges
+pub mod WordChanges
+pub mod NameDrops
+pub mod FitsByWords
 pub mod WordsKept
 pub mod FreeRuns
 pub mod StructureWrites

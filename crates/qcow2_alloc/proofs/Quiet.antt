@@ -4,7 +4,7 @@ pub mod QuietFlushes
 pub mod QuietThen
 pub mod QuietCounters
 pub mod QuietEntries
-pub mod QuietAnnouncing
+pub mod QuietAnnouncements
 pub mod AtOnce
 pub mod QuietGiven
 pub mod QuietNames

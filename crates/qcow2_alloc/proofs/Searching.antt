@@ -1,8 +1,8 @@
 -- Searches for free clusters.
-pub mod SearchingRuns
+pub mod RunsInSearch
 pub mod FreeClusters
-pub mod LookingAt
-pub mod Looking
-pub mod LookingForRuns
-pub mod LookingForFree
-pub mod SearchedPlaces
+pub mod SearchesBeforeCounts
+pub mod SearchSequences
+pub mod RunSearches
+pub mod FreeClusterSearches
+pub mod BlockPlaceSearches

@@ -1,7 +1,7 @@
 -- Where there is room, an allocation finds it.
-pub mod KeepingRoom
+pub mod RoomConsumption
 pub mod RoomToGrow
 pub mod SizesOfSpace
-pub mod KeptRooms
+pub mod RoomPerTurn
 pub mod GaplessRuns
 pub mod RoomyRuns

@@ -4,7 +4,7 @@ use Rattle.std.proofs.lemmas.List.{append-nil, append_assoc}
 use Rattle.qcow2_types.specs.Pending.{FreeEntry}
 use Rattle.qcow2_alloc.specs.FreeList.{listed}
 use Rattle.qcow2_alloc.specs.Quiet.{IsSound, Metadata, metadata_in}
-use Rattle.qcow2_alloc.proofs.Freeing.Listed.{listed_push}
+use Rattle.qcow2_alloc.proofs.Freeing.ClusterOccurrences.{listed_push}
 use Rattle.qcow2_alloc.proofs.Quiet.QuietEntries.{metadata_push}
 
 listed-more : (first more : List FreeEntry) (c : ℕ) → listed first c ≤ listed (first ++ more) c

@@ -37,8 +37,8 @@ use Rattle.qcow2_clusters.specs.Lengthening.{clusters_for, l1_run, naming_l1}
 use Rattle.qcow2_clusters.specs.Progress.{handing}
 use Rattle.qcow2_clusters.specs.Rest.{nothing_cached}
 use Rattle.qcow2_clusters.specs.Storing.{AreReserved}
-use Rattle.qcow2_clusters.proofs.Adding.{AdvancesBy}
-use Rattle.qcow2_clusters.proofs.NamingTables.{l1-long, l1-sound, l1-word, resting-memory}
+use Rattle.qcow2_clusters.proofs.ProgressSums.{AdvancesBy}
+use Rattle.qcow2_clusters.proofs.TableNames.{l1-long, l1-sound, l1-word, resting-memory}
 
 -- The clusters of a table that has a cluster and words, as they wait to be freed.
 pub run-of-some : (bits first taken n : ℕ) (cluster : Option ℕ) → cluster ≡ Some first → 0 < n → taken ≡ (8 * n + (2 ^ bits - 1)) / 2 ^ bits

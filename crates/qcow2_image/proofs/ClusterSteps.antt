@@ -26,12 +26,12 @@ use Rattle.qcow2_alloc.specs.Opening.{IsL1Of}
 use Rattle.qcow2_alloc.specs.Quiet.{Metadata}
 use Rattle.qcow2_alloc.specs.declared.allocation.Allocator.{Allocator}
 use Rattle.qcow2_alloc.specs.declared.cache.MetadataCaches.{MetadataCaches}
-use Rattle.qcow2_alloc.proofs.Flushing.Counting.{writing-implies}
+use Rattle.qcow2_alloc.proofs.Flushing.FlushRefusals.{writing-implies}
 use Rattle.qcow2_alloc.proofs.Causes.{Implies, cause-weaker, cause-told, storage-cause}
-use Rattle.qcow2_alloc.proofs.Growth.LoadingTable.{allocator-refused}
+use Rattle.qcow2_alloc.proofs.Growth.TableLoads.{allocator-refused}
 use Rattle.qcow2_alloc.proofs.Memory.Patches.{place-there}
 use Rattle.qcow2_steps.specs.Data.{IsKeptFor}
-use Rattle.qcow2_steps.proofs.HiddenClusters.{kept-hidden}
+use Rattle.qcow2_steps.proofs.InvisibleClusters.{kept-hidden}
 use Rattle.qcow2_clusters.specs.Filling.{Fills, filling}
 use Rattle.qcow2_steps.specs.LongerL1.{old_l1}
 use Rattle.qcow2_steps.proofs.Headers.{header-counts}
@@ -43,14 +43,14 @@ use Rattle.qcow2_clusters.specs.Rest.{Clusters, IsReady, lent, resting}
 use Rattle.qcow2_clusters.specs.Room as room
 use Rattle.qcow2_clusters.specs.Storing.{AreReserved, ReachesEnd, Rests, StoresRun, handed_by, held_by, run_handed_by, storing_causes}
 use Rattle.qcow2_clusters.specs.declared.space.Space.{Space}
-use Rattle.qcow2_image.proofs.Beginning.{still-cut, whole-cut}
+use Rattle.qcow2_image.proofs.CallStarts.{still-cut, whole-cut}
 use Rattle.qcow2_image.specs.Allocating.{EnsuresTable, EnsuresWord, FillsContent, FreesPending, HasKept, KeepsTop, LoadsSpace, PlacesContent, StoresContent, StoresMost, failed_cut, full_by, placed_by, waits_in, allocation_causes, filling_causes, pending_causes}
 use Rattle.qcow2_image.specs.Holding.{AreOwnAs, Holding, IsOwnAs}
 use Rattle.qcow2_image.specs.KeepsDisk.{KeepsDisk, KeepsDiskWhere}
 use Rattle.qcow2_image.specs.Leaking.{KeepsLeaks, KeepsLeaksBut}
 use Rattle.qcow2_metadata.proofs.TableSteps.{padded_at}
 use Rattle.qcow2_clusters.specs.Room.{KeepsMarked}
-use Rattle.qcow2_clusters.proofs.LengtheningL1.{padded-long, some-taken}
+use Rattle.qcow2_clusters.proofs.L1Growth.{padded-long, some-taken}
 use Rattle.qcow2_image.specs.FreeSpace.{HasNoPlace, IsForTable, IsForWord, LacksFreeRun, LacksTable, LeavesFree, enough_for_one, enough_for_run, enough_for_table, enough_for_word}
 use Rattle.qcow2_image.proofs.FreeRuns.{full-behind, full-in-run, full-more, lacks-as-words, lacks-in-file, leaves-in-run, leaves-more, leaves-none, leaves-then, run-fewer, run-same, safe-short, some-enough, full-implies}
 use Rattle.qcow2_image.specs.Looking.{place_of_table}
@@ -62,12 +62,12 @@ use Rattle.qcow2_image.specs.declared.allocating.Placed.{Placed}
 use Rattle.qcow2_image.specs.declared.qcow2.Qcow2.{Qcow2}
 use Rattle.qcow2_image.specs.declared.tables.Tables.{Tables}
 use Rattle.qcow2_image.proofs.FileWords.{place-in-file, place-named, some-offset, top-long, top-word}
-use Rattle.qcow2_image.proofs.KeepingDisks.{Spares, WhyNoSpace, keeps-disk-same, keeps-image-disk, later-refused, progress-keeps, safe-sound, space-keeps, space-refused, whole-below, keeps-disk-both}
+use Rattle.qcow2_image.proofs.DiskEffects.{Spares, WhyNoSpace, keeps-disk-same, keeps-image-disk, later-refused, progress-keeps, safe-sound, space-keeps, space-refused, whole-below, keeps-disk-both}
 use Rattle.qcow2_image.proofs.Leaks.{advanced-leaks, leaks-all, leaks-both, leaks-but, leaks-loaded, leaks-then}
-use Rattle.qcow2_image.proofs.KeptClusters.{apart-some, kept-at-rest, kept-in, kept-is}
-use Rattle.qcow2_image.proofs.Settling.{seen-same}
+use Rattle.qcow2_image.proofs.ZeroClusters.{apart-some, kept-at-rest, kept-in, kept-is}
+use Rattle.qcow2_image.proofs.RequestsWithoutChanges.{seen-same}
 use Rattle.qcow2_image.proofs.Steps.{keeps-marked}
-use Rattle.qcow2_image.proofs.KeptLeaks.{leaks-kept}
+use Rattle.qcow2_image.proofs.LeaksByFile.{leaks-kept}
 
 pub none-there : {A : Type 0} (o : Option A) → is_some o ≡ false → o ≡ None
 none-there None is = refl

@@ -30,7 +30,7 @@ use Rattle.qcow2_alloc.specs.Going.{WasNotCutOff, writing_causes}
 use Rattle.qcow2_alloc.specs.Memory.{Cached}
 use Rattle.qcow2_alloc.specs.Opening.{IsL1Of}
 use Rattle.qcow2_alloc.specs.Quiet.{Metadata, IsSound, in_memory}
-use Rattle.qcow2_alloc.proofs.Flushing.Counting.{writing-implies}
+use Rattle.qcow2_alloc.proofs.Flushing.FlushRefusals.{writing-implies}
 use Rattle.qcow2_alloc.proofs.Causes.{cause-weaker}
 use Rattle.qcow2_alloc.proofs.Memory.SafeLaws.{clean-memory}
 use Rattle.qcow2_steps.specs.Advancing.{Advances, MayBeLeft}
@@ -41,7 +41,7 @@ use Rattle.qcow2_alloc.specs.declared.cache.MetadataCaches.{MetadataCaches}
 use Rattle.qcow2_clusters.specs.Naming.{AreNameable, NamesRun, naming_run}
 use Rattle.qcow2_clusters.specs.Progress.{Kind, Progresses}
 use Rattle.qcow2_clusters.specs.declared.space.Space.{Space}
-use Rattle.qcow2_clusters.proofs.NamedRuns.{run-gives, run-sets}
+use Rattle.qcow2_clusters.proofs.RunNames.{run-gives, run-sets}
 use Rattle.qcow2_clusters.specs.Rest.{Clusters, IsReady, lent, nothing_cached, resting}
 use Rattle.qcow2_image.specs.Committing.{CommitsUnspent, NamesHost, NamesWith, SpendsUnspent, answer_of, failed_behind_any, held_behind, reserved_of}
 use Rattle.qcow2_image.specs.Holding.{Holding, IsOwnAs, IsUncopied, claim_held, copied_to, held_home, held_of, held_place, held_with, home_or, homes_with, in_clusters, in_run, written_to}
@@ -57,11 +57,11 @@ use Rattle.qcow2_image.specs.declared.qcow2.PreparedMappingState.{PreparedMappin
 use Rattle.qcow2_image.specs.declared.qcow2.Qcow2.{Qcow2}
 use Rattle.qcow2_image.specs.declared.tables.Tables.{Tables}
 use Rattle.qcow2_image.specs.declared.unspent.Unspent.{Unspent}
-use Rattle.qcow2_image.proofs.KeepingDisks.{cell-shown, cell_of, may-left, rest-memory, safe-sound, seen_as}
+use Rattle.qcow2_image.proofs.DiskEffects.{cell-shown, cell_of, may-left, rest-memory, safe-sound, seen_as}
 use Rattle.qcow2_image.proofs.Steps.{memory-is}
 use Rattle.qcow2_alloc.specs.Freeing.{IsMarked}
 use Rattle.qcow2_alloc.specs.declared.allocation.Allocator.{Allocator}
-use Rattle.qcow2_image.proofs.Searched.{counted-at-rest, counted-in-file}
+use Rattle.qcow2_image.proofs.SearchStart.{counted-at-rest, counted-in-file}
 
 -- What is a guest cluster's own is reserved, or kept for it.
 own-either : (is_kept : Bool) (m : Metadata) (guest host : ℕ) → IsOwnAs is_kept m guest host → IsReserved m host ⊎ IsKeptFor m guest host

@@ -9,7 +9,7 @@ use Rattle.imago_access.specs.FileReads.{FilesRead}
 use Rattle.qcow2_image.specs.Steps.{KeepsImage}
 use Rattle.qcow2_image.specs.contracts.qcow2.Qcow2Seen.TheImpl.{ghosts}
 use Rattle.qcow2_image.specs.declared.qcow2.Qcow2.{Qcow2}
-use Rattle.qcow2_image.proofs.Settling.{asked-keeps}
+use Rattle.qcow2_image.proofs.RequestsWithoutChanges.{asked-keeps}
 use Rattle.qcow2_image.proofs.Steps.{layer-same, spared}
 
 -- A request that only reads, and marks nothing: all but the count of faults is as it was. It keeps what one keeps that memory was wanting

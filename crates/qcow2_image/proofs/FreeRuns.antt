@@ -24,7 +24,7 @@ use Rattle.qcow2_clusters.specs.Lengthening.{clusters_for, l1_clusters}
 use Rattle.qcow2_clusters.specs.Room.{HasFree, HasFreeClusters, LeavesRoom}
 use Rattle.qcow2_clusters.specs.Room as room
 use Rattle.qcow2_clusters.specs.declared.space.Space.{Space}
-use Rattle.qcow2_clusters.proofs.NamingTables.{resting-memory}
+use Rattle.qcow2_clusters.proofs.TableNames.{resting-memory}
 use Rattle.qcow2_image.specs.Allocating.{allocation_causes}
 use Rattle.qcow2_image.specs.FreeSpace.{HasFreeRun, IsForCluster, LacksFreeRun, LacksTable, LeavesFree, enough_for_one, enough_for_run, enough_for_table}
 use Rattle.qcow2_image.specs.Rooms.{AreCountedBefore, IsSafe, rest_of, searched_from}

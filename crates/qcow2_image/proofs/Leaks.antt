@@ -22,8 +22,8 @@ use Rattle.qcow2_image.specs.declared.mappings.Reserved.{Reserved}
 use Rattle.qcow2_image.specs.declared.qcow2.PreparedMappingState.{PreparedMappingState}
 use Rattle.qcow2_image.specs.declared.qcow2.Qcow2.{Qcow2}
 use Rattle.qcow2_image.specs.declared.tables.Tables.{Tables}
-use Rattle.qcow2_image.proofs.KeepingDisks.{rest-memory, safe-sound}
-use Rattle.qcow2_image.proofs.KeptLeaks.{leaks-same}
+use Rattle.qcow2_image.proofs.DiskEffects.{rest-memory, safe-sound}
+use Rattle.qcow2_image.proofs.LeaksByFile.{leaks-same}
 
 -- What was noted of a mapping is reserved as it was.
 pub noted-reserved : (at n : ℕ) (old new : Option Holding) → Notes at n old new → (c : ℕ) → reserved_in new c ≡ reserved_in old c

@@ -1,6 +1,6 @@
 -- How mappings are prepared: which guest clusters a range covers, what is reserved for them, and what is held then.
-pub mod Preparing
+pub mod RunPreparations
 pub mod FreshRuns
-pub mod CoveredRuns
-pub mod Reserving
-pub mod Prepared
+pub mod RangeRuns
+pub mod Reservations
+pub mod DriverPreparations

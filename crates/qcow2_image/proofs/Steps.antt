@@ -33,9 +33,9 @@ use Rattle.qcow2_image.specs.Rooms.{HasRoom, HoldsIn, IsVacant, IsZeroed, IsSafe
 use Rattle.qcow2_image.specs.Seen.{file_of, homes_of, layer_of, memory_of}
 use Rattle.qcow2_image.specs.Unspent.{holding_in}
 use Rattle.qcow2_image.specs.Steps.{KeepsTables, KeepsImage, failed_by, failed_behind}
-use Rattle.qcow2_image.proofs.Needing.{since-as}
-use Rattle.qcow2_image.proofs.Searched.{counted-same}
-use Rattle.qcow2_image.proofs.KeptLeaks.{leaks-kept}
+use Rattle.qcow2_image.proofs.CallNeeds.{since-as}
+use Rattle.qcow2_image.proofs.SearchStart.{counted-same}
+use Rattle.qcow2_image.proofs.LeaksByFile.{leaks-kept}
 
 -- The layer is what its parts make it.
 pub layer-by : (s s' : StorageState) (m m' : Bytes) (h h' : Fields) (b b' : OpenMode) (n n' : ℕ) (f f' : Bool) (k k' : Option Holding) → s'.shape ≡ s.shape → s'.bytes ≡ s.bytes → m' ≡ m → h' ≡ h → b' ≡ b → n' ≡ n → f' ≡ f → k' ≡ k

@@ -11,7 +11,7 @@ use Rattle.qcow2_types.specs.Header.{Fields, cluster_size}
 use Rattle.qcow2_types.specs.Words.{data_at}
 use Rattle.qcow2_alloc.specs.Quiet.{Metadata, IsSound}
 use Rattle.qcow2_steps.specs.Data.{IsHidden}
-use Rattle.qcow2_steps.proofs.HiddenClusters.{kept-hidden, reserved-hidden}
+use Rattle.qcow2_steps.proofs.InvisibleClusters.{kept-hidden, reserved-hidden}
 use Rattle.qcow2_image.specs.Holding.{Holding, IsHeld, IsOwnAs, claim_held, has_guest, held_home, held_place, held_with, home_or, homes_with, in_clusters, in_run}
 use Rattle.qcow2_image.specs.Homes.{cluster-there, home-of, home-there, homeless, housed, mapped, memory_is, words-home}
 use Rattle.qcow2_image.specs.Rooms.{HoldsIn, IsSafe, IsVacant, IsZeroed, HasRoom, rest_of}

@@ -5,7 +5,6 @@ pub mod Seen
 pub mod Looking
 pub mod Rooms
 pub mod Steps
-pub mod Lent
 pub mod Caching
 pub mod Opening
 pub mod Homes

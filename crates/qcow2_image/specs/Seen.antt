@@ -61,3 +61,7 @@ pub record IsSeen {S : Type 0} (g : Ghosts S) (t : Tables S g) : Type 0 where
   pub inside : has_external_data t.file.header.fields ≡ false
   pub l1 : IsL1Of (file_of g t) t.file.header.fields t.l1
   pub tables : AreOfFile (file_of g t) t.file.header.fields (cached_in t.caches)
+
+-- the image over another file
+abbrev pub with_image : {S : Type 0} {g : Ghosts S} → Qcow2 S g → S → Qcow2 S g
+with_image d w = record d { tables = record d.tables { file = record d.tables.file { image = w } } }

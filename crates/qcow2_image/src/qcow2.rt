@@ -7,12 +7,11 @@ ghost use Rattle.imago_storage.specs.declared.fault.Fault.TheVariants.{Unsupport
 ghost use Rattle.std.specs.Borrow.{Lends, sem};
 ghost use Rattle.qcow2_types.specs.Header.{has_external_data};
 ghost use Rattle.qcow2_image.specs.contracts.qcow2.Qcow2.{the_row};
-ghost use Rattle.qcow2_image.specs.Lent.{with_image};
+ghost use Rattle.qcow2_image.specs.Seen.{with_image, layer_of, memory_of};
 ghost use Rattle.qcow2_alloc.specs.Caches.{cached_in};
 ghost use Rattle.qcow2_alloc.specs.Safety.{AreTablesClean, AreBlocksClean};
 ghost use Rattle.imago_access.specs.Layer.{IsFree};
 ghost use Rattle.qcow2_image.specs.ImageLayer.{qcow2_text};
-ghost use Rattle.qcow2_image.specs.Seen.{layer_of, memory_of};
 ghost use Rattle.qcow2_image.specs.Rooms.{IsVacant, HasRoom, IsZeroed, IsStated, IsSafe, Sees, is_sound};
 ghost use Rattle.qcow2_image.specs.Writing.{HasBegun, WhyUnwritten};
 

@@ -20,7 +20,7 @@ use Rattle.qcow2_alloc.specs.Quiet.{Metadata, IsSound, IsUsed, in_memory, named_
 use Rattle.qcow2_alloc.specs.Safety.{IsCachedBlock, Safe}
 use Rattle.qcow2_alloc.proofs.Memory.FreeRuns.{over-agrees}
 use Rattle.qcow2_alloc.proofs.Memory.Patches.{all-weaker, place-there}
-use Rattle.qcow2_alloc.proofs.Memory.KeptEntries.{counters-same, table-fits}
+use Rattle.qcow2_alloc.proofs.Memory.FitsByWords.{counters-same, table-fits}
 use Rattle.qcow2_alloc.proofs.Memory.WordsKept.{block-fits, copied-stays, named-more, ordered-still}
 use Rattle.qcow2_alloc.proofs.Quiet.QuietFlushes.{still-table}
 use Rattle.qcow2_steps.specs.Data.{KeepsWords, WritesBeside}

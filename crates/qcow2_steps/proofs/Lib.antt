@@ -3,11 +3,11 @@ pub mod Headers
 pub mod WordSteps
 pub mod DataRuns
 pub mod OwnClusters
-pub mod WrittenValues
-pub mod HiddenClusters
+pub mod WriteValues
+pub mod InvisibleClusters
 pub mod QuietValues
-pub mod AddingUp
+pub mod StepSums
 pub mod Steps
-pub mod CopiedTables
+pub mod TableCopySteps
 pub mod NewTables
 pub mod LongerL1

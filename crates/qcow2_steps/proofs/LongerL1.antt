@@ -34,7 +34,7 @@ use Rattle.qcow2_alloc.proofs.Memory.FreeRuns.{over-agrees}
 use Rattle.qcow2_alloc.proofs.Memory.MemoryImage.{range-stays}
 use Rattle.qcow2_alloc.proofs.Memory.Patches.{all-weaker, patches-are, place-there}
 use Rattle.qcow2_alloc.proofs.Memory.StructureWrites.{memory-start, unmet-stays}
-use Rattle.qcow2_alloc.proofs.Memory.KeptEntries.{counters-same}
+use Rattle.qcow2_alloc.proofs.Memory.FitsByWords.{counters-same}
 use Rattle.qcow2_alloc.proofs.Memory.WordsKept.{ordered-still}
 use Rattle.qcow2_alloc.proofs.Quiet.QuietEntries.{metadata-among}
 use Rattle.qcow2_alloc.proofs.Quiet.QuietShows.{in-cluster, memory-same, named-apart}
@@ -44,7 +44,7 @@ use Rattle.qcow2_steps.specs.Values.{file_value, memory_value, own_value_by}
 use Rattle.qcow2_steps.proofs.Headers.{header-l1}
 use Rattle.qcow2_steps.proofs.QuietValues.{data-used}
 use Rattle.qcow2_steps.proofs.Values.{places-there, value-same, within}
-use Rattle.qcow2_steps.proofs.WrittenValues.{data-slot}
+use Rattle.qcow2_steps.proofs.WriteValues.{data-slot}
 
 -- A range meets the cluster of each of its places.
 inside-meets : (h : Fields) (p first long : ℕ) → first ≤ p → p < first + long → 0 < meets h (p / cluster_size h) first long

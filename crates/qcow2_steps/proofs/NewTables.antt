@@ -30,7 +30,7 @@ use Rattle.qcow2_alloc.specs.Safety.{IsCachedBlock, IsCachedTable, Safe}
 use Rattle.qcow2_alloc.proofs.Memory.MemoryWords.{slot-same}
 use Rattle.qcow2_alloc.proofs.Memory.Patches.{all-both, all-weaker, place-there, places-differ}
 use Rattle.qcow2_alloc.proofs.Memory.StructureWrites.{memory-beside, unmet-stays}
-use Rattle.qcow2_alloc.proofs.Memory.KeptEntries.{counters-same}
+use Rattle.qcow2_alloc.proofs.Memory.FitsByWords.{counters-same}
 use Rattle.qcow2_alloc.proofs.Memory.WordsKept.{block-fits, ordered-still}
 use Rattle.qcow2_alloc.proofs.Freeing.Lists.{map-same}
 use Rattle.qcow2_alloc.proofs.Quiet.QuietEntries.{metadata-among}
@@ -39,12 +39,12 @@ use Rattle.qcow2_alloc.proofs.Quiet.QuietShows.{in-cluster, memory-same, named-a
 use Rattle.qcow2_steps.specs.Advancing.{Advances}
 use Rattle.qcow2_steps.specs.NewTables.{IsOfTable, IsReadyL2Table, LosesMark, NamesTable, copied_as, old_table, slot_or_none, with_l1_word}
 use Rattle.qcow2_steps.specs.Values.{file_value, memory_value, own_value_by}
-use Rattle.qcow2_steps.proofs.CopiedTables.{copied-marks, copied-weighs, entry-copied, entry-elsewhere, entry-unmarked, none-there, references, slot-new, slot-there, swapped}
+use Rattle.qcow2_steps.proofs.TableCopySteps.{copied-marks, copied-weighs, entry-copied, entry-elsewhere, entry-unmarked, none-there, references, slot-new, slot-there, swapped}
 use Rattle.qcow2_steps.proofs.Headers.{header-same}
 use Rattle.qcow2_steps.proofs.QuietValues.{data-used}
 use Rattle.qcow2_steps.proofs.Steps.{meets-one}
 use Rattle.qcow2_steps.proofs.Values.{places-there, value-same, within}
-use Rattle.qcow2_steps.proofs.WrittenValues.{data-slot}
+use Rattle.qcow2_steps.proofs.WriteValues.{data-slot}
 
 -- what is summed of a table that there is
 chosen : (p n : ℕ) → p ≢ 0 → (if p == 0 then 0 else n) ≡ n

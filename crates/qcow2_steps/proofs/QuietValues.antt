@@ -24,7 +24,7 @@ use Rattle.qcow2_steps.specs.Advancing.{MayBeLeft}
 use Rattle.qcow2_steps.specs.Values.{file_value, memory_value, own_value, own_value_by}
 use Rattle.qcow2_steps.proofs.Headers.{header-counts}
 use Rattle.qcow2_steps.proofs.Values.{places-there, value-same, within}
-use Rattle.qcow2_steps.proofs.WrittenValues.{data-slot}
+use Rattle.qcow2_steps.proofs.WriteValues.{data-slot}
 
 -- The word of a guest cluster where tables stand at the same places, and this one word means the same.
 slot-same : (a b : ℕ) (x y : Mapping) → b ≡ a → (a ≢ 0 → y ≡ x) → (if b == 0 then unmapped else y) ≡ (if a == 0 then unmapped else x)

@@ -14,8 +14,8 @@ use Rattle.qcow2_types.proofs.Counting.Consistent.{meets-other, meets-own}
 use Rattle.qcow2_alloc.specs.FreeList.{covers}
 use Rattle.qcow2_alloc.specs.Memory.{Cached}
 use Rattle.qcow2_alloc.specs.Quiet.{Metadata, IsQuiet, IsSound, counted, covers_metadata, in_memory, named_at_all, one_at, referenced, waiting}
-use Rattle.qcow2_alloc.proofs.Handing.HandedOut.{quiet-names-no-more}
-use Rattle.qcow2_alloc.proofs.Freeing.Listed.{listed_push}
+use Rattle.qcow2_alloc.proofs.Handing.ClustersHandedOut.{quiet-names-no-more}
+use Rattle.qcow2_alloc.proofs.Freeing.ClusterOccurrences.{listed_push}
 use Rattle.qcow2_alloc.proofs.Quiet.QuietEntries.{push-quiet}
 use Rattle.qcow2_alloc.proofs.Quiet.QuietShows.{in-cluster}
 use Rattle.qcow2_alloc.proofs.Quiet.QuietThen.{used-then}
@@ -23,12 +23,12 @@ use Rattle.qcow2_steps.specs.Advancing.{Advances}
 use Rattle.qcow2_steps.specs.Data.{AreNamedFor, GivesData, WritesBeside}
 use Rattle.qcow2_steps.specs.Values.{memory_value, own_value_by}
 use Rattle.qcow2_steps.specs.Words.{ChangesWord, DropsNames, GivesWord, IsOfOther, IsOfWord, IsReserved, NamesCluster}
-use Rattle.qcow2_steps.proofs.AddingUp.{advances-then, advances-weaker}
+use Rattle.qcow2_steps.proofs.StepSums.{advances-then, advances-weaker}
 use Rattle.qcow2_steps.proofs.DataRuns.{beside-sound, beside-used, beside-words}
 use Rattle.qcow2_steps.proofs.Headers.{header-counts, header-same}
 use Rattle.qcow2_steps.proofs.QuietValues.{quiet-entries, quiet-left, quiet-values}
 use Rattle.qcow2_steps.proofs.WordSteps.{dropped-owed, dropped-sound, named-sound, used-after}
-use Rattle.qcow2_steps.proofs.WrittenValues.{written-memory, written-stops}
+use Rattle.qcow2_steps.proofs.WriteValues.{written-memory, written-stops}
 
 pub quiet-advances : (m m' : Metadata) (handed taken : ℕ → ℕ) → IsSound m → IsSound m' → IsQuiet handed taken m m' → ((c : ℕ) → 0 < referenced m c → taken c ≡ 0)
     → Advances (λ p v. ⊥) (λ q. ⊥) (λ guest. ⊥) handed taken m m'

@@ -9,7 +9,7 @@ use Rattle.qcow2_types.proofs.Counting.Either.{refs-cached}
 use Rattle.qcow2_alloc.specs.FreeList.{covers}
 use Rattle.qcow2_alloc.specs.Memory.{Cached}
 use Rattle.qcow2_alloc.specs.Quiet.{Metadata, IsSound, IsUsed, counted, covers_metadata, in_memory, named_at_all, referenced, waiting}
-use Rattle.qcow2_alloc.proofs.Freeing.Listed.{listed_push}
+use Rattle.qcow2_alloc.proofs.Freeing.ClusterOccurrences.{listed_push}
 use Rattle.qcow2_alloc.proofs.Quiet.QuietEntries.{metadata-among, metadata_push}
 use Rattle.qcow2_steps.specs.Words.{ChangesWord, DropsNames, IsReserved, NamesCluster}
 use Rattle.qcow2_steps.proofs.Values.{places-there}

@@ -28,17 +28,17 @@ use Rattle.qcow2_alloc.specs.Memory.{Cached, written, written_table, written_blo
 use Rattle.qcow2_alloc.specs.Putting.{BlockInserted, refusal_of}
 use Rattle.qcow2_alloc.specs.Safety.{IsCachedBlock, AreTablesClean}
 use Rattle.qcow2_alloc.proofs.Causes.{storage-cause}
-use Rattle.qcow2_alloc.proofs.Caching.CachedEntries.{block-kind-laws}
-use Rattle.qcow2_alloc.proofs.Caching.Finding.{Found}
-use Rattle.qcow2_alloc.proofs.Caching.LettingIn.{tables-idle}
-use Rattle.qcow2_alloc.proofs.Caching.Putting.{PutSo}
-use Rattle.qcow2_alloc.proofs.Caching.Searching.{counts-wider}
+use Rattle.qcow2_alloc.proofs.Caching.SingleEntries.{block-kind-laws}
+use Rattle.qcow2_alloc.proofs.Caching.EntrySearches.{Found}
+use Rattle.qcow2_alloc.proofs.Caching.Admission.{tables-idle}
+use Rattle.qcow2_alloc.proofs.Caching.EntryPuts.{PutSo}
+use Rattle.qcow2_alloc.proofs.Caching.SearchOutcomes.{counts-wider}
 use Rattle.qcow2_alloc.proofs.Caching.Sides.{Beside, Side, SideLaws, WrittenFirst}
-use Rattle.qcow2_alloc.proofs.Caching.Staying.{block-stays}
-use Rattle.qcow2_alloc.proofs.Flushing.Counting.{block-counted}
+use Rattle.qcow2_alloc.proofs.Caching.FitsAfterFlushes.{block-stays}
+use Rattle.qcow2_alloc.proofs.Flushing.FlushRefusals.{block-counted}
 use Rattle.qcow2_alloc.proofs.Flushing.Faultless.{never-mild}
-use Rattle.qcow2_alloc.proofs.Flushing.FlushingBlocks.{block-flushed, flushed-clean}
-use Rattle.qcow2_alloc.proofs.Flushing.Kept.{block-kept}
+use Rattle.qcow2_alloc.proofs.Flushing.BlockFlushes.{block-flushed, flushed-clean}
+use Rattle.qcow2_alloc.proofs.Flushing.EntriesAfterWrites.{block-kept}
 use Rattle.qcow2_alloc.proofs.Memory.EntryKinds.{block_kind}
 use Rattle.qcow2_alloc.proofs.Memory.SafeLaws.{safe-reach}
 

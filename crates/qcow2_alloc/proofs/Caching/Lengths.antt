@@ -24,8 +24,8 @@ use Rattle.qcow2_alloc.specs.Caches.{cached_file, cached_in, order_of}
 use Rattle.qcow2_alloc.specs.Finding.{BlockFound, LetsBlockIn, LetsIn}
 use Rattle.qcow2_alloc.specs.Going.{Behind, CachedStep, InTurn, IsNoShorter, WritesBlocks, WritesTables}
 use Rattle.qcow2_alloc.specs.Memory.{Cached}
-use Rattle.qcow2_alloc.proofs.Caching.LettingIn.{is-order}
-use Rattle.qcow2_alloc.proofs.Caching.Readying.{is-there}
+use Rattle.qcow2_alloc.proofs.Caching.Admission.{is-order}
+use Rattle.qcow2_alloc.proofs.Caching.EntryLoads.{is-there}
 use Rattle.qcow2_alloc.proofs.Flushing.Turns.{each-related}
 
 -- A file that stays isn't shorter,

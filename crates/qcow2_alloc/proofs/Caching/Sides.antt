@@ -19,11 +19,11 @@ use Rattle.qcow2_alloc.specs.Finding.{LetsIn, search_causes}
 use Rattle.qcow2_alloc.specs.Going.{Going, CachedStep, Always, WasNotCutOff, writing_causes}
 use Rattle.qcow2_alloc.specs.Memory.{Cached, memory}
 use Rattle.qcow2_alloc.specs.Safety.{Safe, IsLeft}
-use Rattle.qcow2_alloc.proofs.Caching.CachedEntries.{EntryLaws, entry-leaves}
-use Rattle.qcow2_alloc.proofs.Caching.Entering.{away-of, leaves-safe, comes-safe}
+use Rattle.qcow2_alloc.proofs.Caching.SingleEntries.{EntryLaws, entry-leaves}
+use Rattle.qcow2_alloc.proofs.Caching.EntryTraffic.{away-of, leaves-safe, comes-safe}
 use Rattle.qcow2_alloc.proofs.Caching.Places.{away-of-all}
-use Rattle.qcow2_alloc.proofs.Flushing.Counting.{Counted}
-use Rattle.qcow2_alloc.proofs.Flushing.Going.{kept-same, going-quiet}
+use Rattle.qcow2_alloc.proofs.Flushing.FlushRefusals.{Counted}
+use Rattle.qcow2_alloc.proofs.Flushing.WriteSequences.{kept-same, going-quiet}
 use Rattle.qcow2_alloc.proofs.Memory.EntryKinds.{EntryKind}
 use Rattle.qcow2_alloc.proofs.Memory.Patches.{shaped-in}
 

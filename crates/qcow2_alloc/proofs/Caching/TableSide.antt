@@ -28,15 +28,15 @@ use Rattle.qcow2_alloc.specs.Going.{Going, Always, ReadyTables, IsMild, WasNotCu
 use Rattle.qcow2_alloc.specs.Memory.{Cached, written, written_table, written_block}
 use Rattle.qcow2_alloc.specs.Putting.{TableInserted}
 use Rattle.qcow2_alloc.specs.Safety.{IsCachedTable, AreBlocksClean}
-use Rattle.qcow2_alloc.proofs.Caching.CachedEntries.{table-kind-laws}
-use Rattle.qcow2_alloc.proofs.Caching.Finding.{Found}
-use Rattle.qcow2_alloc.proofs.Caching.LettingIn.{blocks-idle}
-use Rattle.qcow2_alloc.proofs.Caching.Putting.{PutSo}
+use Rattle.qcow2_alloc.proofs.Caching.SingleEntries.{table-kind-laws}
+use Rattle.qcow2_alloc.proofs.Caching.EntrySearches.{Found}
+use Rattle.qcow2_alloc.proofs.Caching.Admission.{blocks-idle}
+use Rattle.qcow2_alloc.proofs.Caching.EntryPuts.{PutSo}
 use Rattle.qcow2_alloc.proofs.Caching.Sides.{Beside, Side, SideLaws, WrittenFirst}
-use Rattle.qcow2_alloc.proofs.Caching.Staying.{table-stays}
-use Rattle.qcow2_alloc.proofs.Flushing.Counting.{table-counted}
-use Rattle.qcow2_alloc.proofs.Flushing.FlushingTables.{table-flushed, flushed-clean}
-use Rattle.qcow2_alloc.proofs.Flushing.Kept.{table-kept}
+use Rattle.qcow2_alloc.proofs.Caching.FitsAfterFlushes.{table-stays}
+use Rattle.qcow2_alloc.proofs.Flushing.FlushRefusals.{table-counted}
+use Rattle.qcow2_alloc.proofs.Flushing.TableFlushes.{table-flushed, flushed-clean}
+use Rattle.qcow2_alloc.proofs.Flushing.EntriesAfterWrites.{table-kept}
 use Rattle.qcow2_alloc.proofs.Memory.EntryKinds.{table_kind}
 use Rattle.qcow2_alloc.proofs.Memory.SafeLaws.{safe-reach}
 

@@ -38,7 +38,7 @@ use Rattle.qcow2_alloc.proofs.Memory.MemoryWords.{places-in-memory}
 use Rattle.qcow2_alloc.proofs.Memory.Patches.{all-weaker, block-length, place-there, shaped-in}
 use Rattle.qcow2_alloc.proofs.Quiet.QuietFlushes.{still-table}
 use Rattle.qcow2_alloc.proofs.Quiet.QuietShows.{from-start, mapping-meets, in-cluster}
-use Rattle.qcow2_alloc.proofs.Memory.KeptEntries.{table-fits, counters-same}
+use Rattle.qcow2_alloc.proofs.Memory.FitsByWords.{table-fits, counters-same}
 use Rattle.qcow2_alloc.proofs.Memory.WordsKept.{word-named, named-more, copied-stays, ordered-still, block-fits}
 
 -- What is in memory agrees where the file does.

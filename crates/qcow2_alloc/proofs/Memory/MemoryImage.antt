@@ -20,7 +20,7 @@ use Rattle.qcow2_alloc.specs.Memory.{Cached, patches, memory}
 use Rattle.qcow2_alloc.specs.Safety.{Safe}
 use Rattle.qcow2_alloc.proofs.Memory.Patches.{patches-are}
 use Rattle.qcow2_alloc.proofs.Memory.MemoryWords.{places-in-memory}
-use Rattle.qcow2_alloc.proofs.Flushing.WritingTables.{memory-sound}
+use Rattle.qcow2_alloc.proofs.Flushing.TableWriteBacks.{memory-sound}
 
 module _ (f : Bytes) (H : Header) (was : IsConsistent f H) where
   -- a table or a block touches itself

@@ -9,7 +9,7 @@ use Rattle.qcow2_types.specs.Bytes.{Bytes, bytes_of, splice}
 use Rattle.qcow2_types.specs.Header.{Header}
 use Rattle.qcow2_alloc.specs.Quiet.{Metadata, IsSound, IsQuiet, ShowsEither, IsIn, Quietly}
 use Rattle.qcow2_alloc.proofs.Flushing.Faultless.{never-mild}
-use Rattle.qcow2_alloc.proofs.Flushing.FlushingEntries.{spliced-bytes}
+use Rattle.qcow2_alloc.proofs.Flushing.EntryFlushes.{spliced-bytes}
 use Rattle.qcow2_alloc.specs.Going.{WasNotCutOff}
 use Rattle.qcow2_alloc.proofs.Quiet.QuietFlushes.{quietly-weaker}
 

@@ -15,7 +15,7 @@ use Rattle.qcow2_alloc.specs.FreeList.{listed}
 use Rattle.qcow2_alloc.specs.Memory.{Cached}
 use Rattle.qcow2_alloc.specs.Safety.{Safe}
 use Rattle.qcow2_alloc.specs.Quiet.{Metadata, metadata_in, in_memory, counted, referenced, named_at_all, waiting, waiting_metadata, one_at, IsSound, IsQuiet}
-use Rattle.qcow2_alloc.proofs.Memory.ChangingCounters.{counter-raised, counter-lowered}
+use Rattle.qcow2_alloc.proofs.Memory.CounterChanges.{counter-raised, counter-lowered}
 use Rattle.qcow2_alloc.proofs.Memory.MemoryWords.{places-in-memory}
 use Rattle.qcow2_alloc.proofs.Quiet.QuietShows.{file-shows}
 

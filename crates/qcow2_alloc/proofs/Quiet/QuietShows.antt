@@ -25,7 +25,7 @@ use Rattle.qcow2_alloc.specs.declared.cache.CacheDependency.{CacheDependency}
 use Rattle.qcow2_alloc.specs.Memory.{Cached, patches, memory}
 use Rattle.qcow2_alloc.specs.Safety.{Safe, IsLeft}
 use Rattle.qcow2_alloc.specs.Quiet.{Metadata, in_memory, IsSound, ShowsEither}
-use Rattle.qcow2_alloc.proofs.Flushing.Going.{left-same}
+use Rattle.qcow2_alloc.proofs.Flushing.WriteSequences.{left-same}
 use Rattle.qcow2_alloc.proofs.Memory.MemoryImage.{range-stays}
 use Rattle.qcow2_alloc.proofs.Memory.Patches.{all-weaker, patches-are}
 

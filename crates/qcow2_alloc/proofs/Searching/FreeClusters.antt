@@ -20,7 +20,7 @@ use Rattle.qcow2_alloc.specs.Safety.{IsOrdered, IsSettled, AreBlocksClean}
 use Rattle.qcow2_alloc.specs.Memory.{Cached, memory}
 use Rattle.qcow2_alloc.proofs.Memory.MemoryWords.{counts-same}
 use Rattle.qcow2_alloc.proofs.Memory.SafeLaws.{settled-names}
-use Rattle.qcow2_alloc.proofs.Freeing.Listed.{covers-meets}
+use Rattle.qcow2_alloc.proofs.Freeing.ClusterOccurrences.{covers-meets}
 use Rattle.qcow2_alloc.proofs.Quiet.QuietEntries.{push-quiet}
 use Rattle.qcow2_alloc.proofs.Memory.WordsKept.{structure-named}
 

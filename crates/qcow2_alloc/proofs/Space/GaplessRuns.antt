@@ -11,11 +11,11 @@ use Rattle.qcow2_alloc.specs.GrowingTables.{TableGrown}
 use Rattle.qcow2_alloc.specs.Quiet.{Metadata, IsSound, counted}
 use Rattle.qcow2_alloc.specs.ReadyingBlocks.{HasMade}
 use Rattle.qcow2_alloc.specs.SearchingClusters.{IsFirstRun}
-use Rattle.qcow2_alloc.proofs.Handing.Allocating.{counted-still}
-use Rattle.qcow2_alloc.proofs.Growth.FindingRoom.{lacking-few}
-use Rattle.qcow2_alloc.proofs.Growth.GrownTables.{covers-inside}
-use Rattle.qcow2_alloc.proofs.Space.KeepingRoom.{covered-inside, fill-near, quotient-few, room-long}
-use Rattle.qcow2_alloc.proofs.Space.KeptRooms.{counted-inside}
+use Rattle.qcow2_alloc.proofs.Handing.CountSequences.{counted-still}
+use Rattle.qcow2_alloc.proofs.Growth.FirstRooms.{lacking-few}
+use Rattle.qcow2_alloc.proofs.Growth.LongerReftables.{covers-inside}
+use Rattle.qcow2_alloc.proofs.Space.RoomConsumption.{covered-inside, fill-near, quotient-few, room-long}
+use Rattle.qcow2_alloc.proofs.Space.RoomPerTurn.{counted-inside}
 use Rattle.qcow2_alloc.proofs.Memory.Patches.{shaped-in}
 use Rattle.qcow2_alloc.proofs.Space.SizesOfSpace.{counters-wide}
 

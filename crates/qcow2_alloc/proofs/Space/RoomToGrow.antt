@@ -4,8 +4,8 @@ use Rattle.std.proofs.lemmas.Bool.{cases_lt}
 use Rattle.std.proofs.Math.Nat.{mul-le-mul, div-mul-le_self, lt-div-mul-add, mul-div_left}
 use Rattle.qcow2_metadata.specs.Tables.{IsEnough, IsGrownLength, TableValue}
 use Rattle.qcow2_alloc.specs.Growing.{lacking, IsFirstRoom}
-use Rattle.qcow2_alloc.proofs.Growth.FindingRoom.{lacking-few}
-use Rattle.qcow2_alloc.proofs.Space.KeepingRoom.{RoomKept, edge, edge-near, room-near, room-long, quotient-few}
+use Rattle.qcow2_alloc.proofs.Growth.FirstRooms.{lacking-few}
+use Rattle.qcow2_alloc.proofs.Space.RoomConsumption.{RoomKept, edge, edge-near, room-near, room-long, quotient-few}
 
 -- The sizes: blocks of k counters, and n clusters that are asked for, for which Q are enough; so many are free behind s, up to e.
 pub record AreSizes (k n space Q s e : ℕ) : Type 0 where

@@ -13,8 +13,8 @@ use Rattle.qcow2_alloc.specs.GrowingTables.{NoPlaceToGrow, TableGrown}
 use Rattle.qcow2_alloc.specs.Quiet.{Metadata, IsSound, counted}
 use Rattle.qcow2_alloc.specs.ReadyingBlocks.{HasMade, NoneCanBeMade}
 use Rattle.qcow2_alloc.specs.SearchingClusters.{IsFirstRun}
-use Rattle.qcow2_alloc.proofs.Space.KeepingRoom.{edge-free, edge-near}
-use Rattle.qcow2_alloc.proofs.Space.KeptRooms.{LeftEnd, left-end, HasGrown, Keeping, keeping-start, keeping-same, keeping-filled, grown-filled, has-grown, found-ends, found-counted, found-near, found-within, place-there-is}
+use Rattle.qcow2_alloc.proofs.Space.RoomConsumption.{edge-free, edge-near}
+use Rattle.qcow2_alloc.proofs.Space.RoomPerTurn.{LeftEnd, left-end, HasGrown, Keeping, keeping-start, keeping-same, keeping-filled, grown-filled, has-grown, found-ends, found-counted, found-near, found-within, place-there-is}
 use Rattle.qcow2_alloc.proofs.Memory.Patches.{shaped-in}
 use Rattle.qcow2_alloc.proofs.Space.RoomToGrow.{AreSizes, least_run, least-fits, least-holds}
 use Rattle.qcow2_alloc.proofs.Space.SizesOfSpace.{counters-wide, roomy-sizes, space-blocks, space-reach}

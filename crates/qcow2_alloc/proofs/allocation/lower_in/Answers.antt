@@ -1,5 +1,5 @@
 use Rattle.qcow2_alloc.specs.Allocators.{Lowers}
-use Rattle.qcow2_alloc.proofs.Caching.UsingLent.{block-used}
+use Rattle.qcow2_alloc.proofs.Caching.EntryLoans.{block-used}
 use Rattle.qcow2_alloc.proofs.allocation.lower_in.Goals as goal
 
 pub returns : goal.returns

@@ -1,4 +1,4 @@
-use Rattle.qcow2_alloc.proofs.Memory.DroppingNames.{discard-drops}
+use Rattle.qcow2_alloc.proofs.Memory.NameDrops.{discard-drops}
 use Rattle.qcow2_alloc.proofs.laws.discarding_a_cluster.Goals as goal
 
 pub returns : goal.returns

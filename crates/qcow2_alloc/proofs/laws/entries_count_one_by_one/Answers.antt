@@ -1,5 +1,5 @@
 use Rattle.std.proofs.Common.{refl}
-use Rattle.qcow2_alloc.proofs.Freeing.Listed.{listed_push, listed-remove, listed-shortened, covers-none, covers-one, covers-meets}
+use Rattle.qcow2_alloc.proofs.Freeing.ClusterOccurrences.{listed_push, listed-remove, listed-shortened, covers-none, covers-one, covers-meets}
 use Rattle.qcow2_alloc.proofs.laws.entries_count_one_by_one.Goals as goal
 
 pub returns : goal.returns

@@ -1,4 +1,4 @@
-use Rattle.qcow2_alloc.proofs.Blocks.MakingBlocks.{own-block-made}
+use Rattle.qcow2_alloc.proofs.Blocks.BlockCreation.{own-block-made}
 use Rattle.qcow2_alloc.proofs.laws.making_a_block_that_counts_itself.Goals as goal
 
 pub returns : goal.returns

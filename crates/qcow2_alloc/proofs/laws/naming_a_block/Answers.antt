@@ -1,4 +1,4 @@
-use Rattle.qcow2_alloc.proofs.Blocks.NamingBlocks.{counted-block-quietly, own-block-quietly, names-block}
+use Rattle.qcow2_alloc.proofs.Blocks.BlockNames.{counted-block-quietly, own-block-quietly, names-block}
 use Rattle.qcow2_alloc.proofs.laws.naming_a_block.Goals as goal
 
 pub returns : goal.returns

@@ -1,4 +1,4 @@
-use Rattle.qcow2_alloc.proofs.Memory.ChangingWords.{word-drops}
+use Rattle.qcow2_alloc.proofs.Memory.WordChanges.{word-drops}
 use Rattle.qcow2_alloc.proofs.laws.naming_less.Goals as goal
 
 pub returns : goal.returns

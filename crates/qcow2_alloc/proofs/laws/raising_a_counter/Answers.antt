@@ -1,4 +1,4 @@
-use Rattle.qcow2_alloc.proofs.Memory.ChangingCounters.{counter-raised}
+use Rattle.qcow2_alloc.proofs.Memory.CounterChanges.{counter-raised}
 use Rattle.qcow2_alloc.proofs.laws.raising_a_counter.Goals as goal
 
 pub returns : goal.returns

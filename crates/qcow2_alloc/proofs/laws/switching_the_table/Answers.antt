@@ -1,4 +1,4 @@
-use Rattle.qcow2_alloc.proofs.Growth.SwitchingTables.{switch-quietly, switch-names, pointer-loads, sound-sizes}
+use Rattle.qcow2_alloc.proofs.Growth.TableSwitches.{switch-quietly, switch-names, pointer-loads, sound-sizes}
 use Rattle.qcow2_alloc.proofs.laws.switching_the_table.Goals as goal
 
 pub returns : goal.returns

@@ -1,6 +1,6 @@
 use Rattle.std.proofs.Common.{refl}
 use Rattle.qcow2_types.specs.Bytes.{bytes_of}
-use Rattle.qcow2_alloc.proofs.Growth.LoadingTable.{verdict-consistent, opened-sound, allocator-refused, l1-loaded, l1-refused}
+use Rattle.qcow2_alloc.proofs.Growth.TableLoads.{verdict-consistent, opened-sound, allocator-refused, l1-loaded, l1-refused}
 use Rattle.qcow2_alloc.proofs.laws.what_a_checker_accepts_opens_sound.Goals as goal
 
 pub returns : goal.returns

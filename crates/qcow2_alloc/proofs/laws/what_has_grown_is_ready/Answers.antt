@@ -1,4 +1,4 @@
-use Rattle.qcow2_alloc.proofs.Growth.GrownTables.{grown-ready, newly-run, old-counts, new-counts}
+use Rattle.qcow2_alloc.proofs.Growth.LongerReftables.{grown-ready, newly-run, old-counts, new-counts}
 use Rattle.qcow2_alloc.proofs.laws.what_has_grown_is_ready.Goals as goal
 
 pub returns : goal.returns

@@ -1,7 +1,7 @@
 use Rattle.std.specs.Prelude.{◌≡◌, ⊤, Ok}
 use Rattle.qcow2_alloc.specs.Going.{AreTablesInReach, AreBlocksInReach, WasNotCutOff}
 use Rattle.qcow2_alloc.proofs.Quiet.QuietFlushes.{flushes-quietly, going-quietly, memory-quietly}
-use Rattle.qcow2_alloc.proofs.Quiet.QuietAnnouncing.{announced-quietly, whole-quietly}
+use Rattle.qcow2_alloc.proofs.Quiet.QuietAnnouncements.{announced-quietly, whole-quietly}
 use Rattle.qcow2_alloc.proofs.laws.what_is_done_quietly.Goals as goal
 
 pub returns : goal.returns

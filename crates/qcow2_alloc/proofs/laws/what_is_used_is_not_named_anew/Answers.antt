@@ -1,4 +1,4 @@
-use Rattle.qcow2_alloc.proofs.Handing.HandedOut.{quiet-names-no-more, unnamed-used}
+use Rattle.qcow2_alloc.proofs.Handing.ClustersHandedOut.{quiet-names-no-more, unnamed-used}
 use Rattle.qcow2_alloc.proofs.laws.what_is_used_is_not_named_anew.Goals as goal
 
 pub returns : goal.returns

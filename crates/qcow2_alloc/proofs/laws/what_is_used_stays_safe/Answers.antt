@@ -1,4 +1,4 @@
-use Rattle.qcow2_alloc.proofs.Caching.Using.{table-used, block-used}
+use Rattle.qcow2_alloc.proofs.Caching.EntryUses.{table-used, block-used}
 use Rattle.qcow2_alloc.proofs.laws.what_is_used_stays_safe.Goals as goal
 
 pub returns : goal.returns

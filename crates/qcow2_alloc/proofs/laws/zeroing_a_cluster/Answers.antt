@@ -1,4 +1,4 @@
-use Rattle.qcow2_alloc.proofs.Memory.DroppingNames.{zero-drops}
+use Rattle.qcow2_alloc.proofs.Memory.NameDrops.{zero-drops}
 use Rattle.qcow2_alloc.proofs.laws.zeroing_a_cluster.Goals as goal
 
 pub returns : goal.returns

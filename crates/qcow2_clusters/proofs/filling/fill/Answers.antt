@@ -1,5 +1,5 @@
 use Rattle.qcow2_clusters.specs.Rest.{lent}
-use Rattle.qcow2_clusters.proofs.FillingKept.{fills}
+use Rattle.qcow2_clusters.proofs.ZeroClusterFills.{fills}
 use Rattle.qcow2_clusters.proofs.filling.fill.Goals as goal
 
 pub returns-clause-fills : goal.returns-clause-fills

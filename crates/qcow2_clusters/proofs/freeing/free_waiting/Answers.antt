@@ -4,9 +4,9 @@ use Rattle.qcow2_alloc.specs.Allocators.{mark_of}
 use Rattle.qcow2_alloc.specs.Freeing.{Frees}
 use Rattle.qcow2_alloc.specs.State.{lent as allocating}
 use Rattle.qcow2_clusters.specs.Rest.{lent}
-use Rattle.qcow2_clusters.proofs.Ending.{begun}
-use Rattle.qcow2_clusters.proofs.FreeingWaiting.{frees-waiting}
-use Rattle.qcow2_clusters.proofs.Resting.{freed-unpinned}
+use Rattle.qcow2_clusters.proofs.EndsAtRest.{begun}
+use Rattle.qcow2_clusters.proofs.FreesAtRest.{frees-waiting}
+use Rattle.qcow2_clusters.proofs.StartsAtRest.{freed-unpinned}
 use Rattle.qcow2_clusters.proofs.freeing.free_waiting.Goals as goal
 
 pub settle-requires : goal.settle-requires

@@ -10,11 +10,11 @@ use Rattle.qcow2_alloc.specs.FreeList.{FreeList}
 use Rattle.qcow2_clusters.specs.Lengthening.{StandsIn, clusters_for}
 use Rattle.qcow2_clusters.specs.Rest.{lent}
 use Rattle.qcow2_clusters.specs.Storing.{StoresRunUnsettled}
-use Rattle.qcow2_clusters.proofs.Sparing.{run-spared}
-use Rattle.qcow2_clusters.proofs.AllocatingRuns.{run-bits, run-refused}
-use Rattle.qcow2_clusters.proofs.LengtheningL1.{some-taken, words-fit}
-use Rattle.qcow2_clusters.proofs.Settled.{done_so, refused_so}
-use Rattle.qcow2_clusters.proofs.StoringRuns.{stored-refused, stored-unsettled}
+use Rattle.qcow2_clusters.proofs.EarlyRefusals.{run-spared}
+use Rattle.qcow2_clusters.proofs.AllocationsAtRest.{run-bits, run-refused}
+use Rattle.qcow2_clusters.proofs.L1Growth.{some-taken, words-fit}
+use Rattle.qcow2_clusters.proofs.Settlement.{done_so, refused_so}
+use Rattle.qcow2_clusters.proofs.RunStores.{stored-refused, stored-unsettled}
 use Rattle.qcow2_alloc.proofs.Faults.{handed-on}
 use Rattle.qcow2_clusters.proofs.lengthening.allocate_and_write.Goals as goal
 

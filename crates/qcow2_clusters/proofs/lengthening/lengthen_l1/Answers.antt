@@ -5,8 +5,8 @@ use Rattle.qcow2_types.specs.Pending.{FreeEntry}
 use Rattle.qcow2_alloc.specs.FreeList.{FreeList}
 use Rattle.qcow2_clusters.specs.Lengthening.{IsTooLong, IsTop, LengthensL1, clusters_for}
 use Rattle.qcow2_clusters.specs.Rest.{IsReady, lent}
-use Rattle.qcow2_clusters.proofs.Sparing.{nothing-begun}
-use Rattle.qcow2_clusters.proofs.LengtheningL1.{clusters-taken, grow-refused, l1-named, l1-not-begun, l1-not-named, l1-not-placed, l1-not-stored}
+use Rattle.qcow2_clusters.proofs.EarlyRefusals.{nothing-begun}
+use Rattle.qcow2_clusters.proofs.L1Growth.{clusters-taken, grow-refused, l1-named, l1-not-begun, l1-not-named, l1-not-placed, l1-not-stored}
 use Rattle.qcow2_alloc.proofs.Faults.{handed-on}
 use Rattle.qcow2_clusters.proofs.lengthening.lengthen_l1.Goals as goal
 

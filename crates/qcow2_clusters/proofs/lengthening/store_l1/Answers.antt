@@ -1,7 +1,7 @@
 use Rattle.qcow2_types.specs.TableBytes.{table_bytes}
 use Rattle.qcow2_clusters.specs.Lengthening.{clusters_for}
 use Rattle.qcow2_clusters.specs.Rest.{lent}
-use Rattle.qcow2_clusters.proofs.LengtheningL1.{stands-still, words-fit}
+use Rattle.qcow2_clusters.proofs.L1Growth.{stands-still, words-fit}
 use Rattle.qcow2_clusters.proofs.lengthening.store_l1.Goals as goal
 use Rattle.std.proofs.Common.{length}
 

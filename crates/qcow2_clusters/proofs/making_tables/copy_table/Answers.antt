@@ -6,8 +6,8 @@ use Rattle.qcow2_types.specs.Pending.{FreeEntry}
 use Rattle.qcow2_alloc.specs.FreeList.{FreeList}
 use Rattle.qcow2_clusters.specs.MakingTables.{CopiesTable, FindsTable, IsClusterOf}
 use Rattle.qcow2_clusters.specs.Rest.{lent}
-use Rattle.qcow2_clusters.proofs.Sparing.{nothing-begun, spared-behind, words-same}
-use Rattle.qcow2_clusters.proofs.CopyingTables.{content-behind, copied-so, found-behind, none-found, not-copied, not-found, not-read, read-before}
+use Rattle.qcow2_clusters.proofs.EarlyRefusals.{nothing-begun, spared-behind, words-same}
+use Rattle.qcow2_clusters.proofs.TableCopies.{content-behind, copied-so, found-behind, none-found, not-copied, not-found, not-read, read-before}
 use Rattle.qcow2_alloc.proofs.Faults.{handed-on}
 use Rattle.qcow2_clusters.proofs.making_tables.copy_table.Goals as goal
 

@@ -5,8 +5,8 @@ use Rattle.qcow2_types.specs.Header.{cluster_size}
 use Rattle.qcow2_alloc.specs.FreeList.{FreeList}
 use Rattle.qcow2_clusters.specs.MakingTables.{MakesTable, PlacesTable}
 use Rattle.qcow2_clusters.specs.Rest.{lent}
-use Rattle.qcow2_clusters.proofs.Sparing.{nothing-begun, words-same}
-use Rattle.qcow2_clusters.proofs.CopyingTables.{made, not-filled, not-made}
+use Rattle.qcow2_clusters.proofs.EarlyRefusals.{nothing-begun, words-same}
+use Rattle.qcow2_clusters.proofs.TableCopies.{made, not-filled, not-made}
 use Rattle.qcow2_alloc.proofs.Faults.{handed-on}
 use Rattle.qcow2_clusters.proofs.making_tables.make_table.Goals as goal
 

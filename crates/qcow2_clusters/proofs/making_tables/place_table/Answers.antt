@@ -7,8 +7,8 @@ use Rattle.qcow2_alloc.specs.FreeList.{FreeList}
 use Rattle.qcow2_alloc.proofs.Memory.Patches.{place-there}
 use Rattle.qcow2_clusters.specs.declared.space.Space.{Space}
 use Rattle.qcow2_clusters.specs.Rest.{lent}
-use Rattle.qcow2_clusters.proofs.Sparing.{nothing-begun}
-use Rattle.qcow2_clusters.proofs.MakingTables.{entered-so, not-entered, not-placed, not-stored}
+use Rattle.qcow2_clusters.proofs.EarlyRefusals.{nothing-begun}
+use Rattle.qcow2_clusters.proofs.TableCreation.{entered-so, not-entered, not-placed, not-stored}
 use Rattle.qcow2_alloc.proofs.Faults.{handed-on}
 use Rattle.qcow2_clusters.proofs.making_tables.place_table.Goals as goal
 

@@ -1,7 +1,7 @@
 use Rattle.std.proofs.Common.{sym}
 use Rattle.std.specs.Prelude.{◌%◌}
 use Rattle.qcow2_types.specs.Header.{words_of_cluster}
-use Rattle.qcow2_alloc.proofs.Caching.UsingLent.{table-used}
+use Rattle.qcow2_alloc.proofs.Caching.EntryLoans.{table-used}
 use Rattle.qcow2_clusters.specs.Naming.{NamesIn, listing}
 use Rattle.qcow2_clusters.proofs.naming.name_in_table.Goals as goal
 

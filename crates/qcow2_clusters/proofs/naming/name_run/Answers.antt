@@ -4,8 +4,8 @@ use Rattle.qcow2_types.specs.Header.{words_of_cluster}
 use Rattle.qcow2_clusters.specs.Naming.{NamesIn, listing}
 use Rattle.qcow2_clusters.specs.Rest.{lent}
 use Rattle.qcow2_clusters.proofs.LoneTables.{used-unpinned}
-use Rattle.qcow2_clusters.proofs.NamedAtRest.{names-by}
-use Rattle.qcow2_clusters.proofs.NamedRuns.{near-each}
+use Rattle.qcow2_clusters.proofs.NamesAtRest.{names-by}
+use Rattle.qcow2_clusters.proofs.RunNames.{near-each}
 use Rattle.qcow2_clusters.proofs.naming.name_run.Goals as goal
 
 pub settle-requires : goal.settle-requires

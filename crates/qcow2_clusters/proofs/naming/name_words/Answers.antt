@@ -1,7 +1,7 @@
 use Rattle.std.proofs.Common.{◌+◌, ℕ, arith, refl, ap, sym, subst, ◌∙◌}
 use Rattle.qcow2_metadata.specs.Places.{IsInReach}
 use Rattle.qcow2_clusters.specs.Naming.{NamesWord, listing}
-use Rattle.qcow2_clusters.proofs.NamedRuns.{near-each, words-layout, words-length, words-more, words-none}
+use Rattle.qcow2_clusters.proofs.RunNames.{near-each, words-layout, words-length, words-more, words-none}
 use Rattle.qcow2_clusters.proofs.naming.name_words.Goals as goal
 
 pub loop-next-init : goal.loop-next-init

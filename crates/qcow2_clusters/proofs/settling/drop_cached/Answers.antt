@@ -1,5 +1,5 @@
 use Rattle.std.proofs.Common.{ap}
-use Rattle.qcow2_clusters.proofs.Settled.{dropped-empty}
+use Rattle.qcow2_clusters.proofs.Settlement.{dropped-empty}
 use Rattle.qcow2_clusters.proofs.settling.drop_cached.Goals as goal
 
 pub returns-clause-empty : goal.returns-clause-empty

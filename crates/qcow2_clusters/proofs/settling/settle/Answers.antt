@@ -3,7 +3,7 @@ use Rattle.qcow2_alloc.specs.Caches.{HasRoomOf, cached_in, order_of}
 use Rattle.qcow2_alloc.specs.Memory.{Cached}
 use Rattle.qcow2_alloc.proofs.Caching.Lengths.{all-long}
 use Rattle.qcow2_alloc.proofs.Faults.{handed-on}
-use Rattle.qcow2_clusters.proofs.Settled.{done_so, flushed-still, refused_so, settled-refused, settled-whole, unpinned-blocks, unpinned-tables}
+use Rattle.qcow2_clusters.proofs.Settlement.{done_so, flushed-still, refused_so, settled-refused, settled-whole, unpinned-blocks, unpinned-tables}
 use Rattle.qcow2_clusters.proofs.settling.settle.Goals as goal
 
 pub drop_cached-requires-2 : goal.drop_cached-requires-2

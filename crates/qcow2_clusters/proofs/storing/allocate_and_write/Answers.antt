@@ -5,10 +5,10 @@ use Rattle.qcow2_types.specs.Pending.{FreeEntry}
 use Rattle.qcow2_alloc.specs.FreeList.{FreeList}
 use Rattle.qcow2_clusters.specs.Rest.{lent}
 use Rattle.qcow2_clusters.specs.Storing.{StoresRunUnsettled}
-use Rattle.qcow2_clusters.proofs.Sparing.{run-spared}
-use Rattle.qcow2_clusters.proofs.AllocatingRuns.{run-refused}
-use Rattle.qcow2_clusters.proofs.Settled.{done_so, refused_so}
-use Rattle.qcow2_clusters.proofs.StoringRuns.{stored-refused, stored-unsettled, whole-fits}
+use Rattle.qcow2_clusters.proofs.EarlyRefusals.{run-spared}
+use Rattle.qcow2_clusters.proofs.AllocationsAtRest.{run-refused}
+use Rattle.qcow2_clusters.proofs.Settlement.{done_so, refused_so}
+use Rattle.qcow2_clusters.proofs.RunStores.{stored-refused, stored-unsettled, whole-fits}
 use Rattle.qcow2_alloc.proofs.Faults.{handed-on}
 use Rattle.qcow2_clusters.proofs.storing.allocate_and_write.Goals as goal
 

@@ -4,7 +4,7 @@ use Rattle.std.proofs.Math.Pow.{pow_mono}
 use Rattle.std.proofs.lemmas.List.{length-replicate}
 use Rattle.imago_storage.proofs.Once.{put-below}
 use Rattle.qcow2_types.specs.Header.{cluster_size}
-use Rattle.qcow2_clusters.proofs.ReachingEnds.{ends-at, ends-low, reached-before, zeroes-reach}
+use Rattle.qcow2_clusters.proofs.FileEnds.{ends-at, ends-low, reached-before, zeroes-reach}
 use Rattle.qcow2_clusters.proofs.storing.reach_end.Goals as goal
 
 pub offset-requires-clause-fits : goal.offset-requires-clause-fits

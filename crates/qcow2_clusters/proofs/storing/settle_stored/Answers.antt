@@ -6,8 +6,8 @@ use Rattle.qcow2_alloc.specs.FreeList.{FreeList}
 use Rattle.qcow2_clusters.specs.Rest.{lent}
 use Rattle.qcow2_clusters.specs.Sparing.{SparesUnsettled}
 use Rattle.qcow2_clusters.specs.Storing.{StoresRun, StoresRunUnsettled}
-use Rattle.qcow2_clusters.proofs.Sparing.{settled-spared}
-use Rattle.qcow2_clusters.proofs.StoringSettled.{held-refused, run-settled}
+use Rattle.qcow2_clusters.proofs.EarlyRefusals.{settled-spared}
+use Rattle.qcow2_clusters.proofs.StoreSettlement.{held-refused, run-settled}
 use Rattle.qcow2_clusters.proofs.storing.settle_stored.Goals as goal
 
 abbrev room_for : List FreeEntry → ℕ → FreeList

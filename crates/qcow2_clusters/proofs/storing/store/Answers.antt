@@ -1,5 +1,5 @@
 use Rattle.qcow2_clusters.specs.Rest.{lent}
-use Rattle.qcow2_clusters.proofs.StoringSettled.{one-stored}
+use Rattle.qcow2_clusters.proofs.StoreSettlement.{one-stored}
 use Rattle.qcow2_clusters.proofs.storing.store.Goals as goal
 
 pub returns-clause-stores : goal.returns-clause-stores

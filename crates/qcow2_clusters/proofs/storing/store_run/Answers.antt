@@ -5,8 +5,8 @@ use Rattle.qcow2_alloc.specs.FreeList.{FreeList}
 use Rattle.qcow2_alloc.proofs.Faults.{handed-on}
 use Rattle.qcow2_clusters.specs.Rest.{lent}
 use Rattle.qcow2_clusters.specs.Storing.{StoresRun}
-use Rattle.qcow2_clusters.proofs.StoringRuns.{whole-fits}
-use Rattle.qcow2_clusters.proofs.ReachingEnds.{ends-near, run-reaches, run-short}
+use Rattle.qcow2_clusters.proofs.RunStores.{whole-fits}
+use Rattle.qcow2_clusters.proofs.FileEnds.{ends-near, run-reaches, run-short}
 use Rattle.qcow2_clusters.proofs.storing.store_run.Goals as goal
 
 pub returns-in_err-first-clause-stores : goal.returns-in_err-first-clause-stores

@@ -7,8 +7,8 @@ use Rattle.imago_storage.proofs.Trying.{untold}
 use Rattle.imago_storage.specs.Through.{Put}
 use Rattle.imago_storage.specs.declared.padding.WriteFault.TheVariants.{Before, Within}
 use Rattle.qcow2_types.specs.Header.{cluster_size}
-use Rattle.qcow2_clusters.proofs.ReachingEnds.{put-reaches}
-use Rattle.qcow2_clusters.proofs.Settled.{done_so, refused_so}
+use Rattle.qcow2_clusters.proofs.FileEnds.{put-reaches}
+use Rattle.qcow2_clusters.proofs.Settlement.{done_so, refused_so}
 use Rattle.qcow2_clusters.proofs.storing.write_cluster.Goals as goal
 
 pub returns-in-Ok-clause-put : goal.returns-in-Ok-clause-put

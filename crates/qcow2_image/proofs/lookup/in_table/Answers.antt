@@ -1,6 +1,6 @@
 use Rattle.std.proofs.Common.{sym}
 use Rattle.qcow2_image.specs.Looking.{ReadsRun}
-use Rattle.qcow2_alloc.proofs.Caching.UsingLent.{table-used}
+use Rattle.qcow2_alloc.proofs.Caching.EntryLoans.{table-used}
 use Rattle.qcow2_image.proofs.lookup.in_table.Goals as goal
 
 pub returns : goal.returns

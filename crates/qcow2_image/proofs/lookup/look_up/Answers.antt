@@ -1,6 +1,6 @@
 use Rattle.std.proofs.Common.{refl, ◌*◌, ◌^◌, ap, sym, ◌∙◌}
 use Rattle.qcow2_image.specs.Looking.{place_of_table, ReadsRun}
-use Rattle.qcow2_image.proofs.Found.{looks-used, looks-none, clean-used, loose-used}
+use Rattle.qcow2_image.proofs.WordLookups.{looks-used, looks-none, clean-used, loose-used}
 use Rattle.qcow2_image.proofs.lookup.look_up.Goals as goal
 
 pub invariant_of-tables : goal.invariant_of-tables

@@ -3,7 +3,7 @@ use Rattle.std.proofs.Math.Pow.{pow_mono}
 use Rattle.std.proofs.lemmas.Bool.{cases_eq}
 use Rattle.std.proofs.lemmas.Nat.{mod_below}
 use Rattle.qcow2_types.specs.Header.{cluster_size, words_of_cluster}
-use Rattle.qcow2_image.proofs.Preparations.CoveredRuns.{covers-most}
+use Rattle.qcow2_image.proofs.Preparations.RangeRuns.{covers-most}
 use Rattle.qcow2_image.proofs.mappings.most_covered.Goals as goal
 
 pub overflow_sub-row : goal.overflow_sub-row

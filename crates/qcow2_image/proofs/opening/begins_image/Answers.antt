@@ -1,6 +1,6 @@
 use Rattle.std.proofs.Common.{arith}
 use Rattle.std.proofs.lemmas.Bool.Decides.{nat_tests}
-use Rattle.qcow2_image.proofs.Probing.{fields-begin}
+use Rattle.qcow2_image.proofs.Probes.{fields-begin}
 use Rattle.qcow2_image.proofs.opening.begins_image.Goals as goal
 
 pub returns-then-header-eq2 : goal.returns-then-header-eq2

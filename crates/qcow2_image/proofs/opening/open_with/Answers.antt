@@ -1,7 +1,7 @@
 use Rattle.std.proofs.Common.{refl, sym, inl, None}
 use Rattle.std.specs.Prelude.{false}
 use Rattle.qcow2_image.specs.declared.qcow2.Qcow2.{Qcow2}
-use Rattle.qcow2_image.proofs.JustOpened.{opened-kept, opened-meant, opened-still, opened-safe}
+use Rattle.qcow2_image.proofs.StateAfterOpening.{opened-kept, opened-meant, opened-still, opened-safe}
 use Rattle.qcow2_image.proofs.opening.open_with.Goals as goal
 
 pub returns-clause-seen : goal.returns-clause-seen

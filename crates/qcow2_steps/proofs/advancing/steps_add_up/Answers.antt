@@ -1,4 +1,4 @@
-use Rattle.qcow2_steps.proofs.AddingUp.{advances-then, left-then, reserved-still}
+use Rattle.qcow2_steps.proofs.StepSums.{advances-then, left-then, reserved-still}
 use Rattle.qcow2_steps.proofs.advancing.steps_add_up.Goals as goal
 
 pub returns : goal.returns

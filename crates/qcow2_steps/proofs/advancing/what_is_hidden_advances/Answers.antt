@@ -1,4 +1,4 @@
-use Rattle.qcow2_steps.proofs.HiddenClusters.{hidden-advances, hidden-stops}
+use Rattle.qcow2_steps.proofs.InvisibleClusters.{hidden-advances, hidden-stops}
 use Rattle.qcow2_steps.proofs.advancing.what_is_hidden_advances.Goals as goal
 
 pub returns : goal.returns

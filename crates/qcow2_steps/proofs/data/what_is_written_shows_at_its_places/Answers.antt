@@ -1,4 +1,4 @@
-use Rattle.qcow2_steps.proofs.WrittenValues.{written-memory, written-stops, written-there}
+use Rattle.qcow2_steps.proofs.WriteValues.{written-memory, written-stops, written-there}
 use Rattle.qcow2_steps.proofs.data.what_is_written_shows_at_its_places.Goals as goal
 
 pub returns : goal.returns

@@ -1,4 +1,4 @@
-use Rattle.qcow2_steps.proofs.HiddenClusters.{kept-hidden, kept-stays, kept-used, reserved-hidden}
+use Rattle.qcow2_steps.proofs.InvisibleClusters.{kept-hidden, kept-stays, kept-used, reserved-hidden}
 use Rattle.qcow2_steps.proofs.data.what_no_place_shows.Goals as goal
 
 pub returns : goal.returns

@@ -5,8 +5,8 @@ use Rattle.qcow2_alloc.specs.Allocating.{CountsRun}
 use Rattle.qcow2_alloc.specs.Allocators.{mark_of}
 use Rattle.qcow2_alloc.specs.ReadyingRuns.{Allocates, ReadiesRun, mark_behind}
 use Rattle.qcow2_alloc.specs.State.{seen}
-use Rattle.qcow2_alloc.proofs.Handing.AllocatingRuns.{none-allocated, run-refused, count-refused, run-allocated}
-use Rattle.qcow2_alloc.proofs.Searching.Looking.{clean-none}
+use Rattle.qcow2_alloc.proofs.Handing.RunAllocations.{none-allocated, run-refused, count-refused, run-allocated}
+use Rattle.qcow2_alloc.proofs.Searching.SearchSequences.{clean-none}
 use Rattle.qcow2_alloc.proofs.Faults.{handed-on}
 use Rattle.qcow2_alloc.proofs.allocation.Allocator.allocate.Goals as goal
 

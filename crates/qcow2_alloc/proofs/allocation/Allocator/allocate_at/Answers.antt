@@ -7,9 +7,9 @@ use Rattle.qcow2_alloc.specs.Allocators.{mark_of}
 use Rattle.qcow2_alloc.specs.HandingOut.{IsBarred}
 use Rattle.qcow2_alloc.specs.HandingOutOne.{AllocatesAt, ReadiesCounter}
 use Rattle.qcow2_alloc.specs.State.{lent, seen}
-use Rattle.qcow2_alloc.proofs.Handing.AllocatingReadied.{out-of-reach, uncounted-at, refused-at, readied-at}
-use Rattle.qcow2_alloc.proofs.Handing.CountingOne.{handed_so, not_handed}
-use Rattle.qcow2_alloc.proofs.Blocks.ReadyingCounters.{ready_so}
+use Rattle.qcow2_alloc.proofs.Handing.AllocationsWithCounters.{out-of-reach, uncounted-at, refused-at, readied-at}
+use Rattle.qcow2_alloc.proofs.Handing.SingleCounts.{handed_so, not_handed}
+use Rattle.qcow2_alloc.proofs.Blocks.CounterProvision.{ready_so}
 use Rattle.qcow2_alloc.proofs.Faults.{handed-on}
 use Rattle.qcow2_alloc.proofs.allocation.Allocator.allocate_at.Goals as goal
 

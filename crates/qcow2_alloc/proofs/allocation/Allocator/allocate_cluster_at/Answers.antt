@@ -6,9 +6,9 @@ use Rattle.qcow2_alloc.specs.Allocators.{table_of, mark_of}
 use Rattle.qcow2_alloc.specs.FreeList.{FreeList}
 use Rattle.qcow2_alloc.specs.HandingOut.{AllocatesClusterAt}
 use Rattle.qcow2_alloc.specs.State.{lent, seen}
-use Rattle.qcow2_alloc.proofs.Handing.AnnouncedOrders.{not-begun}
-use Rattle.qcow2_alloc.proofs.Handing.CountingOne.{handed_so, not_handed}
-use Rattle.qcow2_alloc.proofs.Handing.HandingOut.{at-not-announced}
+use Rattle.qcow2_alloc.proofs.Handing.BlocksBeforeTables.{not-begun}
+use Rattle.qcow2_alloc.proofs.Handing.SingleCounts.{handed_so, not_handed}
+use Rattle.qcow2_alloc.proofs.Handing.AllocationsInOrder.{at-not-announced}
 use Rattle.qcow2_alloc.proofs.Faults.{handed-on}
 use Rattle.qcow2_alloc.proofs.allocation.Allocator.allocate_cluster_at.Goals as goal
 

@@ -1,7 +1,7 @@
 use Rattle.std.proofs.Common.{sym, ◌∙◌}
 use Rattle.qcow2_alloc.specs.Allocators.{table_of, mark_of}
 use Rattle.qcow2_alloc.specs.State.{lent}
-use Rattle.qcow2_alloc.proofs.Handing.AllocatingAt.{search-refused, counted-already, counted-or-not, same-place, other-place}
+use Rattle.qcow2_alloc.proofs.Handing.SingleAllocations.{search-refused, counted-already, counted-or-not, same-place, other-place}
 use Rattle.qcow2_alloc.proofs.Faults.{handed-on}
 use Rattle.qcow2_alloc.proofs.allocation.Allocator.allocate_one.Goals as goal
 

@@ -1,9 +1,9 @@
 use Rattle.qcow2_alloc.specs.Allocators.{table_of, mark_of}
 use Rattle.qcow2_alloc.specs.State.{lent, seen}
-use Rattle.qcow2_alloc.proofs.Handing.AnnouncedOrders.{announced}
-use Rattle.qcow2_alloc.proofs.Blocks.CountingClusters.{succeeded}
-use Rattle.qcow2_alloc.proofs.Freeing.FreeingEntries.{failed}
-use Rattle.qcow2_alloc.proofs.Handing.HandingOut.{at-not-announced, at-announced}
+use Rattle.qcow2_alloc.proofs.Handing.BlocksBeforeTables.{announced}
+use Rattle.qcow2_alloc.proofs.Blocks.ClusterCounts.{succeeded}
+use Rattle.qcow2_alloc.proofs.Freeing.EntryFrees.{failed}
+use Rattle.qcow2_alloc.proofs.Handing.AllocationsInOrder.{at-not-announced, at-announced}
 use Rattle.qcow2_alloc.proofs.Faults.{handed-on}
 use Rattle.qcow2_alloc.proofs.allocation.Allocator.announce_and_allocate_at.Goals as goal
 

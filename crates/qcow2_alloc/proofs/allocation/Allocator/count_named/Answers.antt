@@ -11,10 +11,10 @@ use Rattle.qcow2_alloc.specs.Allocating.{RaisesCluster, CountsNamed}
 use Rattle.qcow2_alloc.specs.Allocators.{table_of, named_block}
 use Rattle.qcow2_alloc.specs.Caches.{cached_file}
 use Rattle.qcow2_alloc.specs.State.{lent}
-use Rattle.qcow2_alloc.proofs.Blocks.CountingClusters.{succeeded, cluster-counted}
-use Rattle.qcow2_alloc.proofs.Blocks.CountingRuns.{named-run-none, named-run-then, named-run-within, passed-over, counted-named}
-use Rattle.qcow2_alloc.proofs.Freeing.FreeingEntries.{failed}
-use Rattle.qcow2_alloc.proofs.Blocks.NamedWords.{named-some, named-none}
+use Rattle.qcow2_alloc.proofs.Blocks.ClusterCounts.{succeeded, cluster-counted}
+use Rattle.qcow2_alloc.proofs.Blocks.RunCounts.{named-run-none, named-run-then, named-run-within, passed-over, counted-named}
+use Rattle.qcow2_alloc.proofs.Freeing.EntryFrees.{failed}
+use Rattle.qcow2_alloc.proofs.Blocks.RefcountTableWords.{named-some, named-none}
 use Rattle.qcow2_alloc.proofs.Faults.{handed-on}
 use Rattle.qcow2_alloc.proofs.allocation.Allocator.count_named.Goals as goal
 use Rattle.qcow2_alloc.proofs.allocation.Allocator.count_named.Goals.{then-is_some+in_ok-count_cluster, else-is_some}

@@ -6,9 +6,9 @@ use Rattle.qcow2_alloc.specs.Allocating.{RaisesCluster}
 use Rattle.qcow2_alloc.specs.Allocators.{table_of}
 use Rattle.qcow2_alloc.specs.Caches.{cached_file}
 use Rattle.qcow2_alloc.specs.State.{lent}
-use Rattle.qcow2_alloc.proofs.Blocks.CountingClusters.{succeeded}
-use Rattle.qcow2_alloc.proofs.Freeing.FreeingEntries.{failed}
-use Rattle.qcow2_alloc.proofs.Handing.CountingOne.{first-uncounted, raised-one, unraised-one}
+use Rattle.qcow2_alloc.proofs.Blocks.ClusterCounts.{succeeded}
+use Rattle.qcow2_alloc.proofs.Freeing.EntryFrees.{failed}
+use Rattle.qcow2_alloc.proofs.Handing.SingleCounts.{first-uncounted, raised-one, unraised-one}
 use Rattle.qcow2_alloc.proofs.Faults.{handed-on}
 use Rattle.qcow2_alloc.proofs.allocation.Allocator.count_one.Goals as goal
 

@@ -3,9 +3,9 @@ use Rattle.qcow2_alloc.specs.Allocating.{RaisesCluster, CountsRun}
 use Rattle.qcow2_alloc.specs.Allocators.{table_of}
 use Rattle.qcow2_alloc.specs.Caches.{cached_file}
 use Rattle.qcow2_alloc.specs.State.{lent}
-use Rattle.qcow2_alloc.proofs.Blocks.CountingClusters.{succeeded, cluster-counted}
-use Rattle.qcow2_alloc.proofs.Blocks.CountingRuns.{run-none, run-then, run-within}
-use Rattle.qcow2_alloc.proofs.Freeing.FreeingEntries.{failed}
+use Rattle.qcow2_alloc.proofs.Blocks.ClusterCounts.{succeeded, cluster-counted}
+use Rattle.qcow2_alloc.proofs.Blocks.RunCounts.{run-none, run-then, run-within}
+use Rattle.qcow2_alloc.proofs.Freeing.EntryFrees.{failed}
 use Rattle.qcow2_alloc.proofs.Faults.{handed-on}
 use Rattle.qcow2_alloc.proofs.allocation.Allocator.count_run.Goals as goal
 

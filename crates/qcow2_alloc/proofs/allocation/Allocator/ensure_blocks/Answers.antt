@@ -14,11 +14,11 @@ use Rattle.qcow2_alloc.specs.Caches.{order_of}
 use Rattle.qcow2_alloc.specs.FillingBlocks.{FillsFrom, IsBlockPlaced}
 use Rattle.qcow2_alloc.specs.Quiet.{IsSound}
 use Rattle.qcow2_alloc.specs.State.{lent}
-use Rattle.qcow2_alloc.proofs.Blocks.FillingBlocks.{fills-none, fills-there, turn-fills}
-use Rattle.qcow2_alloc.proofs.Blocks.EnsuringBlocks.{so, blocks-none, blocks-there, blocks-then, blocks-within}
-use Rattle.qcow2_alloc.proofs.Freeing.FreeingEntries.{failed}
-use Rattle.qcow2_alloc.proofs.Blocks.NamedWords.{named-some, named-none}
-use Rattle.qcow2_alloc.proofs.Blocks.CountingClusters.{succeeded}
+use Rattle.qcow2_alloc.proofs.Blocks.BlockRowPlaces.{fills-none, fills-there, turn-fills}
+use Rattle.qcow2_alloc.proofs.Blocks.BlockRows.{so, blocks-none, blocks-there, blocks-then, blocks-within}
+use Rattle.qcow2_alloc.proofs.Freeing.EntryFrees.{failed}
+use Rattle.qcow2_alloc.proofs.Blocks.RefcountTableWords.{named-some, named-none}
+use Rattle.qcow2_alloc.proofs.Blocks.ClusterCounts.{succeeded}
 use Rattle.qcow2_alloc.proofs.Faults.{handed-on}
 use Rattle.qcow2_alloc.proofs.allocation.Allocator.ensure_blocks.Goals as goal
 use Rattle.qcow2_alloc.proofs.allocation.Allocator.ensure_blocks.Goals.{then-is_none+in_ok-make_block, else-is_none}

@@ -8,7 +8,7 @@ use Rattle.qcow2_alloc.specs.Caches.{order_of}
 use Rattle.qcow2_alloc.specs.FillingBlocks.{FillsFrom}
 use Rattle.qcow2_alloc.specs.Quiet.{IsSound}
 use Rattle.qcow2_alloc.specs.State.{lent}
-use Rattle.qcow2_alloc.proofs.Blocks.EnsuringBlocks.{so}
+use Rattle.qcow2_alloc.proofs.Blocks.BlockRows.{so}
 use Rattle.qcow2_alloc.proofs.allocation.Allocator.ensure_blocks.Given as goal
 
 abbrev pub invariant-loop-index : goal.invariant-loop-index

@@ -6,8 +6,8 @@ use Rattle.qcow2_alloc.specs.Allocators.{metadata_of, table_of, mark_of}
 use Rattle.qcow2_alloc.specs.FillingBlocks.{FillsFrom}
 use Rattle.qcow2_alloc.specs.HandingOutOne.{ReadiesWord}
 use Rattle.qcow2_alloc.specs.State.{seen}
-use Rattle.qcow2_alloc.proofs.Blocks.EnsuringBlocks.{so, refused}
-use Rattle.qcow2_alloc.proofs.Blocks.ReadyingCounters.{ready_so, counter-barred, counter-made, counter-unmade, index-moved}
+use Rattle.qcow2_alloc.proofs.Blocks.BlockRows.{so, refused}
+use Rattle.qcow2_alloc.proofs.Blocks.CounterProvision.{ready_so, counter-barred, counter-made, counter-unmade, index-moved}
 use Rattle.qcow2_alloc.proofs.Faults.{handed-on}
 use Rattle.qcow2_alloc.proofs.allocation.Allocator.ensure_counter.Goals as goal
 

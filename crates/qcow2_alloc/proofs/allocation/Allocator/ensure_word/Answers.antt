@@ -6,9 +6,9 @@ use Rattle.qcow2_types.specs.Counts.{counters_of_block}
 use Rattle.qcow2_alloc.specs.Allocators.{mark_of}
 use Rattle.qcow2_alloc.specs.GrowingTables.{GrowsTable}
 use Rattle.qcow2_alloc.specs.State.{seen}
-use Rattle.qcow2_alloc.proofs.Freeing.FreeingEntries.{failed}
-use Rattle.qcow2_alloc.proofs.Blocks.CountingClusters.{succeeded}
-use Rattle.qcow2_alloc.proofs.Blocks.ReadyingCounters.{word-stands, word-made, word-barred, word-refused, limit-numbered, other-numbered}
+use Rattle.qcow2_alloc.proofs.Freeing.EntryFrees.{failed}
+use Rattle.qcow2_alloc.proofs.Blocks.ClusterCounts.{succeeded}
+use Rattle.qcow2_alloc.proofs.Blocks.CounterProvision.{word-stands, word-made, word-barred, word-refused, limit-numbered, other-numbered}
 use Rattle.qcow2_alloc.proofs.allocation.Allocator.ensure_word.Goals as goal
 
 pub returns-then-index-entries-clause-readies : goal.returns-then-index-entries-clause-readies

@@ -9,9 +9,9 @@ use Rattle.qcow2_alloc.specs.GrowingTables.{table_run}
 use Rattle.qcow2_alloc.specs.MakingRoom.{run_of}
 use Rattle.qcow2_alloc.specs.MovingTables.{FillsRoom, WasSound}
 use Rattle.qcow2_alloc.specs.State.{lent, seen}
-use Rattle.qcow2_alloc.proofs.Growth.FilledRooms.{some-clusters}
-use Rattle.qcow2_alloc.proofs.Freeing.FreeingEntries.{failed}
-use Rattle.qcow2_alloc.proofs.Growth.UnfilledRooms.{not-begun}
+use Rattle.qcow2_alloc.proofs.Growth.RoomFills.{some-clusters}
+use Rattle.qcow2_alloc.proofs.Freeing.EntryFrees.{failed}
+use Rattle.qcow2_alloc.proofs.Growth.FillRefusals.{not-begun}
 use Rattle.qcow2_alloc.proofs.allocation.Allocator.enter_room.Goals as goal
 
 pub returns-then-clusters-eq0-clause-fills : goal.returns-then-clusters-eq0-clause-fills

@@ -4,8 +4,8 @@ use Rattle.qcow2_alloc.specs.declared.allocation.searching.Run.{Run}
 use Rattle.qcow2_alloc.specs.Allocators.{table_of, named_block, UsesBlock}
 use Rattle.qcow2_alloc.specs.Caches.{cached_file}
 use Rattle.qcow2_alloc.specs.Scanning.{next_of, ScansSome, Reads, ExtendsRun}
-use Rattle.qcow2_alloc.proofs.Searching.LookingForRuns.{extends-some, extends-none}
-use Rattle.qcow2_alloc.proofs.Searching.SearchingRuns.{indices, longer}
+use Rattle.qcow2_alloc.proofs.Searching.RunSearches.{extends-some, extends-none}
+use Rattle.qcow2_alloc.proofs.Searching.RunsInSearch.{indices, longer}
 use Rattle.qcow2_alloc.proofs.allocation.Allocator.extend_run.Goals as goal
 
 pub returns-in-Some : goal.returns-in-Some

@@ -8,8 +8,8 @@ use Rattle.qcow2_alloc.specs.Allocators.{table_of}
 use Rattle.qcow2_alloc.specs.Growing.{lacking}
 use Rattle.qcow2_alloc.specs.MovingTables.{IsPlan, WasSound}
 use Rattle.qcow2_alloc.specs.State.{lent}
-use Rattle.qcow2_alloc.proofs.Growth.FilledRooms.{room-filled}
-use Rattle.qcow2_alloc.proofs.Growth.UnfilledRooms.{not-filled}
+use Rattle.qcow2_alloc.proofs.Growth.RoomFills.{room-filled}
+use Rattle.qcow2_alloc.proofs.Growth.FillRefusals.{not-filled}
 use Rattle.qcow2_alloc.proofs.Faults.{handed-on}
 use Rattle.qcow2_alloc.proofs.allocation.Allocator.fill_room.Goals as goal
 

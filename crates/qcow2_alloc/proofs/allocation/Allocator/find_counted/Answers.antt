@@ -6,8 +6,8 @@ use Rattle.qcow2_types.specs.Counts.{counters_of_block}
 use Rattle.qcow2_alloc.specs.Allocators.{table_of}
 use Rattle.qcow2_alloc.specs.Caches.{cached_file}
 use Rattle.qcow2_alloc.specs.SearchingClusters.{LooksForFree}
-use Rattle.qcow2_alloc.proofs.Searching.LookingForFree.{FreeSearched, passed-then, passed-refused, passed-found, passed-all}
-use Rattle.qcow2_alloc.proofs.Searching.SearchingRuns.{block-behind, blocks-before}
+use Rattle.qcow2_alloc.proofs.Searching.FreeClusterSearches.{FreeSearched, passed-then, passed-refused, passed-found, passed-all}
+use Rattle.qcow2_alloc.proofs.Searching.RunsInSearch.{block-behind, blocks-before}
 use Rattle.qcow2_alloc.proofs.allocation.Allocator.find_counted.Given.{Over}
 use Rattle.qcow2_alloc.proofs.Faults.{handed-on}
 use Rattle.qcow2_alloc.proofs.allocation.Allocator.find_counted.Goals as goal

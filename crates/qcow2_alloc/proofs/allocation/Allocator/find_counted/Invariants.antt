@@ -1,7 +1,7 @@
 use Rattle.std.proofs.Common.{◌≡◌, ◌-◌, ◌*◌}
 use Rattle.qcow2_types.specs.Counts.{counters_of_block}
 use Rattle.qcow2_alloc.specs.Allocators.{table_of}
-use Rattle.qcow2_alloc.proofs.Searching.LookingForFree.{FreeSearched}
+use Rattle.qcow2_alloc.proofs.Searching.FreeClusterSearches.{FreeSearched}
 use Rattle.qcow2_alloc.proofs.allocation.Allocator.find_counted.Given as goal
 
 abbrev pub invariant-loop-next : goal.invariant-loop-next

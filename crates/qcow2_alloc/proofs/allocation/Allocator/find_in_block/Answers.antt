@@ -6,8 +6,8 @@ use Rattle.qcow2_alloc.specs.Allocators.{table_of, named_block, UsesBlock}
 use Rattle.qcow2_alloc.specs.Caches.{cached_file}
 use Rattle.qcow2_alloc.specs.Scanning.{FindsZero, Reads}
 use Rattle.qcow2_alloc.specs.SearchingClusters.{LooksForFree}
-use Rattle.qcow2_alloc.proofs.Searching.LookingForFree.{finds-none, finds-some, finds-inside, located}
-use Rattle.qcow2_alloc.proofs.Searching.SearchingRuns.{few-clusters, indices}
+use Rattle.qcow2_alloc.proofs.Searching.FreeClusterSearches.{finds-none, finds-some, finds-inside, located}
+use Rattle.qcow2_alloc.proofs.Searching.RunsInSearch.{few-clusters, indices}
 use Rattle.qcow2_alloc.proofs.allocation.Allocator.find_in_block.Given.{Over}
 use Rattle.qcow2_alloc.proofs.Faults.{handed-on}
 use Rattle.qcow2_alloc.proofs.allocation.Allocator.find_in_block.Goals as goal

@@ -6,8 +6,8 @@ use Rattle.qcow2_metadata.specs.Tables.{TableValue}
 use Rattle.qcow2_alloc.specs.declared.allocation.searching.Run.{Run}
 use Rattle.qcow2_alloc.specs.Allocators.{table_of}
 use Rattle.qcow2_alloc.specs.Growing.{lacking, needed_for}
-use Rattle.qcow2_alloc.proofs.Growth.FindingRoom.{needed-few}
-use Rattle.qcow2_alloc.proofs.Growth.SearchingRooms.{rooms-first, rooms-found, rooms-not-grown, rooms-then, rooms-fewer}
+use Rattle.qcow2_alloc.proofs.Growth.FirstRooms.{needed-few}
+use Rattle.qcow2_alloc.proofs.Growth.RoomSearchProgress.{rooms-first, rooms-found, rooms-not-grown, rooms-then, rooms-fewer}
 use Rattle.qcow2_alloc.proofs.Faults.{handed-on}
 use Rattle.qcow2_alloc.proofs.allocation.Allocator.find_room.Goals as goal
 

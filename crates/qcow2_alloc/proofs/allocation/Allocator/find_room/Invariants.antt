@@ -2,7 +2,7 @@ use Rattle.std.proofs.Common.{◌≡◌, ◌+◌, ◌-◌, ◌*◌, length}
 use Rattle.qcow2_types.specs.Counts.{counters_of_block}
 use Rattle.qcow2_alloc.specs.Allocators.{table_of}
 use Rattle.qcow2_alloc.specs.Growing.{needed_for}
-use Rattle.qcow2_alloc.proofs.Growth.SearchingRooms.{RoomSearched}
+use Rattle.qcow2_alloc.proofs.Growth.RoomSearchProgress.{RoomSearched}
 use Rattle.qcow2_alloc.proofs.allocation.Allocator.find_room.Given as goal
 
 abbrev pub invariant-loop-needed : goal.invariant-loop-needed

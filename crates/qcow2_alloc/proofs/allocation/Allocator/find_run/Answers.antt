@@ -6,8 +6,8 @@ use Rattle.qcow2_alloc.specs.declared.allocation.searching.Run.{Run}
 use Rattle.qcow2_alloc.specs.Allocators.{table_of}
 use Rattle.qcow2_alloc.specs.Caches.{cached_file}
 use Rattle.qcow2_alloc.specs.Scanning.{next_of, ExtendsRun}
-use Rattle.qcow2_alloc.proofs.Searching.LookingForRuns.{searched-then, searched-refused, searched-long, searched-all}
-use Rattle.qcow2_alloc.proofs.Searching.SearchingRuns.{few-clusters}
+use Rattle.qcow2_alloc.proofs.Searching.RunSearches.{searched-then, searched-refused, searched-long, searched-all}
+use Rattle.qcow2_alloc.proofs.Searching.RunsInSearch.{few-clusters}
 use Rattle.qcow2_alloc.proofs.Faults.{handed-on}
 use Rattle.qcow2_alloc.proofs.allocation.Allocator.find_run.Goals as goal
 use Rattle.qcow2_alloc.proofs.allocation.Allocator.find_run.Goals.{then-loop-run-test+else-rt_index-entries, else-loop-run-test}

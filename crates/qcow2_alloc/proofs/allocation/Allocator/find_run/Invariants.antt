@@ -2,7 +2,7 @@ use Rattle.std.proofs.Common.{◌≡◌, ◌-◌, ◌*◌, ◌^◌, ◌<◌, len
 use Rattle.qcow2_types.specs.Counts.{counters_of_block}
 use Rattle.qcow2_alloc.specs.Allocators.{table_of}
 use Rattle.qcow2_alloc.specs.Scanning.{next_of}
-use Rattle.qcow2_alloc.proofs.Searching.LookingForRuns.{RunSearched}
+use Rattle.qcow2_alloc.proofs.Searching.RunSearches.{RunSearched}
 use Rattle.qcow2_alloc.proofs.allocation.Allocator.find_run.Given as goal
 
 abbrev pub invariant-loop-run : goal.invariant-loop-run

@@ -4,8 +4,8 @@ use Rattle.qcow2_metadata.specs.Tables.{TableValue}
 use Rattle.qcow2_alloc.specs.Allocators.{table_of, mark_of}
 use Rattle.qcow2_alloc.specs.Freeing.{Frees, IsSublist}
 use Rattle.qcow2_alloc.specs.State.{lent}
-use Rattle.qcow2_alloc.proofs.Freeing.FreeingEntries.{frees-none, frees-then, freed, failed}
-use Rattle.qcow2_alloc.proofs.Freeing.FreeingRest.{sublist-all, sublist-then, sublist-removed, rest-whole, rest-shortened}
+use Rattle.qcow2_alloc.proofs.Freeing.EntryFrees.{frees-none, frees-then, freed, failed}
+use Rattle.qcow2_alloc.proofs.Freeing.ListRemainders.{sublist-all, sublist-then, sublist-removed, rest-whole, rest-shortened}
 use Rattle.qcow2_alloc.proofs.Faults.{handed-on}
 use Rattle.qcow2_alloc.proofs.allocation.Allocator.free_all.Goals as goal
 

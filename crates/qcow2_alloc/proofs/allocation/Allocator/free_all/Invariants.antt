@@ -4,7 +4,7 @@ use Rattle.qcow2_alloc.specs.Allocators.{table_of, mark_of}
 use Rattle.qcow2_alloc.specs.Caches.{order_of}
 use Rattle.qcow2_alloc.specs.Freeing.{Frees, IsSublist}
 use Rattle.qcow2_alloc.specs.State.{seen}
-use Rattle.qcow2_alloc.proofs.Freeing.FreeingEntries.{freed}
+use Rattle.qcow2_alloc.proofs.Freeing.EntryFrees.{freed}
 use Rattle.qcow2_alloc.proofs.allocation.Allocator.free_all.Given as goal
 
 abbrev pub invariant-loop-list : goal.invariant-loop-list

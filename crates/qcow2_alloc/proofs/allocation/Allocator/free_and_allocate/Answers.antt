@@ -15,11 +15,11 @@ use Rattle.qcow2_alloc.specs.ReadyingRuns.{Allocates}
 use Rattle.qcow2_alloc.specs.Safety.{AreBlocksClean, AreTablesClean}
 use Rattle.qcow2_alloc.specs.SearchingClusters.{KeepsClean}
 use Rattle.qcow2_alloc.specs.State.{lent, seen}
-use Rattle.qcow2_alloc.proofs.Handing.AnnouncedOrders.{announced}
-use Rattle.qcow2_alloc.proofs.Blocks.CountingClusters.{succeeded}
-use Rattle.qcow2_alloc.proofs.Freeing.FreeingEntries.{failed}
-use Rattle.qcow2_alloc.proofs.Handing.HandingOut.{refused_run, run-not-freed, run-not-announced, run-announced}
-use Rattle.qcow2_alloc.proofs.Searching.Looking.{clean-then}
+use Rattle.qcow2_alloc.proofs.Handing.BlocksBeforeTables.{announced}
+use Rattle.qcow2_alloc.proofs.Blocks.ClusterCounts.{succeeded}
+use Rattle.qcow2_alloc.proofs.Freeing.EntryFrees.{failed}
+use Rattle.qcow2_alloc.proofs.Handing.AllocationsInOrder.{refused_run, run-not-freed, run-not-announced, run-announced}
+use Rattle.qcow2_alloc.proofs.Searching.SearchSequences.{clean-then}
 use Rattle.qcow2_alloc.proofs.Faults.{handed-on}
 use Rattle.qcow2_alloc.proofs.allocation.Allocator.free_and_allocate.Goals as goal
 use Rattle.qcow2_alloc.proofs.allocation.Allocator.free_and_allocate.Goals.{then-not-is_empty, else-not-is_empty}

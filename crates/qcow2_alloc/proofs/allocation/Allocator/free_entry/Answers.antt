@@ -8,8 +8,8 @@ use Rattle.qcow2_alloc.specs.Caches.{order_of}
 use Rattle.qcow2_alloc.specs.FreeList.{FreeList, entry_at, shorter, shortened}
 use Rattle.qcow2_alloc.specs.Freeing.{Frees}
 use Rattle.qcow2_alloc.specs.State.{lent}
-use Rattle.qcow2_alloc.proofs.Freeing.FreeingEntries.{frees-none, frees-then, empty-removed, may-still, freed, failed}
-use Rattle.qcow2_alloc.proofs.Freeing.FreeingLists.{entry-shortened, shortened-none, shortened-more, removed-shortened}
+use Rattle.qcow2_alloc.proofs.Freeing.EntryFrees.{frees-none, frees-then, empty-removed, may-still, freed, failed}
+use Rattle.qcow2_alloc.proofs.Freeing.ShorterLists.{entry-shortened, shortened-none, shortened-more, removed-shortened}
 use Rattle.qcow2_alloc.proofs.Faults.{handed-on}
 use Rattle.qcow2_alloc.proofs.allocation.Allocator.free_entry.Goals as goal
 

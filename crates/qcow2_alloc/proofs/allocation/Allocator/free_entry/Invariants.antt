@@ -4,7 +4,7 @@ use Rattle.qcow2_alloc.specs.Caches.{order_of}
 use Rattle.qcow2_alloc.specs.FreeList.{entry_at, shortened}
 use Rattle.qcow2_alloc.specs.Freeing.{Frees, MayFree}
 use Rattle.qcow2_alloc.specs.State.{seen}
-use Rattle.qcow2_alloc.proofs.Freeing.FreeingEntries.{freed}
+use Rattle.qcow2_alloc.proofs.Freeing.EntryFrees.{freed}
 use Rattle.qcow2_alloc.proofs.allocation.Allocator.free_entry.Given as goal
 
 abbrev pub invariant-loop : goal.invariant-loop

@@ -5,8 +5,8 @@ use Rattle.qcow2_alloc.specs.Caches.{cached_file}
 use Rattle.qcow2_alloc.specs.FreeList.{FreeList}
 use Rattle.qcow2_alloc.specs.Freeing.{Frees}
 use Rattle.qcow2_alloc.specs.State.{lent}
-use Rattle.qcow2_alloc.proofs.Freeing.FreeingEntries.{last-freed, far-refused}
-use Rattle.qcow2_alloc.proofs.Freeing.FreeingLists.{last}
+use Rattle.qcow2_alloc.proofs.Freeing.EntryFrees.{last-freed, far-refused}
+use Rattle.qcow2_alloc.proofs.Freeing.ShorterLists.{last}
 use Rattle.qcow2_alloc.proofs.Faults.{handed-on}
 use Rattle.qcow2_alloc.proofs.allocation.Allocator.free_last.Goals as goal
 

@@ -5,9 +5,9 @@ use Rattle.qcow2_alloc.specs.Allocators.{table_of, mark_of}
 use Rattle.qcow2_alloc.specs.Freeing.{Frees, IsSublist, data_in}
 use Rattle.qcow2_alloc.specs.Quiet.{metadata_in}
 use Rattle.qcow2_alloc.specs.State.{lent}
-use Rattle.qcow2_alloc.proofs.Freeing.FreeingEntries.{frees-none, frees-then, freed, failed}
-use Rattle.qcow2_alloc.proofs.Freeing.FreeingInTurn.{metadata-found, none-found, data-stays, all-data}
-use Rattle.qcow2_alloc.proofs.Freeing.FreeingRest.{sublist-all, sublist-then, sublist-removed, data-not-shortened, rest-whole, rest-shortened, rest-with-data}
+use Rattle.qcow2_alloc.proofs.Freeing.EntryFrees.{frees-none, frees-then, freed, failed}
+use Rattle.qcow2_alloc.proofs.Freeing.FreesInTurn.{metadata-found, none-found, data-stays, all-data}
+use Rattle.qcow2_alloc.proofs.Freeing.ListRemainders.{sublist-all, sublist-then, sublist-removed, data-not-shortened, rest-whole, rest-shortened, rest-with-data}
 use Rattle.qcow2_alloc.proofs.Faults.{handed-on}
 use Rattle.qcow2_alloc.proofs.allocation.Allocator.free_metadata.Goals as goal
 

@@ -4,7 +4,7 @@ use Rattle.qcow2_alloc.specs.Caches.{order_of}
 use Rattle.qcow2_alloc.specs.Freeing.{Frees, IsSublist, data_in}
 use Rattle.qcow2_alloc.specs.Quiet.{metadata_in}
 use Rattle.qcow2_alloc.specs.State.{seen}
-use Rattle.qcow2_alloc.proofs.Freeing.FreeingEntries.{freed}
+use Rattle.qcow2_alloc.proofs.Freeing.EntryFrees.{freed}
 use Rattle.qcow2_alloc.proofs.allocation.Allocator.free_metadata.Given as goal
 
 abbrev pub invariant-loop-index : goal.invariant-loop-index

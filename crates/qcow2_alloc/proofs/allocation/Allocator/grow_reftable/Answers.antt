@@ -9,10 +9,10 @@ use Rattle.qcow2_alloc.specs.GrowingTables.{GrowsTable}
 use Rattle.qcow2_alloc.specs.HandingOut.{GrowsReftable}
 use Rattle.qcow2_alloc.specs.MovingTables.{IsGrownFor}
 use Rattle.qcow2_alloc.specs.State.{lent, seen}
-use Rattle.qcow2_alloc.proofs.Handing.AnnouncedOrders.{announced}
-use Rattle.qcow2_alloc.proofs.Blocks.CountingClusters.{succeeded}
-use Rattle.qcow2_alloc.proofs.Freeing.FreeingEntries.{failed}
-use Rattle.qcow2_alloc.proofs.Growth.GrowingReftables.{not-copied, not-announced, announced-grows}
+use Rattle.qcow2_alloc.proofs.Handing.BlocksBeforeTables.{announced}
+use Rattle.qcow2_alloc.proofs.Blocks.ClusterCounts.{succeeded}
+use Rattle.qcow2_alloc.proofs.Freeing.EntryFrees.{failed}
+use Rattle.qcow2_alloc.proofs.Growth.GrowthInOrder.{not-copied, not-announced, announced-grows}
 use Rattle.qcow2_alloc.proofs.Faults.{handed-on}
 use Rattle.qcow2_alloc.proofs.allocation.Allocator.grow_reftable.Goals as goal
 

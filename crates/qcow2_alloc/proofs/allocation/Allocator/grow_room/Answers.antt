@@ -3,7 +3,7 @@ use Rattle.std.proofs.lemmas.Bool.{eqb-true, eqb-false}
 use Rattle.qcow2_alloc.specs.Allocators.{table_of}
 use Rattle.qcow2_alloc.specs.Caches.{cached_file}
 use Rattle.qcow2_alloc.specs.SearchingClusters.{LooksForRun}
-use Rattle.qcow2_alloc.proofs.Growth.GrowingRooms.{room-here, room-refused, room-next, room-not-next}
+use Rattle.qcow2_alloc.proofs.Growth.RoomSearches.{room-here, room-refused, room-next, room-not-next}
 use Rattle.qcow2_alloc.proofs.Faults.{handed-on}
 use Rattle.qcow2_alloc.proofs.allocation.Allocator.grow_room.Goals as goal
 

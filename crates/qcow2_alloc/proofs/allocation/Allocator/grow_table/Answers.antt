@@ -5,8 +5,8 @@ use Rattle.qcow2_alloc.specs.Allocators.{table_of, mark_of}
 use Rattle.qcow2_alloc.specs.FreeList.{FreeList}
 use Rattle.qcow2_alloc.specs.GrowingTables.{GrowsTable}
 use Rattle.qcow2_alloc.specs.State.{lent, seen}
-use Rattle.qcow2_alloc.proofs.Freeing.FreeingEntries.{failed}
-use Rattle.qcow2_alloc.proofs.Growth.GrowingTables.{no-copy}
+use Rattle.qcow2_alloc.proofs.Freeing.EntryFrees.{failed}
+use Rattle.qcow2_alloc.proofs.Growth.TableGrowth.{no-copy}
 use Rattle.qcow2_alloc.proofs.Faults.{handed-on}
 use Rattle.qcow2_alloc.proofs.allocation.Allocator.grow_table.Goals as goal
 

@@ -5,8 +5,8 @@ use Rattle.std.proofs.Math.Nat.{pow-le-pow_right, div-mul-le_self}
 use Rattle.qcow2_alloc.specs.Allocators.{table_of}
 use Rattle.qcow2_alloc.specs.Growing.{lacks}
 use Rattle.qcow2_alloc.specs.MakingRoom.{rank}
-use Rattle.qcow2_alloc.proofs.Growth.FindingRoom.{lacking-before, lacking-behind, lacking-there, lacking-here, index-near}
-use Rattle.qcow2_alloc.proofs.Blocks.NamedWords.{named-some, named-none}
+use Rattle.qcow2_alloc.proofs.Growth.FirstRooms.{lacking-before, lacking-behind, lacking-there, lacking-here, index-near}
+use Rattle.qcow2_alloc.proofs.Blocks.RefcountTableWords.{named-some, named-none}
 use Rattle.qcow2_alloc.proofs.allocation.Allocator.lacking_for.Goals as goal
 use Rattle.qcow2_alloc.proofs.allocation.Allocator.lacking_for.Goals.{then-is_none, else-is_none}
 

@@ -1,10 +1,10 @@
 use Rattle.qcow2_alloc.specs.Allocators.{table_of, mark_of}
 use Rattle.qcow2_alloc.specs.State.{lent}
-use Rattle.qcow2_alloc.proofs.Blocks.MadeBlocks.{begins-makes}
-use Rattle.qcow2_alloc.proofs.Searching.SearchedPlaces.{looked-refused, looked-begins, found-free}
+use Rattle.qcow2_alloc.proofs.Blocks.BlockCreationCalls.{begins-makes}
+use Rattle.qcow2_alloc.proofs.Searching.BlockPlaceSearches.{looked-refused, looked-begins, found-free}
 use Rattle.qcow2_alloc.proofs.Faults.{handed-on}
 use Rattle.qcow2_alloc.proofs.allocation.Allocator.make_block.Goals as goal
-use Rattle.qcow2_alloc.proofs.Blocks.PlacedBlocks.{placed-found, placed-itself}
+use Rattle.qcow2_alloc.proofs.Blocks.NewBlockPlaces.{placed-found, placed-itself}
 
 pub returns-in-Some-clause-makes : goal.returns-in-Some-clause-makes
 returns-in-Some-clause-makes g c = λ pending.

@@ -9,14 +9,14 @@ use Rattle.qcow2_alloc.specs.MakingBlocks.{WhyNotNamed}
 use Rattle.qcow2_alloc.specs.Quiet.{counted}
 use Rattle.qcow2_alloc.specs.State.{lent}
 use Rattle.qcow2_alloc.specs.declared.cache.MetadataCaches.{MetadataCaches}
-use Rattle.qcow2_alloc.proofs.Blocks.CountingClusters.{succeeded}
+use Rattle.qcow2_alloc.proofs.Blocks.ClusterCounts.{succeeded}
 use Rattle.qcow2_alloc.proofs.Searching.FreeClusters.{uncounted-free}
-use Rattle.qcow2_alloc.proofs.Freeing.FreeingEntries.{failed}
-use Rattle.qcow2_alloc.proofs.Blocks.MadeBlocks.{first-counted, namable, unmade-memory, unmade-place, unforgotten}
-use Rattle.qcow2_alloc.proofs.Blocks.TakenBlocks.{uncounted-made, unwritten-made, taken-made-so}
+use Rattle.qcow2_alloc.proofs.Freeing.EntryFrees.{failed}
+use Rattle.qcow2_alloc.proofs.Blocks.BlockCreationCalls.{first-counted, namable, unmade-memory, unmade-place, unforgotten}
+use Rattle.qcow2_alloc.proofs.Blocks.OutsideBlocks.{uncounted-made, unwritten-made, taken-made-so}
 use Rattle.qcow2_alloc.proofs.Faults.{handed-on}
 use Rattle.qcow2_alloc.proofs.allocation.Allocator.make_counted_block.Goals as goal
-use Rattle.qcow2_alloc.proofs.Blocks.PlacedBlocks.{written-on-ok}
+use Rattle.qcow2_alloc.proofs.Blocks.NewBlockPlaces.{written-on-ok}
 
 pub returns-in_err-check_place-clause-makes : goal.returns-in_err-check_place-clause-makes
 returns-in_err-check_place-clause-makes g c = rw (handed-on _ _ c.from_residual.ensures.1) (λ pending first f begun free.

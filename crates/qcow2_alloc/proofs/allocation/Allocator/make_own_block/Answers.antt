@@ -5,7 +5,7 @@ use Rattle.qcow2_alloc.specs.MakingBlocks.{WhyNotNamed}
 use Rattle.qcow2_alloc.specs.Quiet.{IsSound, counted}
 use Rattle.qcow2_alloc.specs.State.{lent}
 use Rattle.qcow2_alloc.proofs.Searching.FreeClusters.{uncounted-free}
-use Rattle.qcow2_alloc.proofs.Blocks.MadeBlocks.{begins-none, first-counted, unmade-place, unforgotten}
+use Rattle.qcow2_alloc.proofs.Blocks.BlockCreationCalls.{begins-none, first-counted, unmade-place, unforgotten}
 use Rattle.qcow2_alloc.proofs.Blocks.OwnBlocks.{own-uncounted, own-made-at}
 use Rattle.qcow2_alloc.proofs.Faults.{handed-on}
 use Rattle.qcow2_alloc.proofs.allocation.Allocator.make_own_block.Goals as goal
@@ -13,7 +13,7 @@ use Rattle.std.proofs.Common.{ℕ, ◌*◌, ap, ◌≢◌}
 use Rattle.std.specs.Prelude.{slice_index, OnOk, ◌^◌}
 use Rattle.qcow2_types.specs.Words.{block_offset}
 use Rattle.qcow2_metadata.specs.Blocks.{Block}
-use Rattle.qcow2_alloc.proofs.Blocks.PlacedBlocks.{written-on-ok}
+use Rattle.qcow2_alloc.proofs.Blocks.NewBlockPlaces.{written-on-ok}
 
 pub returns-in_err-check_place-clause-makes : goal.returns-in_err-check_place-clause-makes
 returns-in_err-check_place-clause-makes g c = rw (handed-on _ _ c.from_residual.ensures.1) (λ pending.

@@ -5,7 +5,7 @@ use Rattle.qcow2_types.specs.HeaderSwitch.{FirstFieldsFit}
 use Rattle.qcow2_types.specs.HeaderBytes.{first_bytes}
 use Rattle.qcow2_metadata.specs.Tables.{TableValue, table_place}
 use Rattle.qcow2_alloc.specs.MovingTables.{clusters_of, naming_table}
-use Rattle.qcow2_alloc.proofs.Handing.Allocating.{moved-none}
+use Rattle.qcow2_alloc.proofs.Handing.CountSequences.{moved-none}
 use Rattle.qcow2_alloc.proofs.Faults.{handed-on}
 use Rattle.qcow2_alloc.proofs.allocation.Allocator.move_table.Goals as goal
 

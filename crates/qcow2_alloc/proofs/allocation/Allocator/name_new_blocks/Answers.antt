@@ -8,10 +8,10 @@ use Rattle.qcow2_metadata.specs.Places.{place_of}
 use Rattle.qcow2_metadata.specs.Tables.{TableValue, IsNamable, with_word}
 use Rattle.qcow2_alloc.specs.Allocators.{table_of}
 use Rattle.qcow2_alloc.specs.MakingRoom.{rank}
-use Rattle.qcow2_alloc.proofs.Growth.FindingRoom.{lacking-before, lacking-there, lacking-here, index-near}
-use Rattle.qcow2_alloc.proofs.Blocks.NamedWords.{named-some, named-none}
-use Rattle.qcow2_alloc.proofs.Blocks.NamingNewBlocks.{lack, NamesBefore, named-none as names-none, named-over, named-then, named-all, word-inside, place-namable, lack-here, place-inside, lack-inside}
-use Rattle.qcow2_alloc.proofs.Blocks.WritingNewBlocks.{run-fits}
+use Rattle.qcow2_alloc.proofs.Growth.FirstRooms.{lacking-before, lacking-there, lacking-here, index-near}
+use Rattle.qcow2_alloc.proofs.Blocks.RefcountTableWords.{named-some, named-none}
+use Rattle.qcow2_alloc.proofs.Blocks.NewBlockNames.{lack, NamesBefore, named-none as names-none, named-over, named-then, named-all, word-inside, place-namable, lack-here, place-inside, lack-inside}
+use Rattle.qcow2_alloc.proofs.Blocks.NewBlockWrites.{run-fits}
 use Rattle.qcow2_alloc.proofs.allocation.Allocator.name_new_blocks.Goals as goal
 use Rattle.qcow2_alloc.proofs.allocation.Allocator.name_new_blocks.Goals.{then-is_none, else-is_none}
 

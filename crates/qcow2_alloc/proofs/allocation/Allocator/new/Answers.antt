@@ -1,5 +1,5 @@
 use Rattle.std.proofs.Common.{refl}
-use Rattle.qcow2_alloc.proofs.Growth.LoadingTable.{loaded-from, table-loaded, table-not-loaded}
+use Rattle.qcow2_alloc.proofs.Growth.TableLoads.{loaded-from, table-loaded, table-not-loaded}
 use Rattle.qcow2_alloc.proofs.Faults.{handed-on}
 use Rattle.qcow2_alloc.proofs.allocation.Allocator.new.Goals as goal
 

@@ -4,7 +4,7 @@ use Rattle.qcow2_metadata.specs.Places.{IsInReach}
 use Rattle.qcow2_alloc.specs.Allocators.{table_of}
 use Rattle.qcow2_alloc.specs.Growing.{lacking}
 use Rattle.qcow2_alloc.specs.MakingBlocks.{CanName}
-use Rattle.qcow2_alloc.proofs.Growth.PlacedCopies.{copy-planned}
+use Rattle.qcow2_alloc.proofs.Growth.CopyPlaces.{copy-planned}
 use Rattle.qcow2_alloc.proofs.allocation.Allocator.place_copy.Goals as goal
 
 pub returns-clause-ok : goal.returns-clause-ok

@@ -12,9 +12,9 @@ use Rattle.qcow2_alloc.specs.FreeList.{FreeList}
 use Rattle.qcow2_alloc.specs.GrowingTables.{GrowsTable}
 use Rattle.qcow2_alloc.specs.MovingTables.{clusters_of, IsGrownFor}
 use Rattle.qcow2_alloc.specs.State.{lent, seen}
-use Rattle.qcow2_alloc.proofs.Freeing.FreeingEntries.{failed}
-use Rattle.qcow2_alloc.proofs.Growth.GrowingTables.{no-room, no-place, grows}
-use Rattle.qcow2_alloc.proofs.Growth.PlacedCopies.{whole-fill}
+use Rattle.qcow2_alloc.proofs.Freeing.EntryFrees.{failed}
+use Rattle.qcow2_alloc.proofs.Growth.TableGrowth.{no-room, no-place, grows}
+use Rattle.qcow2_alloc.proofs.Growth.CopyPlaces.{whole-fill}
 use Rattle.qcow2_alloc.proofs.allocation.Allocator.place_grown.Goals as goal
 
 pub returns-in-Err-clause-grows : goal.returns-in-Err-clause-grows

@@ -11,9 +11,9 @@ use Rattle.qcow2_alloc.specs.Freeing.{Frees, IsRest, IsRestInTurn, data_in}
 use Rattle.qcow2_alloc.specs.Quiet.{metadata_in}
 use Rattle.qcow2_alloc.specs.State.{lent}
 use Rattle.qcow2_alloc.proofs.Caching.Lengths.{announced-long}
-use Rattle.qcow2_alloc.proofs.Freeing.FreeingEntries.{frees-then, freed, failed}
-use Rattle.qcow2_alloc.proofs.Freeing.FreeingInTurn.{announcing-frees}
-use Rattle.qcow2_alloc.proofs.Freeing.FreeingRest.{order-announced, rest-none, rest-of-data, rest-without-metadata}
+use Rattle.qcow2_alloc.proofs.Freeing.EntryFrees.{frees-then, freed, failed}
+use Rattle.qcow2_alloc.proofs.Freeing.FreesInTurn.{announcing-frees}
+use Rattle.qcow2_alloc.proofs.Freeing.ListRemainders.{order-announced, rest-none, rest-of-data, rest-without-metadata}
 use Rattle.qcow2_alloc.proofs.Faults.{handed-on}
 use Rattle.qcow2_alloc.proofs.allocation.Allocator.process_clusters_to_free.Goals as goal
 

@@ -3,9 +3,9 @@ use Rattle.qcow2_alloc.specs.Allocators.{table_of, mark_of}
 use Rattle.qcow2_types.specs.Counts.{counters_of_block}
 use Rattle.qcow2_alloc.specs.GrowingTables.{GrowsTable}
 use Rattle.qcow2_alloc.specs.State.{seen}
-use Rattle.qcow2_alloc.proofs.Blocks.CountingClusters.{succeeded}
-use Rattle.qcow2_alloc.proofs.Freeing.FreeingEntries.{failed}
-use Rattle.qcow2_alloc.proofs.Blocks.ReadyingBlocks.{blocks-ready, table-ready, table-not-ready}
+use Rattle.qcow2_alloc.proofs.Blocks.ClusterCounts.{succeeded}
+use Rattle.qcow2_alloc.proofs.Freeing.EntryFrees.{failed}
+use Rattle.qcow2_alloc.proofs.Blocks.RunProvision.{blocks-ready, table-ready, table-not-ready}
 use Rattle.qcow2_alloc.proofs.Faults.{handed-on}
 use Rattle.qcow2_alloc.proofs.allocation.Allocator.ready_blocks.Goals as goal
 

@@ -1,7 +1,7 @@
 use Rattle.std.proofs.Common.{◌≡◌, false, length}
 use Rattle.qcow2_alloc.specs.Allocators.{table_of, mark_of}
 use Rattle.qcow2_alloc.specs.State.{seen}
-use Rattle.qcow2_alloc.proofs.Handing.ReadyingRuns.{Readying, Stays, turns_left}
+use Rattle.qcow2_alloc.proofs.Handing.RunReadiness.{Readying, Stays, turns_left}
 use Rattle.qcow2_alloc.proofs.allocation.Allocator.ready_run.Given as goal
 
 abbrev pub invariant-loop-first : goal.invariant-loop-first

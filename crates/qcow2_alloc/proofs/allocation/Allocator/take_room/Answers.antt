@@ -11,8 +11,8 @@ use Rattle.qcow2_alloc.specs.Caches.{cached_in}
 use Rattle.qcow2_alloc.specs.Growing.{lacking}
 use Rattle.qcow2_alloc.specs.MovingTables.{ForgetsRun, IsPinnedWithin}
 use Rattle.qcow2_alloc.specs.State.{lent}
-use Rattle.qcow2_alloc.proofs.Blocks.WritingNewBlocks.{run-fits}
-use Rattle.qcow2_alloc.proofs.Growth.TakingRoom.{flushed-then, room-not-forgotten, room-taken}
+use Rattle.qcow2_alloc.proofs.Blocks.NewBlockWrites.{run-fits}
+use Rattle.qcow2_alloc.proofs.Growth.RoomAcquisition.{flushed-then, room-not-forgotten, room-taken}
 use Rattle.qcow2_alloc.proofs.Faults.{handed-on}
 use Rattle.qcow2_alloc.proofs.allocation.Allocator.take_room.Goals as goal
 

@@ -6,8 +6,8 @@ use Rattle.qcow2_alloc.specs.FreeList.{FreeList}
 use Rattle.qcow2_alloc.specs.HandingOut.{AllocatesClusters}
 use Rattle.qcow2_alloc.specs.ReadyingRuns.{Spares}
 use Rattle.qcow2_alloc.specs.State.{lent, seen}
-use Rattle.qcow2_alloc.proofs.Handing.HandingOut.{refused_run, run_so, run-not-held}
-use Rattle.qcow2_alloc.proofs.Searching.Looking.{clean-none}
+use Rattle.qcow2_alloc.proofs.Handing.AllocationsInOrder.{refused_run, run_so, run-not-held}
+use Rattle.qcow2_alloc.proofs.Searching.SearchSequences.{clean-none}
 use Rattle.qcow2_alloc.proofs.Faults.{handed-on}
 use Rattle.qcow2_alloc.proofs.allocation.Allocator.try_allocate_clusters.Goals as goal
 

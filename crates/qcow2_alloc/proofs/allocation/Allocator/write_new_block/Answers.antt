@@ -1,4 +1,4 @@
-use Rattle.qcow2_alloc.proofs.Blocks.WritingNewBlocks.{placed-written}
+use Rattle.qcow2_alloc.proofs.Blocks.NewBlockWrites.{placed-written}
 use Rattle.qcow2_alloc.proofs.allocation.Allocator.write_new_block.Goals as goal
 
 pub returns-clause-writes : goal.returns-clause-writes

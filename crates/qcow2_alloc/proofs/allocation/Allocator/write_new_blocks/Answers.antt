@@ -15,9 +15,9 @@ use Rattle.qcow2_alloc.specs.Allocators.{table_of}
 use Rattle.qcow2_alloc.specs.Growing.{lacking}
 use Rattle.qcow2_alloc.specs.MakingRoom.{rank}
 use Rattle.qcow2_alloc.specs.NewBlocks.{WritesLacking}
-use Rattle.qcow2_alloc.proofs.Growth.FindingRoom.{lacking-before, lacking-there, lacking-here, index-near}
-use Rattle.qcow2_alloc.proofs.Blocks.NamedWords.{named-some, named-none}
-use Rattle.qcow2_alloc.proofs.Blocks.WritingNewBlocks.{lack, WritesBefore, before-none, before-over, before-then-at, before-few, before-all, room-for, all-before, run-fits}
+use Rattle.qcow2_alloc.proofs.Growth.FirstRooms.{lacking-before, lacking-there, lacking-here, index-near}
+use Rattle.qcow2_alloc.proofs.Blocks.RefcountTableWords.{named-some, named-none}
+use Rattle.qcow2_alloc.proofs.Blocks.NewBlockWrites.{lack, WritesBefore, before-none, before-over, before-then-at, before-few, before-all, room-for, all-before, run-fits}
 use Rattle.qcow2_alloc.proofs.Faults.{handed-on}
 use Rattle.qcow2_alloc.proofs.allocation.Allocator.write_new_blocks.Goals as goal
 use Rattle.qcow2_alloc.proofs.allocation.Allocator.write_new_blocks.Goals.{then-is_none+in_ok-write_new_block, else-is_none}

@@ -2,7 +2,7 @@ use Rattle.std.proofs.Common.{◌≡◌, ◌≤◌, ◌<◌, ◌+◌, ◌-◌, �
 use Rattle.qcow2_types.specs.Counts.{counters_of_block}
 use Rattle.qcow2_alloc.specs.Allocators.{table_of}
 use Rattle.qcow2_alloc.specs.MakingRoom.{rank}
-use Rattle.qcow2_alloc.proofs.Blocks.WritingNewBlocks.{lack, WritesBefore}
+use Rattle.qcow2_alloc.proofs.Blocks.NewBlockWrites.{lack, WritesBefore}
 use Rattle.qcow2_alloc.proofs.allocation.Allocator.write_new_blocks.Given as goal
 
 abbrev pub invariant-loop-run : goal.invariant-loop-run

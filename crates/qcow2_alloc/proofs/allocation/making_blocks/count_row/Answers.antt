@@ -3,7 +3,7 @@ use Rattle.std.specs.Prelude.{slice_index}
 use Rattle.std.proofs.lemmas.Nat.{pow_pos}
 use Rattle.std.proofs.Math.Nat.{pow-le-pow_right}
 use Rattle.qcow2_metadata.specs.Blocks.{Block}
-use Rattle.qcow2_alloc.proofs.Blocks.CountingRuns.{covers-behind}
+use Rattle.qcow2_alloc.proofs.Blocks.RunCounts.{covers-behind}
 use Rattle.qcow2_alloc.proofs.allocation.making_blocks.count_row.Goals as goal
 
 -- A counter has one bit at least, and this one is zero still.

@@ -4,7 +4,7 @@ use Rattle.std.specs.Map.{lookup, remove_entry}
 use Rattle.qcow2_alloc.specs.declared.cache.MetadataCaches.{MetadataCaches}
 use Rattle.qcow2_alloc.specs.Caches.{cached_in}
 use Rattle.qcow2_alloc.specs.CachesLending.{with_blocks}
-use Rattle.qcow2_alloc.proofs.Caching.ForgettingRuns.{forgets-none, forgets-then, forgotten-leaves, pinned-within}
+use Rattle.qcow2_alloc.proofs.Caching.BlockRunDrops.{forgets-none, forgets-then, forgotten-leaves, pinned-within}
 use Rattle.qcow2_alloc.proofs.Caching.Pins.{pins-none, pins-then}
 use Rattle.qcow2_alloc.proofs.Faults.{handed-on}
 use Rattle.qcow2_alloc.proofs.allocation.moving_table.forget_run.Goals as goal

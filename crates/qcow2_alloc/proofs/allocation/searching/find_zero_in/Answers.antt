@@ -2,7 +2,7 @@ use Rattle.std.proofs.Common.{subst}
 use Rattle.std.specs.Prelude.{ℕ, Option}
 use Rattle.qcow2_types.specs.Counts.{counters_of_block}
 use Rattle.qcow2_alloc.specs.Scanning.{FindsZero, Reads}
-use Rattle.qcow2_alloc.proofs.Caching.UsingLent.{block-used}
+use Rattle.qcow2_alloc.proofs.Caching.EntryLoans.{block-used}
 use Rattle.qcow2_alloc.proofs.allocation.searching.find_zero_in.Goals as goal
 
 pub returns : goal.returns

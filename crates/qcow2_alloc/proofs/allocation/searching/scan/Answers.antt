@@ -2,7 +2,7 @@ use Rattle.std.proofs.Common.{◌≡◌, ◌+◌, ◌<◌, arith, ap, sym, subst
 use Rattle.std.specs.Prelude.{Bool, ◌==◌, slice_index}
 use Rattle.qcow2_alloc.specs.declared.allocation.searching.Run.{Run}
 use Rattle.qcow2_alloc.specs.Scanning.{Scans}
-use Rattle.qcow2_alloc.proofs.Searching.SearchingRuns.{run_then, scans-none, scans-next}
+use Rattle.qcow2_alloc.proofs.Searching.RunsInSearch.{run_then, scans-none, scans-next}
 use Rattle.qcow2_alloc.proofs.allocation.searching.scan.Goals as goal
 
 pub loop-at-init : goal.loop-at-init

@@ -3,7 +3,7 @@ use Rattle.std.specs.Prelude.{ℕ}
 use Rattle.qcow2_types.specs.Counts.{counters_of_block}
 use Rattle.qcow2_alloc.specs.declared.allocation.searching.Run.{Run}
 use Rattle.qcow2_alloc.specs.Scanning.{ScansSome, Reads}
-use Rattle.qcow2_alloc.proofs.Caching.UsingLent.{block-used}
+use Rattle.qcow2_alloc.proofs.Caching.EntryLoans.{block-used}
 use Rattle.qcow2_alloc.proofs.allocation.searching.scan_in.Goals as goal
 
 pub returns : goal.returns

@@ -3,7 +3,7 @@ use Rattle.std.specs.Prelude.{map}
 use Rattle.qcow2_metadata.specs.Blocks.{Block}
 use Rattle.qcow2_alloc.specs.declared.async_lru_cache.Slot.{Slot}
 use Rattle.qcow2_alloc.specs.Memory.{written_table}
-use Rattle.qcow2_alloc.proofs.Caching.FlushingAll.{all-flushed}
+use Rattle.qcow2_alloc.proofs.Caching.CacheFlushes.{all-flushed}
 use Rattle.qcow2_alloc.proofs.Caching.BlockSide.{blocks, block-laws, rb_side}
 use Rattle.qcow2_alloc.proofs.cache.MetadataCaches.flush_blocks.Goals as goal
 

@@ -3,7 +3,7 @@ use Rattle.std.specs.Prelude.{map}
 use Rattle.qcow2_metadata.specs.Tables.{TableValue}
 use Rattle.qcow2_alloc.specs.declared.async_lru_cache.Slot.{Slot}
 use Rattle.qcow2_alloc.specs.Memory.{written_block}
-use Rattle.qcow2_alloc.proofs.Caching.FlushingAll.{all-flushed}
+use Rattle.qcow2_alloc.proofs.Caching.CacheFlushes.{all-flushed}
 use Rattle.qcow2_alloc.proofs.Caching.TableSide.{tables, table-laws, l2_side}
 use Rattle.qcow2_alloc.proofs.cache.MetadataCaches.flush_l2.Goals as goal
 

@@ -1,5 +1,5 @@
-use Rattle.qcow2_alloc.proofs.Caching.CachedEntries.{table-kind-laws}
-use Rattle.qcow2_alloc.proofs.Caching.Dropping.{entries-dropped}
+use Rattle.qcow2_alloc.proofs.Caching.SingleEntries.{table-kind-laws}
+use Rattle.qcow2_alloc.proofs.Caching.EntryDrops.{entries-dropped}
 use Rattle.qcow2_alloc.proofs.Memory.EntryKinds.{table_kind}
 use Rattle.qcow2_alloc.proofs.cache.MetadataCaches.invalidate_l2.Goals as goal
 

@@ -1,5 +1,5 @@
-use Rattle.qcow2_alloc.proofs.Caching.CachedEntries.{block-kind-laws}
-use Rattle.qcow2_alloc.proofs.Caching.Dropping.{entries-dropped}
+use Rattle.qcow2_alloc.proofs.Caching.SingleEntries.{block-kind-laws}
+use Rattle.qcow2_alloc.proofs.Caching.EntryDrops.{entries-dropped}
 use Rattle.qcow2_alloc.proofs.Memory.EntryKinds.{block_kind}
 use Rattle.qcow2_alloc.proofs.cache.MetadataCaches.invalidate_rb.Goals as goal
 

@@ -2,8 +2,8 @@ use Rattle.std.proofs.Common.{ap, subst, Ok, Err}
 use Rattle.qcow2_alloc.specs.declared.cache.CacheDependency.{CacheDependency}
 use Rattle.qcow2_alloc.specs.Caches.{cached_in, order_of}
 use Rattle.qcow2_alloc.specs.Going.{ReadyBlocks}
-use Rattle.qcow2_alloc.proofs.Caching.LettingIn.{tables-still}
-use Rattle.qcow2_alloc.proofs.Flushing.Announcing.{blocks-come-first}
+use Rattle.qcow2_alloc.proofs.Caching.Admission.{tables-still}
+use Rattle.qcow2_alloc.proofs.Flushing.OrderAnnouncements.{blocks-come-first}
 use Rattle.qcow2_alloc.proofs.cache.MetadataCaches.l2_depends_on_rb.Goals as goal
 
 pub returns-clause-safe : goal.returns-clause-safe

@@ -6,8 +6,8 @@ use Rattle.qcow2_alloc.specs.Cache.{Inserted}
 use Rattle.qcow2_alloc.specs.Caches.{cached_file}
 use Rattle.qcow2_alloc.specs.CachesLending.{table_kind}
 use Rattle.qcow2_alloc.specs.Putting.{TableInserted}
-use Rattle.qcow2_alloc.proofs.Caching.Inserting.{IsBarred}
-use Rattle.qcow2_alloc.proofs.Caching.Putting.{put-now, put-unchanged}
+use Rattle.qcow2_alloc.proofs.Caching.PutOutcomes.{IsBarred}
+use Rattle.qcow2_alloc.proofs.Caching.EntryPuts.{put-now, put-unchanged}
 use Rattle.qcow2_alloc.proofs.Caching.TableSide.{tables, table-laws, l2_side, back, table-put}
 use Rattle.qcow2_alloc.proofs.cache.MetadataCaches.l2_insert_at.Goals as goal
 use Rattle.qcow2_alloc.proofs.Faults.{handed-on}

@@ -1,5 +1,5 @@
 use Rattle.std.proofs.Common.{Ok, Err, ap}
-use Rattle.qcow2_alloc.proofs.Caching.Finding.{found-full, found-halted}
+use Rattle.qcow2_alloc.proofs.Caching.EntrySearches.{found-full, found-halted}
 use Rattle.qcow2_alloc.proofs.Caching.TableSide.{tables, table-laws, l2_side, blocks-first, table-found}
 use Rattle.qcow2_alloc.proofs.Faults.{handed-on}
 use Rattle.qcow2_alloc.proofs.cache.MetadataCaches.l2_load.Goals as goal

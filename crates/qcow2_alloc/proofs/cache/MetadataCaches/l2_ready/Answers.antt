@@ -6,7 +6,7 @@ use Rattle.qcow2_alloc.specs.declared.file.ImageFile.{ImageFile}
 use Rattle.qcow2_alloc.specs.Cache.{Readied}
 use Rattle.qcow2_alloc.specs.CachesLending.{table_kind}
 use Rattle.qcow2_alloc.specs.Finding.{TableFound}
-use Rattle.qcow2_alloc.proofs.Caching.Finding.{found-now, found-stuck}
+use Rattle.qcow2_alloc.proofs.Caching.EntrySearches.{found-now, found-stuck}
 use Rattle.qcow2_alloc.proofs.Caching.TableSide.{tables, table-laws, l2_side, back, table-found}
 use Rattle.qcow2_alloc.proofs.Faults.{handed-on}
 use Rattle.qcow2_alloc.proofs.cache.MetadataCaches.l2_ready.Goals as goal

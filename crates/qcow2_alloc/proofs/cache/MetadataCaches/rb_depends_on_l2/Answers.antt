@@ -2,7 +2,7 @@ use Rattle.std.proofs.Common.{subst}
 use Rattle.qcow2_alloc.specs.declared.cache.CacheDependency.{CacheDependency}
 use Rattle.qcow2_alloc.specs.Caches.{cached_in, order_of}
 use Rattle.qcow2_alloc.specs.Going.{ReadyTables}
-use Rattle.qcow2_alloc.proofs.Flushing.Announcing.{tables-come-first}
+use Rattle.qcow2_alloc.proofs.Flushing.OrderAnnouncements.{tables-come-first}
 use Rattle.qcow2_alloc.proofs.cache.MetadataCaches.rb_depends_on_l2.Goals as goal
 
 pub returns-clause-safe : goal.returns-clause-safe

@@ -6,8 +6,8 @@ use Rattle.qcow2_alloc.specs.Cache.{Inserted}
 use Rattle.qcow2_alloc.specs.Caches.{cached_file}
 use Rattle.qcow2_alloc.specs.CachesLending.{block_kind}
 use Rattle.qcow2_alloc.specs.Putting.{BlockInserted}
-use Rattle.qcow2_alloc.proofs.Caching.Inserting.{IsBarred}
-use Rattle.qcow2_alloc.proofs.Caching.Putting.{put-now, put-unchanged}
+use Rattle.qcow2_alloc.proofs.Caching.PutOutcomes.{IsBarred}
+use Rattle.qcow2_alloc.proofs.Caching.EntryPuts.{put-now, put-unchanged}
 use Rattle.qcow2_alloc.proofs.Caching.BlockSide.{blocks, block-laws, rb_side, back, block-put}
 use Rattle.qcow2_alloc.proofs.cache.MetadataCaches.rb_insert_at.Goals as goal
 use Rattle.qcow2_alloc.proofs.Faults.{handed-on}

@@ -1,5 +1,5 @@
 use Rattle.std.proofs.Common.{Ok, Err, ap}
-use Rattle.qcow2_alloc.proofs.Caching.Finding.{found-full, found-halted}
+use Rattle.qcow2_alloc.proofs.Caching.EntrySearches.{found-full, found-halted}
 use Rattle.qcow2_alloc.proofs.Caching.BlockSide.{blocks, block-laws, rb_side, tables-first, block-found}
 use Rattle.qcow2_alloc.proofs.Faults.{handed-on}
 use Rattle.qcow2_alloc.proofs.cache.MetadataCaches.rb_load.Goals as goal

@@ -1,5 +1,5 @@
 use Rattle.std.proofs.Common.{Ok, Err, ap}
-use Rattle.qcow2_alloc.proofs.Caching.Putting.{put-behind, put-halted}
+use Rattle.qcow2_alloc.proofs.Caching.EntryPuts.{put-behind, put-halted}
 use Rattle.qcow2_alloc.proofs.Caching.BlockSide.{blocks, block-laws, rb_side, tables-first, block-put}
 use Rattle.qcow2_alloc.proofs.cache.MetadataCaches.rb_put_over.Goals as goal
 use Rattle.qcow2_alloc.proofs.Faults.{handed-on}

@@ -6,7 +6,7 @@ use Rattle.qcow2_alloc.specs.declared.file.ImageFile.{ImageFile}
 use Rattle.qcow2_alloc.specs.Cache.{Readied}
 use Rattle.qcow2_alloc.specs.CachesLending.{block_kind}
 use Rattle.qcow2_alloc.specs.Finding.{BlockFound}
-use Rattle.qcow2_alloc.proofs.Caching.Finding.{found-now, found-stuck}
+use Rattle.qcow2_alloc.proofs.Caching.EntrySearches.{found-now, found-stuck}
 use Rattle.qcow2_alloc.proofs.Caching.BlockSide.{blocks, block-laws, rb_side, back, block-found}
 use Rattle.qcow2_alloc.proofs.Faults.{handed-on}
 use Rattle.qcow2_alloc.proofs.cache.MetadataCaches.rb_ready.Goals as goal

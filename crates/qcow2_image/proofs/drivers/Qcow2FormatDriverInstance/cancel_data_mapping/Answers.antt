@@ -1,6 +1,6 @@
 use Rattle.std.proofs.Common.{sym, ◌∙◌, arith}
-use Rattle.qcow2_image.proofs.Spent.{cancels-by}
-use Rattle.qcow2_image.proofs.SpentLeaks.{cancel-leaks}
+use Rattle.qcow2_image.proofs.CommitsAndCancels.{cancels-by}
+use Rattle.qcow2_image.proofs.CommitLeaks.{cancel-leaks}
 use Rattle.qcow2_image.proofs.drivers.Qcow2FormatDriverInstance.cancel_data_mapping.Goals as goal
 
 pub returns-else-state-self : goal.returns-else-state-self

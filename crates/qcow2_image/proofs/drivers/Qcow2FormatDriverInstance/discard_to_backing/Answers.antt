@@ -1,5 +1,5 @@
 use Rattle.imago_access.specs.PartCalls.{discards_to_backing}
-use Rattle.qcow2_image.proofs.Settling.{declined}
+use Rattle.qcow2_image.proofs.RequestsWithoutChanges.{declined}
 use Rattle.qcow2_image.proofs.drivers.Qcow2FormatDriverInstance.discard_to_backing.Goals as goal
 
 pub returns-clause-refused : goal.returns-clause-refused

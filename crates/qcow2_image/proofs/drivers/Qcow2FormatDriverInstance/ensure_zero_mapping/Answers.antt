@@ -1,5 +1,5 @@
 use Rattle.imago_access.specs.PartCalls.{ensures_zero}
-use Rattle.qcow2_image.proofs.Settling.{declined}
+use Rattle.qcow2_image.proofs.RequestsWithoutChanges.{declined}
 use Rattle.qcow2_image.proofs.drivers.Qcow2FormatDriverInstance.ensure_zero_mapping.Goals as goal
 
 pub returns-clause-refused : goal.returns-clause-refused

@@ -5,11 +5,11 @@ use Rattle.qcow2_image.specs.declared.qcow2.Qcow2.{Qcow2}
 use Rattle.qcow2_image.specs.Steps.{KeepsImage, failed_behind, failed_by}
 use Rattle.qcow2_image.specs.Unspent.{holding_in}
 use Rattle.qcow2_image.proofs.ClusterSteps.{idle-waits}
-use Rattle.qcow2_image.proofs.Flushing.{freed-cause, freed-failed, freed-like, freed-marks, freed-sees, freed-went, freed-written}
+use Rattle.qcow2_image.proofs.ImageFlushes.{freed-cause, freed-failed, freed-like, freed-marks, freed-sees, freed-went, freed-written}
 use Rattle.qcow2_image.proofs.Anew.{on-ok}
 use Rattle.qcow2_image.proofs.Leaks.{leaks-asked}
 use Rattle.qcow2_image.proofs.Lengths.{asked-long}
-use Rattle.qcow2_image.proofs.Settling.{asked-keeps, counted-faultless, meant, ok-whole}
+use Rattle.qcow2_image.proofs.RequestsWithoutChanges.{asked-keeps, counted-faultless, meant, ok-whole}
 use Rattle.qcow2_image.proofs.Steps.{looked-kept, marks-kept}
 use Rattle.qcow2_image.proofs.drivers.Qcow2FormatDriverInstance.flush.Goals as goal
 

@@ -1,8 +1,8 @@
 use Rattle.std.proofs.Common.{ℕ}
 use Rattle.imago_access.specs.declared.mapping.ShallowMapping.{ShallowMapping}
-use Rattle.qcow2_image.proofs.Settling.{ok-whole}
+use Rattle.qcow2_image.proofs.RequestsWithoutChanges.{ok-whole}
 use Rattle.qcow2_image.proofs.drivers.Qcow2FormatDriverInstance.get_mapping.Goals as goal
-use Rattle.qcow2_image.proofs.KeptLeaks.{leaks-kept}
+use Rattle.qcow2_image.proofs.LeaksByFile.{leaks-kept}
 
 pub returns-clause-began : goal.returns-clause-began
 returns-clause-began g c = ok-whole c.run_from.result _ c.run_from.ensures.began

@@ -1,7 +1,7 @@
 use Rattle.std.proofs.Common.{ap, ◌∙◌}
 use Rattle.qcow2_image.specs.Holding.{claim_held}
 use Rattle.qcow2_image.specs.Unspent.{holding_in}
-use Rattle.qcow2_image.proofs.Settling.{anew-marks, anew-same, anew-went, reloads-settled}
+use Rattle.qcow2_image.proofs.RequestsWithoutChanges.{anew-marks, anew-same, anew-went, reloads-settled}
 use Rattle.qcow2_image.proofs.drivers.Qcow2FormatDriverInstance.invalidate_cache.Goals as goal
 
 pub returns-clause-same : goal.returns-clause-same

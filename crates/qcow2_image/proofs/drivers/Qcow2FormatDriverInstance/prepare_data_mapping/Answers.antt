@@ -5,12 +5,12 @@ use Rattle.imago_access.specs.Files.{IsMild}
 use Rattle.imago_access.proofs.Looking.{looked_under_same}
 use Rattle.qcow2_image.specs.Looking.{IsWholeRunIn}
 use Rattle.qcow2_image.specs.Seen.{layer_of}
-use Rattle.qcow2_image.proofs.Preparations.Prepared.{fresh-cut, fresh-free, fresh-mine, fresh-reaches, fresh-run, fresh-size, fresh-whole, limit-where, prepares-fresh, unspent-none}
-use Rattle.qcow2_image.proofs.Preparations.Preparing.{part-why, prepares-mapped, prepares-refused}
-use Rattle.qcow2_image.proofs.Preparations.Reserving.{fresh-lacks, prepared-behind}
+use Rattle.qcow2_image.proofs.Preparations.DriverPreparations.{fresh-cut, fresh-free, fresh-mine, fresh-reaches, fresh-run, fresh-size, fresh-whole, limit-where, prepares-fresh, unspent-none}
+use Rattle.qcow2_image.proofs.Preparations.RunPreparations.{part-why, prepares-mapped, prepares-refused}
+use Rattle.qcow2_image.proofs.Preparations.Reservations.{fresh-lacks, prepared-behind}
 use Rattle.qcow2_alloc.proofs.Faults.{handed-on}
 use Rattle.qcow2_image.proofs.drivers.Qcow2FormatDriverInstance.prepare_data_mapping.Goals as goal
-use Rattle.qcow2_image.proofs.KeptLeaks.{leaks-kept}
+use Rattle.qcow2_image.proofs.LeaksByFile.{leaks-kept}
 
 pub returns-then-self-clause-below : goal.returns-then-self-clause-below
 returns-then-self-clause-below g c = looked_under_same g.B.SeenBelow ⊤ c.args.below.now

@@ -3,7 +3,7 @@ use Rattle.imago_access.specs.Files.{WasNotCutOff}
 use Rattle.qcow2_image.specs.declared.qcow2.Qcow2.{Qcow2}
 use Rattle.qcow2_image.specs.Steps.{KeepsImage, failed_behind, failed_by}
 use Rattle.qcow2_image.proofs.Leaks.{leaks-asked}
-use Rattle.qcow2_image.proofs.Settling.{asked-keeps, counted-faultless}
+use Rattle.qcow2_image.proofs.RequestsWithoutChanges.{asked-keeps, counted-faultless}
 use Rattle.qcow2_image.proofs.Steps.{marks-kept, sees-same}
 use Rattle.qcow2_image.proofs.drivers.Qcow2FormatDriverInstance.sync.Goals as goal
 

@@ -1,12 +1,12 @@
 use Rattle.std.proofs.Common.{refl, true, inl, inr, Ok, Err}
 use Rattle.std.specs.Prelude.{Bool}
 use Rattle.imago_storage.specs.declared.fault.Fault.TheVariants.{Outdated}
-use Rattle.qcow2_image.proofs.Written.{marked-or-kept, noted, spared-looking, spared-unless, spared-writing, told-why, unnoted, unwritten, writes-mapped, writing-refused, written-leaks}
+use Rattle.qcow2_image.proofs.RangeWrites.{marked-or-kept, noted, spared-looking, spared-unless, spared-writing, told-why, unnoted, unwritten, writes-mapped, writing-refused, written-leaks}
 use Rattle.qcow2_image.proofs.Lengths.{looked-long, written-long}
 use Rattle.qcow2_image.proofs.Steps.{keeps-as, marks-kept}
 use Rattle.qcow2_alloc.proofs.Faults.{handed-on}
 use Rattle.qcow2_image.proofs.drivers.Qcow2FormatDriverInstance.write_mapped.Goals as goal
-use Rattle.qcow2_image.proofs.KeptLeaks.{leaks-kept}
+use Rattle.qcow2_image.proofs.LeaksByFile.{leaks-kept}
 
 pub returns-clause-writes : goal.returns-clause-writes
 returns-clause-writes g c =

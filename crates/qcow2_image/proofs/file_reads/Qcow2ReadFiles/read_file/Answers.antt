@@ -1,7 +1,7 @@
 use Rattle.std.proofs.Common.{length, refl}
 use Rattle.imago_access.specs.Files.{WasNotCutOff}
 use Rattle.qcow2_image.proofs.FileReads.{file-read}
-use Rattle.qcow2_image.proofs.Settling.{read-faultless}
+use Rattle.qcow2_image.proofs.RequestsWithoutChanges.{read-faultless}
 use Rattle.qcow2_image.proofs.file_reads.Qcow2ReadFiles.read_file.Goals as goal
 
 pub returns-then-file-eq0-clause-read : goal.returns-then-file-eq0-clause-read

@@ -1,5 +1,5 @@
 use Rattle.std.proofs.Common.{refl}
-use Rattle.qcow2_image.proofs.Spent.{drops-by}
+use Rattle.qcow2_image.proofs.CommitsAndCancels.{drops-by}
 use Rattle.qcow2_image.proofs.qcow2.Qcow2.cancel_unspent.Goals as goal
 
 pub returns-in-Some : goal.returns-in-Some

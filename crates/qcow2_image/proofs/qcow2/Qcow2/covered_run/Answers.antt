@@ -4,7 +4,7 @@ use Rattle.qcow2_types.specs.Header.{cluster_size}
 use Rattle.qcow2_types.specs.Entries.{entry}
 use Rattle.qcow2_image.specs.Looking.{Follows}
 use Rattle.qcow2_image.specs.Seen.{file_of}
-use Rattle.qcow2_image.proofs.Preparations.CoveredRuns.{run-found, run-one}
+use Rattle.qcow2_image.proofs.Preparations.RangeRuns.{run-found, run-one}
 use Rattle.qcow2_image.proofs.qcow2.Qcow2.covered_run.Goals as goal
 
 pub look_up-requires-clause-fits : goal.look_up-requires-clause-fits

@@ -1,7 +1,7 @@
 use Rattle.std.proofs.Common.{◌≡◌, ◌∙◌, ◌/◌, ap, ℕ, Ok}
 use Rattle.qcow2_types.specs.Entries.{l2_entries}
 use Rattle.qcow2_types.specs.Header.{words_of_cluster}
-use Rattle.qcow2_image.proofs.Beginning.{begins-err, begins-then}
+use Rattle.qcow2_image.proofs.CallStarts.{begins-err, begins-then}
 use Rattle.qcow2_image.proofs.ClusterSteps.{table-behind-word, table-wordless}
 use Rattle.qcow2_alloc.proofs.Faults.{handed-on}
 use Rattle.qcow2_image.proofs.qcow2.Qcow2.ensure_table.Goals as goal

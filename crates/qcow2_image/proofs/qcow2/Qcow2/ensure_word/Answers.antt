@@ -2,7 +2,7 @@ use Rattle.std.proofs.Common.{arith, sym, subst, refl, Result, Ok}
 use Rattle.imago_storage.specs.declared.fault.Fault.{Fault}
 use Rattle.qcow2_image.specs.Allocating.{Begins, EnsuresWord}
 use Rattle.qcow2_image.specs.declared.qcow2.Qcow2.{Qcow2}
-use Rattle.qcow2_image.proofs.Beginning.{begins-same, changed-begins}
+use Rattle.qcow2_image.proofs.CallStarts.{begins-same, changed-begins}
 use Rattle.qcow2_image.proofs.ClusterSteps.{lengthened}
 use Rattle.qcow2_image.proofs.qcow2.Qcow2.ensure_word.Goals as goal
 

@@ -4,8 +4,8 @@ use Rattle.imago_storage.specs.declared.fault.Fault.{Fault}
 use Rattle.imago_storage.specs.declared.fault.Fault.TheVariants.{DamagedTable}
 use Rattle.qcow2_image.specs.Allocating.{Begins, FillsContent}
 use Rattle.qcow2_image.specs.declared.qcow2.Qcow2.{Qcow2}
-use Rattle.qcow2_clusters.proofs.Sparing.{words-same}
-use Rattle.qcow2_image.proofs.Beginning.{begins-same, changed-begins}
+use Rattle.qcow2_clusters.proofs.EarlyRefusals.{words-same}
+use Rattle.qcow2_image.proofs.CallStarts.{begins-same, changed-begins}
 use Rattle.qcow2_image.proofs.ClusterSteps.{filled, some-there}
 use Rattle.qcow2_image.proofs.qcow2.Qcow2.fill_content.Goals as goal
 

@@ -6,7 +6,7 @@ use Rattle.imago_access.specs.Files.{WasNotCutOff}
 use Rattle.qcow2_image.specs.Allocating.{FlushesFreed, failed_cut}
 use Rattle.qcow2_image.specs.KeepsDisk.{KeepsDisk}
 use Rattle.qcow2_image.specs.declared.qcow2.Qcow2.{Qcow2}
-use Rattle.qcow2_image.proofs.Flushing.{flushes-freed, requested}
+use Rattle.qcow2_image.proofs.ImageFlushes.{flushes-freed, requested}
 use Rattle.qcow2_image.proofs.Leaks.{leaks-asked}
 use Rattle.qcow2_image.proofs.Lengths.{asked-long}
 use Rattle.qcow2_image.proofs.qcow2.Qcow2.flush_freed.Goals as goal

@@ -2,7 +2,7 @@ use Rattle.std.proofs.Common.{sym, ◌∙◌, subst}
 use Rattle.qcow2_image.specs.Holding.{HoldsRun}
 use Rattle.qcow2_image.specs.Seen.{homes_of}
 use Rattle.qcow2_image.specs.Unspent.{holding_in}
-use Rattle.qcow2_image.proofs.Mapped.{held-goes-on, held-nowhere, word-none, words-none}
+use Rattle.qcow2_image.proofs.RangeLookups.{held-goes-on, held-nowhere, word-none, words-none}
 use Rattle.qcow2_image.proofs.qcow2.Qcow2.home_run.Goals as goal
 
 pub returns-in-None-clause-home : goal.returns-in-None-clause-home

@@ -1,5 +1,5 @@
 use Rattle.std.proofs.Common.{refl}
-use Rattle.qcow2_image.proofs.Lending.{image-lent}
+use Rattle.qcow2_image.proofs.ImageLoans.{image-lent}
 use Rattle.qcow2_image.proofs.qcow2.Qcow2.image_mut.Goals as goal
 
 pub returns : goal.returns

@@ -4,7 +4,7 @@ use Rattle.imago_access.specs.Layer.{Layer}
 use Rattle.imago_access.proofs.ImageCauses.{failed_behind}
 use Rattle.qcow2_image.specs.Writing.{IsHomeAt}
 use Rattle.qcow2_image.specs.Seen.{layer_of}
-use Rattle.qcow2_image.proofs.Mapped.{home-both, homeless-unmapped, elsewhere-unmapped, kept-seen, why-told}
+use Rattle.qcow2_image.proofs.RangeLookups.{home-both, homeless-unmapped, elsewhere-unmapped, kept-seen, why-told}
 use Rattle.qcow2_image.proofs.Steps.{keeps-as, keeps-both}
 use Rattle.qcow2_alloc.proofs.Faults.{handed-on}
 use Rattle.qcow2_image.proofs.qcow2.Qcow2.is_mapped_at.Goals as goal

@@ -1,5 +1,5 @@
 use Rattle.std.proofs.lemmas.Result.{IfOk-weaker}
-use Rattle.qcow2_image.proofs.JustOpened.{opened-begins}
+use Rattle.qcow2_image.proofs.StateAfterOpening.{opened-begins}
 use Rattle.qcow2_image.proofs.qcow2.Qcow2.open_image.Goals as goal
 
 pub returns-clause-begins : goal.returns-clause-begins

@@ -7,7 +7,7 @@ use Rattle.qcow2_image.specs.Allocating.{Begins, EnsuresTable}
 use Rattle.qcow2_image.specs.FreeSpace.{enough_for_one}
 use Rattle.qcow2_image.specs.Looking.{place_of_table}
 use Rattle.qcow2_image.specs.declared.qcow2.Qcow2.{Qcow2}
-use Rattle.qcow2_image.proofs.Beginning.{begins-same, changed-begins}
+use Rattle.qcow2_image.proofs.CallStarts.{begins-same, changed-begins}
 use Rattle.qcow2_image.proofs.ClusterSteps.{renewed, table-there}
 use Rattle.qcow2_image.proofs.qcow2.Qcow2.own_table.Goals as goal
 use Rattle.qcow2_image.proofs.qcow2.Qcow2.own_table.Goals.{in-Some+else-is_copied, in_default}

@@ -3,7 +3,7 @@ use Rattle.std.specs.Prelude.{true, IfSome}
 use Rattle.qcow2_metadata.specs.Places.{IsInReach}
 use Rattle.qcow2_image.specs.Allocating.{PlacesContent}
 use Rattle.qcow2_image.specs.declared.allocating.Placed.{Placed}
-use Rattle.qcow2_image.proofs.Beginning.{begins-err, begins-ok}
+use Rattle.qcow2_image.proofs.CallStarts.{begins-err, begins-ok}
 use Rattle.qcow2_image.proofs.ClusterSteps.{placed-free, placed-kept, unfilled}
 use Rattle.qcow2_alloc.proofs.Faults.{handed-on}
 use Rattle.qcow2_image.proofs.qcow2.Qcow2.place_content.Goals as goal

@@ -1,5 +1,5 @@
 use Rattle.imago_access.specs.Changes.{asking}
-use Rattle.qcow2_image.proofs.Preparations.Reserving.{run-prepared, run-unfound}
+use Rattle.qcow2_image.proofs.Preparations.Reservations.{run-prepared, run-unfound}
 use Rattle.qcow2_alloc.proofs.Faults.{handed-on}
 use Rattle.qcow2_image.proofs.qcow2.Qcow2.prepare_fresh.Goals as goal
 

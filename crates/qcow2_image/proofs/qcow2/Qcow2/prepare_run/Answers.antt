@@ -4,8 +4,8 @@ use Rattle.imago_access.specs.Changes.{Asked, asking}
 use Rattle.qcow2_types.specs.Header.{Header, cluster_size}
 use Rattle.qcow2_image.specs.Filling.{MakesContent}
 use Rattle.qcow2_image.specs.Preparing.{KeepsMapping, Reserves}
-use Rattle.qcow2_image.proofs.Preparations.CoveredRuns.{one-cluster}
-use Rattle.qcow2_image.proofs.Preparations.Reserving.{fresh-done, fresh-unfilled, fresh-unreserved, fresh-untold}
+use Rattle.qcow2_image.proofs.Preparations.RangeRuns.{one-cluster}
+use Rattle.qcow2_image.proofs.Preparations.Reservations.{fresh-done, fresh-unfilled, fresh-unreserved, fresh-untold}
 use Rattle.qcow2_alloc.proofs.Faults.{handed-on}
 use Rattle.qcow2_image.proofs.qcow2.Qcow2.prepare_run.Goals as goal
 

@@ -1,6 +1,6 @@
 use Rattle.std.proofs.Common.{arith, ◌∙◌}
 use Rattle.imago_storage.proofs.Once.{read-counted}
-use Rattle.qcow2_image.proofs.Probing.{start-begins}
+use Rattle.qcow2_image.proofs.Probes.{start-begins}
 use Rattle.qcow2_alloc.proofs.Faults.{handed-on}
 use Rattle.qcow2_image.proofs.qcow2.Qcow2.probe.Goals as goal
 

@@ -1,5 +1,5 @@
 use Rattle.std.proofs.Common.{arith}
-use Rattle.qcow2_image.proofs.Preparations.Reserving.{reserve-done, reserve-tableless, reserve-unloaded, reserve-unplaced}
+use Rattle.qcow2_image.proofs.Preparations.Reservations.{reserve-done, reserve-tableless, reserve-unloaded, reserve-unplaced}
 use Rattle.qcow2_alloc.proofs.Faults.{handed-on}
 use Rattle.qcow2_image.proofs.qcow2.Qcow2.reserve.Goals as goal
 

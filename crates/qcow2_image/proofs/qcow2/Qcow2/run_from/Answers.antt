@@ -21,7 +21,7 @@ use Rattle.qcow2_image.specs.Seen.{file_of, memory_of}
 use Rattle.qcow2_image.proofs.Ranges.{low-bits, high-bits, some-words, range-some, range-near, range-few, range-small, range-one-table, range-fits, range-within, range-word, range-ends}
 use Rattle.qcow2_image.proofs.Ends.{long-run, run-goes-on}
 use Rattle.qcow2_image.proofs.Steps.{began-kept, keeps-marked, looked-kept, marks-kept, memory-is}
-use Rattle.qcow2_image.proofs.Answering.{ends-near, is-run, names-one, looks-run, room-run, states-run, look-cause}
+use Rattle.qcow2_image.proofs.LookupAnswers.{ends-near, is-run, names-one, looks-run, room-run, states-run, look-cause}
 use Rattle.qcow2_image.proofs.qcow2.Qcow2.run_from.Goals as goal
 
 pub clusters_met-most-requires-clause-some : goal.clusters_met-most-requires-clause-some

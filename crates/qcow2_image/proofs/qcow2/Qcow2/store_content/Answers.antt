@@ -2,8 +2,8 @@ use Rattle.std.proofs.Common.{refl, sym, subst, ℕ, Result}
 use Rattle.imago_storage.specs.declared.fault.Fault.{Fault}
 use Rattle.qcow2_image.specs.Allocating.{Begins, StoresContent}
 use Rattle.qcow2_image.specs.declared.qcow2.Qcow2.{Qcow2}
-use Rattle.qcow2_clusters.proofs.Sparing.{words-same}
-use Rattle.qcow2_image.proofs.Beginning.{changed-begins}
+use Rattle.qcow2_clusters.proofs.EarlyRefusals.{words-same}
+use Rattle.qcow2_image.proofs.CallStarts.{changed-begins}
 use Rattle.qcow2_image.proofs.ClusterSteps.{stored}
 use Rattle.qcow2_image.proofs.qcow2.Qcow2.store_content.Goals as goal
 

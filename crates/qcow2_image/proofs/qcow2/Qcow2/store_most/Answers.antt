@@ -2,7 +2,7 @@ use Rattle.std.proofs.Common.{Result, ℕ, sym, subst, ◌∙◌}
 use Rattle.imago_storage.specs.declared.fault.Fault.{Fault}
 use Rattle.qcow2_image.specs.Allocating.{Begins, StoresMost}
 use Rattle.qcow2_image.specs.declared.allocating.Placed.{Placed}
-use Rattle.qcow2_image.proofs.Beginning.{begins-placed, begins-then, full-whole}
+use Rattle.qcow2_image.proofs.CallStarts.{begins-placed, begins-then, full-whole}
 use Rattle.qcow2_image.proofs.ClusterSteps.{most-behind, most-done, most-once}
 use Rattle.qcow2_image.proofs.qcow2.Qcow2.store_most.Goals as goal
 

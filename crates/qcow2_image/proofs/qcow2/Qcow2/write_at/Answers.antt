@@ -3,9 +3,9 @@ use Rattle.std.specs.Prelude.{Err, Ok, true}
 use Rattle.imago_storage.specs.declared.padding.WriteFault.TheVariants.{Before, Within}
 use Rattle.imago_storage.proofs.Once.{not-begun-below, put-below}
 use Rattle.imago_storage.proofs.Trying.{untold}
-use Rattle.qcow2_image.specs.Lent.{with_image}
+use Rattle.qcow2_image.specs.Seen.{with_image}
 use Rattle.qcow2_image.specs.Steps.{failed_by}
-use Rattle.qcow2_image.proofs.Marked.{marks-before, marks-within}
+use Rattle.qcow2_image.proofs.WriteMarks.{marks-before, marks-within}
 use Rattle.qcow2_image.proofs.qcow2.Qcow2.write_at.Goals as goal
 
 pub returns-in-Ok : goal.returns-in-Ok

@@ -1,0 +1,130 @@
+-- The words of a grown refcount table come to name new blocks, one behind the other.
+use Rattle.std.proofs.Common.{◌≡◌, ◌≢◌, ℕ, suc, ◌+◌, ◌-◌, ◌*◌, ◌/◌, ◌^◌, ◌<◌, ◌≤◌, refl, arith, ap, sym, subst, ◌∙◌, Bool, true, false, inl, inr, length, Some}
+use Rattle.std.specs.Prelude.{slice_index, ◌==◌, ◌&&◌, nat_le, nat_lt}
+use Rattle.std.proofs.lemmas.Bool.{cases_eq, cases_lt}
+use Rattle.std.proofs.lemmas.Bool.Decides.{nat_tests}
+use Rattle.std.proofs.lemmas.List.{length-set, get_or-set_same, get_or-set_other}
+use Rattle.std.proofs.lemmas.Nat.{pow_pos}
+use Rattle.std.proofs.Math.Nat.{mul-le-mul, mul-le-mul_right}
+use Rattle.qcow2_types.specs.Counts.{counters_of_block}
+use Rattle.qcow2_types.specs.Header.{Fields, cluster_size}
+use Rattle.qcow2_types.specs.Words.{block_offset}
+use Rattle.qcow2_metadata.specs.Places.{IsInReach}
+use Rattle.qcow2_metadata.specs.Tables.{TableValue, IsNamable, with_word}
+use Rattle.qcow2_metadata.proofs.TableSteps.{block_named}
+use Rattle.qcow2_alloc.specs.declared.allocation.searching.Run.{Run}
+use Rattle.qcow2_alloc.specs.Growing.{lacks, lacking}
+use Rattle.qcow2_alloc.specs.MakingRoom.{rank}
+use Rattle.qcow2_alloc.specs.MovingTables.{NamesNewBlocks}
+use Rattle.qcow2_alloc.proofs.Growth.FirstRooms.{rank-longer, lacks-inside}
+use Rattle.qcow2_alloc.proofs.Growth.LongerReftables.{rank-new}
+use Rattle.qcow2_alloc.proofs.Memory.Patches.{place-there}
+
+module _ (h : Fields) (was : TableValue) (run : Run) where
+  abbrev k : ℕ
+  k = counters_of_block h
+
+  abbrev pub lack : ℕ → Bool
+  lack = lacks was (counters_of_block h) run.first run.len
+
+  -- The blocks before an index that are lacking are named.
+  pub record NamesBefore (end : ℕ) (old new : TableValue) : Type 0 where
+    pub layout : new.layout ≡ old.layout
+    pub placed : new.cluster ≡ old.cluster
+    pub long : length new.words ≡ length old.words
+    pub news : (i : ℕ) → i < end → lack i ≡ true → block_offset (slice_index new.words i) ≡ (run.first + rank lack i) * cluster_size h
+    pub olds : (i : ℕ) → lack i ≡ false → slice_index new.words i ≡ slice_index old.words i
+
+  -- One that is lacking stands behind those before it.
+  pub rank-before : (i end : ℕ) → i < end → lack i ≡ true → rank lack i + 1 ≤ rank lack end
+  rank-before i end lt is =
+      let new = rank-new lack i is in
+      let more = rank-longer lack (suc i) (end - suc i) in
+      let there : rank lack (suc i + (end - suc i)) ≡ rank lack end = ap (rank lack) (omega (arith, lt)) in
+      omega (arith, new, more, there)
+
+  pub named-none : (end : ℕ) (table : TableValue) → rank lack end ≡ 0 → NamesBefore end table table
+  named-none end table none = record {
+    layout = refl;
+    placed = refl;
+    long = refl;
+    news = λ i lt is. let some = rank-before i end lt is in absurd (omega (arith, some, none));
+    olds = λ i is. refl;
+  }
+
+  pub named-over : (index : ℕ) (old new : TableValue) → rank lack (suc index) ≡ rank lack index → NamesBefore index old new → NamesBefore (index + 1) old new
+  named-over index old new same before = record {
+    layout = before.layout;
+    placed = before.placed;
+    long = before.long;
+    news = λ i lt is. before.news i (elim (cases_lt i index) [
+      | inl less ↦ less
+      | inr from ↦
+          let here : i ≡ index = omega (arith, lt, from) in
+          let more = rank-new lack i is in
+          let at : rank lack (suc i) ≡ rank lack i = subst (λ n. rank lack (suc n) ≡ rank lack n) (sym here) same in
+          absurd (omega (arith, more, at))
+    ]) is;
+    olds = before.olds;
+  }
+
+  pub named-then : (index place : ℕ) (old mid new : TableValue) → 9 ≤ h.cluster_bits → lack index ≡ true → index < length mid.words → place ≡ run.first + rank lack index → IsInReach h.cluster_bits place
+      → new ≡ with_word mid index (place * 2 ^ h.cluster_bits) → NamesBefore index old mid → NamesBefore (index + 1) old new
+  named-then index place old mid new low is inside at reach made before = subst (λ (t : TableValue). NamesBefore (index + 1) old t) (sym made) (record {
+    layout = before.layout;
+    placed = before.placed;
+    long = length-set mid.words index (place * 2 ^ h.cluster_bits) ∙ before.long;
+    news = λ i lt is'. elim (cases_eq i index) [
+      | inl here ↦ subst (λ n. block_offset (slice_index (with_word mid index (place * 2 ^ h.cluster_bits)).words n) ≡ (run.first + rank lack n) * cluster_size h) (sym here)
+          (ap block_offset (get_or-set_same mid.words index (place * 2 ^ h.cluster_bits) 0 inside) ∙ block_named h.cluster_bits place low reach ∙ ap (λ n. n * 2 ^ h.cluster_bits) at)
+      | inr away ↦ ap block_offset (get_or-set_other mid.words index i (place * 2 ^ h.cluster_bits) 0 away) ∙ before.news i (omega (arith, lt, away)) is'
+    ];
+    olds = λ i off. get_or-set_other mid.words index i (place * 2 ^ h.cluster_bits) 0 (λ same. absurd (let both : true ≡ false = sym is ∙ ap lack (sym same) ∙ off in cc both)) ∙ before.olds i off;
+  })
+
+  -- At the end all are.
+  pub named-all : (end : ℕ) (old new : TableValue) → ((i : ℕ) → lack i ≡ true → i < end) → NamesBefore end old new → NamesNewBlocks h was run old new
+  named-all end old new all before = record {
+    layout = before.layout;
+    placed = before.placed;
+    long = before.long;
+    news = λ i is. before.news i (all i is) is;
+    olds = before.olds;
+  }
+
+-- An index is lacking that has no block and counts a cluster of the run,
+pub lack-here : (h : Fields) (was : TableValue) (run : Run) (i : ℕ) → block_offset (slice_index was.words i) ≡ 0 → run.first / counters_of_block h ≤ i → i * counters_of_block h < run.first + run.len → lack h was run i ≡ true
+lack-here h was run i none from to = is-lacking (block_offset (slice_index was.words i)) (run.first / counters_of_block h) i (i * counters_of_block h) (run.first + run.len) none from to
+  where
+    is-lacking : (w a j p e : ℕ) → w ≡ 0 → a ≤ j → p < e → ((w == 0) && (nat_le a j && nat_lt p e)) ≡ true
+    is-lacking w a j p e none from to = grind (arith, nat_tests)
+
+-- and has a cluster of it.
+pub place-inside : (h : Fields) (was : TableValue) (run : Run) (i : ℕ) → 0 < counters_of_block h → lack h was run i ≡ true → lacking was (counters_of_block h) run.first run.len ≤ run.len → rank (lack h was run) i + 1 ≤ run.len
+place-inside h was run i some is room =
+    let to = (lacks-inside was (counters_of_block h) run.first run.len i is).1 in
+    let le : i * 1 ≤ i * counters_of_block h = mul-le-mul (omega arith) some in
+    let before = rank-before h was run i (run.first + run.len) (omega (arith, to, le)) is in
+    omega (arith, before, room)
+
+pub lack-inside : (h : Fields) (was : TableValue) (run : Run) (end i : ℕ) → run.first + run.len ≤ end * counters_of_block h → lack h was run i ≡ true → i < end
+lack-inside h was run end i past is = elim (cases_lt i end) [
+  | inl lt ↦ lt
+  | inr from ↦
+      let le : end * counters_of_block h ≤ i * counters_of_block h = mul-le-mul_right (counters_of_block h) from in
+      let to = (lacks-inside was (counters_of_block h) run.first run.len i is).1 in
+      absurd (omega (arith, le, to, past))
+]
+
+-- A word of the table is there for each block, and can name its place.
+pub word-inside : (index k words end : ℕ) → 0 < k → index * k < end → end ≤ words * k → index < words
+word-inside index k words end some lt le = elim (cases_lt index words) [
+  | inl less ↦ less
+  | inr past ↦ let far : words * k ≤ index * k = mul-le-mul_right k past in absurd (omega (arith, lt, le, far))
+]
+
+pub place-namable : (bits first len place : ℕ) → first ≢ 0 → IsInReach bits (first + (len - 1)) → first ≤ place → place < first + len → IsNamable bits (Some place)
+place-namable bits first len place some reach from to =
+    let less : place * 2 ^ bits ≤ (first + (len - 1)) * 2 ^ bits = mul-le-mul_right (2 ^ bits) (omega (arith, to)) in
+    let there = place-there (2 ^ bits) place (pow_pos bits) (λ none. some (omega (arith, from, none))) in
+    record { placed = omega (arith, less, reach); some = omega (arith, there) }

@@ -1,0 +1,265 @@
+-- Entries of the list of clusters to free are counted down.
+use Rattle.std.proofs.Common.{◌≡◌, ◌≢◌, ℕ, ◌*◌, ◌^◌, ◌<◌, ◌≤◌, refl, arith, ap, sym, subst, ◌∙◌, List, length, Result, Ok, Err, true, inl, inr, Bool, ◌/◌, ◌%◌}
+use Rattle.std.specs.Prelude.{◌⊎◌, IsTrue, min}
+use Rattle.std.proofs.lemmas.List.{length-set}
+use Rattle.std.proofs.lemmas.Bool.{cases_eq, cases_lt}
+use Rattle.std.proofs.Math.Nat.{mul-le-mul, div-le_self}
+use Rattle.imago_storage.specs.State.{StorageState}
+use Rattle.imago_storage.specs.declared.fault.Fault.{Fault}
+use Rattle.imago_storage.specs.declared.fault.Fault.TheVariants.{DamagedTable}
+use Rattle.qcow2_types.specs.Header.{cluster_size, refcount_table_entries}
+use Rattle.qcow2_types.specs.Counts.{counter_bits, counters_of_block}
+use Rattle.qcow2_types.specs.Pending.{FreeEntry}
+use Rattle.qcow2_types.proofs.Fields.HeaderLimits.{header-limited, greatest-cluster, least-width}
+use Rattle.qcow2_types.proofs.Counting.Counters.{some-counters}
+use Rattle.qcow2_types.proofs.Counting.Leaks.{count-beyond}
+use Rattle.qcow2_metadata.specs.Tables.{TableValue}
+use Rattle.qcow2_alloc.specs.declared.cache.CacheDependency.{CacheDependency}
+use Rattle.qcow2_alloc.specs.declared.cache.MetadataCaches.{MetadataCaches}
+use Rattle.qcow2_alloc.specs.declared.file.ImageFile.{ImageFile}
+use Rattle.qcow2_alloc.specs.Allocators.{metadata_of, LowersCluster, named_block, Lowers}
+use Rattle.qcow2_alloc.specs.Caches.{cached_in, order_of, cached_file}
+use Rattle.qcow2_alloc.specs.Freeing.{IsUnbarred, Frees, MayFree, IsWholeOrCalm, freeing_causes, counting_causes}
+use Rattle.qcow2_alloc.specs.FreeList.{entry_at, shorter, shortened, listed}
+use Rattle.qcow2_alloc.specs.Going.{WasNotCutOff}
+use Rattle.qcow2_alloc.specs.Quiet.{Metadata, IsSound, IsQuiet, counted, in_memory, waiting, waiting_metadata, metadata_in}
+use Rattle.qcow2_alloc.specs.State.{lent}
+use Rattle.qcow2_alloc.proofs.Causes.{Implies, fails-weaker}
+use Rattle.qcow2_alloc.proofs.Flushing.Faultless.{faultless-then, named-faultless}
+use Rattle.qcow2_alloc.proofs.Freeing.ClusterFrees.{LosesOne, left, cluster-freed, freeing-caused, counts-stay, freeing-stays}
+use Rattle.qcow2_alloc.proofs.Freeing.ShorterLists.{last, last-off, metadata-less, metadata-last, entry-shortened}
+use Rattle.qcow2_alloc.proofs.Caching.Lengths.{named-long}
+use Rattle.qcow2_alloc.proofs.Caching.Loose.{spare-on}
+use Rattle.qcow2_alloc.proofs.Memory.Patches.{shaped-in}
+use Rattle.qcow2_alloc.proofs.Caching.Pins.{pins-none, pins-then}
+use Rattle.qcow2_alloc.proofs.Quiet.QuietCounters.{here-one}
+use Rattle.qcow2_alloc.proofs.Quiet.QuietFlushes.{quiet-none, memory-quietly}
+use Rattle.qcow2_alloc.proofs.Quiet.QuietThen.{calm-behind, calmly-then}
+use Rattle.qcow2_alloc.proofs.Quiet.QuietEntries.{metadata-remove}
+use Rattle.qcow2_alloc.proofs.Freeing.ClusterOccurrences.{listed-remove, covers-none}
+use Rattle.imago_storage.proofs.Composing.{keeps_on}
+use Rattle.std.specs.List.{remove}
+use Rattle.std.proofs.lemmas.List.Edits.{length-remove}
+
+-- No cluster is counted past the 64 bits of its number.
+far-uncounted : (m : Metadata) → IsSound m → (c : ℕ) → 2 ^ 64 ≤ c → counted m c ≡ 0
+far-uncounted m sound c far =
+    let loads = sound.safe.consistent.readable.loads in
+    let limited = header-limited true m.file m.header loads in
+    let size = greatest-cluster true m.file m.header loads in
+    let width = least-width true m.file m.header loads in
+    let some = some-counters m.header.fields (shaped-in m.file m.header sound.safe.consistent) in
+    let few : counters_of_block m.header.fields ≤ 2 ^ 24 = (let le = div-le_self (cluster_size m.header.fields * 8) (counter_bits m.header.fields) in omega (arith, le, size)) in
+    let both : refcount_table_entries m.header.fields * counters_of_block m.header.fields ≤ 2 ^ 20 * 2 ^ 24 = mul-le-mul limited.refcount_entries few in
+    count-beyond (in_memory m) m.header.fields c some (omega (arith, both, far))
+
+-- What waits may be listed otherwise.
+waits-quiet : (m : Metadata) (es : List FreeEntry) → IsSound m → ((d : ℕ) → listed es d ≡ waiting m d) → ((d : ℕ) → listed (metadata_in es) d ≤ waiting_metadata m d) → IsSound (record m { pending = es }) × IsQuiet (λ _. 0) (λ _. 0) m (record m { pending = es })
+waits-quiet m es sound same less =
+    let quiet = quiet-none m sound in (
+      record {
+        safe = sound.safe;
+        table = sound.table;
+        covered = λ c. let was = sound.covered c in let is = same c in omega (arith, was, is);
+        unnamed = λ c some. let le = less c in sound.unnamed c (omega (arith, some, le));
+      },
+      record { shows = quiet.shows; words = quiet.words; kept = quiet.kept; apart = quiet.apart; waits = λ c used none. let is = same c in omega (arith, is); law = λ c. let is = same c in omega (arith, is) },
+    )
+
+module _ {S : Type 0} (state : S → StorageState) (table : TableValue) (es : List FreeEntry) (i : ℕ) (inside : i < length es) (some : 0 < (entry_at es i).count) where
+  abbrev c : ℕ
+  c = last es i inside some
+
+  loses : (old : MetadataCaches S) → MayFree (order_of old) (entry_at es i) → LosesOne state table c es (shortened es i 1) old
+  loses old may = record { one = last-off es i inside some; metadata = metadata-less es i inside some; may = elim may [ inl kind ↦ inr (metadata-last es i inside some kind) | inr order ↦ inl order ] }
+
+  waits : 0 < listed es c
+  waits = let off = last-off es i inside some c in let one = here-one c in omega (arith, off, one)
+
+  less : (result : Result Unit Fault) (d : ℕ) → listed (left state table c es (shortened es i 1) result) d ≤ listed es d
+  less (Ok done) d = let off = last-off es i inside some d in omega (arith, off)
+  less (Err fault) d = omega arith
+
+  fewer : (result : Result Unit Fault) → length (left state table c es (shortened es i 1) result) ≤ length es
+  fewer (Ok done) = let same = length-set es i (shorter (entry_at es i) 1) in omega (arith, same)
+  fewer (Err fault) = omega arith
+
+  -- the mark once the answer is known
+  abbrev pub moved : ℕ → Result Unit Fault → ℕ
+  moved mark (Ok done) = min mark c
+  moved mark (Err fault) = mark
+
+  falls : (mark : ℕ) (result : Result Unit Fault) → moved mark result ≤ mark
+  falls mark (Ok done) = omega arith
+  falls mark (Err fault) = omega arith
+
+  fell : (mark : ℕ) (result : Result Unit Fault) → (moved mark result ≡ mark) ⊎ (listed (left state table c es (shortened es i 1) result) (moved mark result) < listed es (moved mark result))
+  fell mark (Ok done) = elim (cases_lt c mark) [
+    | inl lower ↦
+        let at : min mark c ≡ c = omega (arith, lower) in
+        let off = last-off es i inside some c in
+        let one = here-one c in
+        inr (subst (λ n. listed (shortened es i 1) n < listed es n) (sym at) (omega (arith, off, one)))
+    | inr above ↦ inl (omega (arith, above))
+  ]
+  fell mark (Err fault) = inl refl
+
+  pub last-freed : (old : MetadataCaches S) (before : ImageFile S) (mark : ℕ) (result : Result Unit Fault) (new : MetadataCaches S) (after : ImageFile S) → MayFree (order_of old) (entry_at es i) → LowersCluster state table c (cached_file old before) result (cached_file new after)
+      → Frees state mark (lent table old before es) result (lent table new after (left state table c es (shortened es i 1) result)) (moved mark result)
+  last-freed old before mark result new after may lowers =
+      let l = loses old may in
+      let stays = freeing-stays state table c es (shortened es i 1) old before result new after l lowers in
+      let quiet = cluster-freed state table c es (shortened es i 1) old before result new after l lowers in
+      record {
+        faults = named-faultless state (Lowers (c % counters_of_block before.header.fields)) old before result new after (named_block table (c / counters_of_block before.header.fields)) (result ≡ Err DamagedTable) lowers;
+        quiet = quiet;
+        marked = λ keeps sound why marked d below. by-result result (quiet.holds keeps sound why).0 below (λ away under. let same = counts-stay state table c es (shortened es i 1) old before result new after l lowers (keeps, sound) why d away in let was = marked d under in omega (arith, same, was));
+        lower = falls mark result;
+        fallen = fell mark result;
+        header = stays.header;
+        no_shorter = named-long state (Lowers (c % counters_of_block before.header.fields)) old before result new after
+            (named_block table (c / counters_of_block before.header.fields)) (result ≡ Err DamagedTable) lowers;
+        pins = stays.pins;
+        room = stays.room;
+        less = less result;
+        fewer = fewer result;
+        cause = freeing-caused state table c es (shortened es i 1) old before result new after l lowers waits;
+      }
+    where
+      by-result : (result : Result Unit Fault) → IsSound (metadata_of state after new table (left state table c es (shortened es i 1) result)) → {d : ℕ} → d < moved mark result
+          → (d ≢ c → d < mark → 0 < counted (metadata_of state after new table (left state table c es (shortened es i 1) result)) d) → 0 < counted (metadata_of state after new table (left state table c es (shortened es i 1) result)) d
+      by-result (Ok done) sound below others = others (λ same. omega (arith, same, below)) (omega (arith, below))
+      by-result (Err fault) sound {d} below others = elim (cases_eq d c) [
+        | inl same ↦ let w = waits in let covered = sound.covered c in subst (λ n. 0 < counted (metadata_of state after new table es) n) (sym same) (omega (arith, w, covered))
+        | inr away ↦ others away below
+      ]
+
+  -- An entry past the greatest number isn't one of a sound image.
+  pub far-refused : (old : MetadataCaches S) (before : ImageFile S) (mark : ℕ) → 2 ^ 64 ≤ c → Frees state mark (lent table old before es) (Err DamagedTable) (lent table old before es) mark
+  far-refused old before mark far =
+      let m = metadata_of state before old table es in
+      record {
+        faults = λ whole. (refl, refl);
+        quiet = memory-quietly _ (λ _. 0) (λ _. 0) (state before.image) m m (λ sound whole. (sound, quiet-none m sound));
+        marked = λ keeps sound whole marked. marked;
+        lower = omega arith;
+        fallen = inl refl;
+        header = refl;
+        no_shorter = omega arith;
+        pins = pins-none (cached_in old).blocks (cached_in old).blocks refl;
+        room = record { tables = refl; blocks = refl; entries = refl };
+        less = λ d. omega arith;
+        fewer = omega arith;
+        cause = λ holds. let none = far-uncounted m holds.1 c far in let was = holds.1.covered c in let w = waits in omega (arith, none, was, w);
+      }
+
+-- What frees is refused for what refused a part of it,
+pub freeing-weaker : {sound sound' loose loose' : Type 0} {a b c : ℕ} → (sound' → sound) → (loose' → loose) → b ≡ a → Implies (freeing_causes sound loose b c) (freeing_causes sound' loose' a c)
+freeing-weaker from from' same = record { before = omega (arith, same); after = omega arith; damaged = λ wrong s. wrong (from s); counter = λ wrong s. wrong (from s); full = λ none l. none (from' l); limit = λ number. absurd }
+
+-- and what counts.
+pub unbarred-still : {sound sound' : Type 0} {loose loose' : Bool → Type 0} → (sound' → sound) → ((any : Bool) → loose' any → loose any) → IsUnbarred sound' loose' → IsUnbarred sound loose
+unbarred-still from from' u = (u.0, λ is. from (u.1 is), from' u.0 u.2)
+
+pub counting-weaker : {sound sound' : Type 0} {loose loose' : Bool → Type 0} {a b c : ℕ} → (sound' → sound) → ((any : Bool) → loose' any → loose any) → b ≡ a → Implies (counting_causes sound loose b c) (counting_causes sound' loose' a c)
+counting-weaker from from' same = freeing-weaker from (unbarred-still from from') same
+
+-- The mark falls to what was freed, over more calls too.
+fallen-then : (mark mark1 mark2 : ℕ) (es es1 es2 : List FreeEntry) → ((d : ℕ) → listed es1 d ≤ listed es d) → ((d : ℕ) → listed es2 d ≤ listed es1 d) → (mark1 ≡ mark) ⊎ (listed es1 mark1 < listed es mark1) → (mark2 ≡ mark1) ⊎ (listed es2 mark2 < listed es1 mark2)
+    → (mark2 ≡ mark) ⊎ (listed es2 mark2 < listed es mark2)
+fallen-then mark mark1 mark2 es es1 es2 less less' first second = elim second [
+  | inr fell ↦ let le = less mark2 in inr (omega (arith, fell, le))
+  | inl same ↦ elim first [
+    | inl was ↦ inl (same ∙ was)
+    | inr fell ↦ let le = less' mark1 in inr (subst (λ n. listed es2 n < listed es n) (sym same) (omega (arith, fell, le)))
+  ]
+]
+
+-- a call that succeeded
+abbrev pub freed : Result Unit Fault
+freed = Ok tt
+
+-- and one that was refused
+abbrev pub failed : Fault → Result Unit Fault
+failed fault = Err fault
+
+module _ {S : Type 0} (state : S → StorageState) (table : TableValue) where
+  -- None,
+  pub frees-none : (old : MetadataCaches S) (before : ImageFile S) (mark : ℕ) (es : List FreeEntry) → Frees state mark (lent table old before es) freed (lent table old before es) mark
+  frees-none old before mark es =
+      let m = metadata_of state before old table es in
+      record {
+        faults = λ whole. (refl, refl);
+        quiet = memory-quietly _ (λ _. 0) (λ _. 0) (state before.image) m m (λ sound whole. (sound, quiet-none m sound));
+        marked = λ keeps sound whole marked. marked;
+        lower = omega arith;
+        fallen = inl refl;
+        header = refl;
+        no_shorter = omega arith;
+        pins = pins-none (cached_in old).blocks (cached_in old).blocks refl;
+        room = record { tables = refl; blocks = refl; entries = refl };
+        less = λ d. omega arith;
+        fewer = omega arith;
+        cause = refl;
+      }
+
+  -- and some more.
+  pub frees-then : (A : MetadataCaches S) (fA : ImageFile S) (mark : ℕ) (es : List FreeEntry) (B : MetadataCaches S) (fB : ImageFile S) (mark1 : ℕ) (es1 : List FreeEntry) (result : Result Unit Fault) (C : MetadataCaches S) (fC : ImageFile S) (mark2 : ℕ) (es2 : List FreeEntry)
+      → Frees state mark (lent table A fA es) freed (lent table B fB es1) mark1 → Frees state mark1 (lent table B fB es1) result (lent table C fC es2) mark2 → Frees state mark (lent table A fA es) result (lent table C fC es2) mark2
+  frees-then A fA mark es B fB mark1 es1 result C fC mark2 es2 first second =
+      let on : IsTrue (state fA.image).shape.keeps → IsTrue (state fB.image).shape.keeps = keeps_on (state fA.image) (state fB.image) first.quiet.shape in
+      let le = first.lower in
+      let le' = second.lower in
+      let few = first.fewer in
+      let few' = second.fewer in
+      let long = first.no_shorter in
+      let long' = second.no_shorter in
+      record {
+        faults = λ whole. faultless-then (first.faults tt) (second.faults whole);
+        quiet = calmly-then _ (WasNotCutOff result) (λ _. 0) (λ _. 0) (λ _. 0) (λ _. 0) (state fA.image) (metadata_of state fA A table es) (state fB.image) (metadata_of state fB B table es1) (state fC.image) (metadata_of state fC C table es2) (inl tt) (λ sound d some. refl) first.quiet second.quiet;
+        marked = λ keeps sound why marked. second.marked (on keeps) (first.quiet.holds keeps sound (inl tt)).0 (behind keeps sound why) (first.marked keeps sound (inl tt) marked);
+        lower = omega (arith, le, le');
+        fallen = fallen-then mark mark1 mark2 es es1 es2 first.less second.less first.fallen second.fallen;
+        header = second.header ∙ first.header;
+        no_shorter = omega (arith, long, long');
+        pins = pins-then (cached_in A).blocks (cached_in B).blocks (cached_in C).blocks first.pins second.pins;
+        room = record { tables = second.room.tables ∙ first.room.tables; blocks = second.room.blocks ∙ first.room.blocks; entries = second.room.entries ∙ first.room.entries };
+        less = λ d. let l = first.less d in let l' = second.less d in omega (arith, l, l');
+        fewer = omega (arith, few, few');
+        cause = fails-weaker _ _ (freeing-weaker (λ holds. (on holds.0, (first.quiet.holds holds.0 holds.1 (inl tt)).0)) (spare-on A B first.pins first.room.blocks) first.cause) (λ same. same ∙ first.cause) result second.cause;
+      }
+    where
+      behind : IsTrue (state fA.image).shape.keeps → IsSound (metadata_of state fA A table es) → IsWholeOrCalm result (state fA.image) (state fC.image) → IsWholeOrCalm result (state fB.image) (state fC.image)
+      behind keeps sound why = elim why [
+        | inl whole ↦ inl whole
+        | inr calm ↦ inr (calm-behind _ (λ _. 0) (λ _. 0) (state fA.image) (metadata_of state fA A table es) (state fB.image) (metadata_of state fB B table es1) (state fC.image) keeps sound first.quiet second.quiet.later calm)
+      ]
+
+  -- An entry of no clusters is taken off the list.
+  pub empty-removed : (old : MetadataCaches S) (before : ImageFile S) (mark : ℕ) (es : List FreeEntry) (i : ℕ) → i < length es → (entry_at es i).count ≡ 0 → Frees state mark (lent table old before es) freed (lent table old before (remove es i)) mark
+  empty-removed old before mark es i inside none =
+      let m = metadata_of state before old table es in
+      let less : (d : ℕ) → listed (remove es i) d ≡ listed es d = λ d. let off = listed-remove es i d inside in let zero = covers-none d (entry_at es i) none in omega (arith, off, zero) in
+      let metadata : (d : ℕ) → listed (metadata_in (remove es i)) d ≤ listed (metadata_in es) d = λ d. let off = metadata-remove es i d inside in omega (arith, off) in
+      let long = length-remove es i inside in
+      record {
+        faults = λ whole. (refl, refl);
+        quiet = memory-quietly _ (λ _. 0) (λ _. 0) (state before.image) m (record m { pending = remove es i }) (λ sound whole. waits-quiet m (remove es i) sound less metadata);
+        marked = λ keeps sound whole marked. marked;
+        lower = omega arith;
+        fallen = inl refl;
+        header = refl;
+        no_shorter = omega arith;
+        pins = pins-none (cached_in old).blocks (cached_in old).blocks refl;
+        room = record { tables = refl; blocks = refl; entries = refl };
+        less = λ d. let same = less d in omega (arith, same);
+        fewer = omega (arith, long);
+        cause = refl;
+      }
+
+-- An entry that was shortened may be freed as before.
+pub may-still : (es : List FreeEntry) (i n : ℕ) → i < length es → (now : List FreeEntry) (order order' : CacheDependency) → now ≡ shortened es i n → order' ≡ order → MayFree order (entry_at es i) → MayFree order' (entry_at now i)
+may-still es i n inside now order order' is same may = elim may [
+  | inl kind ↦ inl (ap (λ (l : List FreeEntry). (entry_at l i).metadata) is ∙ ap (λ (e : FreeEntry). e.metadata) (entry-shortened es i n inside) ∙ kind)
+  | inr first ↦ inr (same ∙ first)
+]

@@ -1,0 +1,137 @@
+-- The refcount table grows once the order of writes was announced.
+use Rattle.std.proofs.Common.{inl, ◌≡◌, ℕ, ◌++◌, refl, ap, subst, ◌∙◌, length, Result, Ok, Err, Bool, true}
+use Rattle.std.specs.Prelude.{IsTrue, OnOk, IfErr}
+use Rattle.imago_storage.specs.State.{StorageState}
+use Rattle.imago_storage.specs.declared.fault.Fault.{Fault}
+use Rattle.imago_storage.specs.declared.fault.Fault.TheVariants.{Memory, DamagedTable, Limit}
+use Rattle.qcow2_types.specs.Header.{Header, words_of_cluster}
+use Rattle.qcow2_types.specs.Counts.{counters_of_block}
+use Rattle.qcow2_types.specs.Words.{Layout}
+use Rattle.qcow2_metadata.specs.Tables.{IsGrownLength}
+use Rattle.qcow2_alloc.specs.declared.cache.CacheDependency.TheVariants.{L2DependsOnRb}
+use Rattle.qcow2_alloc.specs.declared.cache.MetadataCaches.{MetadataCaches}
+use Rattle.qcow2_alloc.specs.declared.file.ImageFile.{ImageFile}
+use Rattle.qcow2_alloc.specs.Allocating.{MovedTable, allocating_causes}
+use Rattle.qcow2_alloc.specs.Allocators.{metadata_of}
+use Rattle.qcow2_alloc.specs.Caches.{order_of, KeepsTables}
+use Rattle.qcow2_alloc.specs.Causes.{HasCause}
+use Rattle.qcow2_alloc.specs.Freeing.{IsLoose}
+use Rattle.qcow2_alloc.specs.Going.{IsMild, WasNotCutOff}
+use Rattle.qcow2_alloc.specs.GrowingTables.{GrowsTable, NoPlaceToGrow, TableGrown, table_run}
+use Rattle.qcow2_alloc.specs.HandingOut.{GrowsReftable, StaysInShape}
+use Rattle.qcow2_alloc.specs.MovingTables.{WhyNotGrown}
+use Rattle.qcow2_alloc.specs.Quiet.{Metadata, IsSound}
+use Rattle.qcow2_alloc.specs.State.{ImageState, lent, metadata, IsKept}
+use Rattle.qcow2_alloc.proofs.Causes.{cause-weaker, fails-weaker}
+use Rattle.qcow2_alloc.proofs.Blocks.BlockCreationCalls.{freeing-allocates}
+use Rattle.qcow2_alloc.proofs.Handing.CountSequences.{moved-none}
+use Rattle.qcow2_alloc.proofs.Handing.BlocksBeforeTables.{Announced, no-place-as, grown-as, quiet-behind, sound-behind, raised-behind, allocates-behind}
+use Rattle.qcow2_alloc.proofs.Flushing.Faultless.{faultless-then}
+use Rattle.qcow2_alloc.proofs.Freeing.EntryFrees.{failed}
+use Rattle.qcow2_alloc.proofs.Caching.Loose.{loose-all}
+use Rattle.qcow2_alloc.proofs.Quiet.QuietFlushes.{memory-quietly, quiet-none}
+use Rattle.qcow2_alloc.proofs.Blocks.RunProvision.{leaks-none}
+
+module _ {S : Type 0} (state : S → StorageState) (mark at : ℕ) (s : ImageState S) (mid : MetadataCaches S) (between : ImageFile S) where
+  abbrev Start : Metadata
+  Start = metadata state s
+
+  abbrev Mid : Metadata
+  Mid = metadata_of state between mid s.table s.pending
+
+  -- Caches that are as loose as those were, and have as much room.
+  pub shape-behind : (result : Result Unit Fault) (s' : ImageState S) → Announced state s result (lent s.table mid between s.pending) → MovedTable between.header s'.file.header → ((any : Bool) → IsLoose s.table mid any → IsLoose s'.table s'.caches any) → KeepsTables mid s'.caches
+      → StaysInShape s s'
+  shape-behind result s' first moved loose room = record {
+    moved = subst (λ (H : Header). MovedTable H s'.file.header) first.header moved;
+    loose = λ any all. loose any (first.loose any all);
+    room = record { tables = room.tables ∙ first.room.tables; blocks = room.blocks ∙ first.room.blocks; entries = room.entries ∙ first.room.entries };
+  }
+
+  -- There was no grown copy of the table, or no room for the clusters of this one: nothing has changed.
+  pub not-copied : (fault : Fault) → WhyNotGrown s.file.header.fields s.table at fault → GrowsReftable state mark at s (failed fault) s
+  not-copied fault why = record {
+    leaked = λ _. 0;
+    leaks = leaks-none _ _ (failed fault);
+    faults = λ whole. (refl, refl);
+    quiet = memory-quietly (WasNotCutOff (failed fault)) (λ _. 0) (λ _. 0) (state s.file.image) Start Start (λ sound whole. (sound, quiet-none Start sound));
+    raised = λ keeps sound whole c. inl refl;
+    grown = λ keeps sound. tt;
+    enough = tt;
+    order = tt;
+    shape = record { moved = moved-none s.file.header s.file.header refl; loose = λ any loose. loose; room = record { tables = refl; blocks = refl; entries = refl } };
+    waits = tt;
+    kept = refl;
+    stays = λ mild. (refl, refl);
+    cause = by-fault fault why;
+  }
+    where
+      by-fault : (f : Fault) → WhyNotGrown s.file.header.fields s.table at f → HasCause (allocating_causes (IsKept state s) (IsLoose s.table s.caches) (λ number. IsTrue (state s.file.image).shape.keeps → IsSound Start → NoPlaceToGrow Start mark at number) (state s.file.image).faults (state s.file.image).faults) f
+      by-fault Memory why = tt
+      by-fault DamagedTable why = λ known. why (ap (λ (l : Layout). l.cluster_bits) known.1.table.layout)
+      by-fault (Limit number) why = (λ keeps sound. inl why, refl)
+      by-fault other why = absurd why
+
+  -- Where that was refused nothing grew,
+  pub not-announced : (fault : Fault) → Announced state s (failed fault) (lent s.table mid between s.pending) → GrowsReftable state mark at s (failed fault) (lent s.table mid between s.pending)
+  not-announced fault first = record {
+    leaked = λ _. 0;
+    leaks = leaks-none _ _ (failed fault);
+    faults = first.faults;
+    quiet = first.quiet;
+    raised = λ keeps sound whole c. inl (first.counts keeps sound whole c);
+    grown = λ keeps sound. tt;
+    enough = tt;
+    order = tt;
+    shape = shape-behind (failed fault) (lent s.table mid between s.pending) first (moved-none between.header between.header refl) (λ any loose. loose) (record { tables = refl; blocks = refl; entries = refl });
+    waits = tt;
+    kept = refl;
+    stays = λ mild. (refl, first.header);
+    cause = cause-weaker (freeing-allocates (λ holds. holds) (λ u. loose-all s.table s.caches u.0 u.2) refl) fault first.cause;
+  }
+
+  -- and else it grows as it does under that order.
+  module _ (first : Announced state s (Ok tt) (lent s.table mid between s.pending)) (result : Result Unit Fault) (s' : ImageState S)
+      (grows : GrowsTable state mark at (lent s.table mid between s.pending) result s') where
+    abbrev End : Metadata
+    End = metadata state s'
+
+    grown : (r : Result Unit Fault) → IsTrue (state s.file.image).shape.keeps → IsSound Start → OnOk r (TableGrown mark at Mid End) → OnOk r (TableGrown mark at Start End)
+    grown (Ok done) keeps sound is = grown-as Start Mid first.header refl (first.counts keeps sound tt) mark at End is
+    grown (Err fault) keeps sound is = tt
+
+    enough : (r : Result Unit Fault) → OnOk r (IsGrownLength (words_of_cluster between.header.fields) (counters_of_block between.header.fields) at (length s'.table.words))
+        → OnOk r (IsGrownLength (words_of_cluster s.file.header.fields) (counters_of_block s.file.header.fields) at (length s'.table.words))
+    enough (Ok done) is = subst (λ (H : Header). IsGrownLength (words_of_cluster H.fields) (counters_of_block H.fields) at (length s'.table.words)) first.header is
+    enough (Err fault) is = tt
+
+    ordered : (r : Result Unit Fault) → OnOk r (order_of s'.caches ≡ L2DependsOnRb)
+    ordered (Ok done) = grows.step.order ∙ first.order
+    ordered (Err fault) = tt
+
+    waits : (r : Result Unit Fault) → OnOk r (s'.pending ≡ s.pending ++ table_run between.header.fields) → OnOk r (s'.pending ≡ s.pending ++ table_run s.file.header.fields)
+    waits (Ok done) is = subst (λ (H : Header). s'.pending ≡ s.pending ++ table_run H.fields) first.header is
+    waits (Err fault) is = tt
+
+    stays : (r : Result Unit Fault) → IfErr r (λ fault. IsMild fault → (s'.table ≡ s.table) × (s'.file.header ≡ between.header)) → IfErr r (λ fault. IsMild fault → (s'.table ≡ s.table) × (s'.file.header ≡ s.file.header))
+    stays (Ok done) is = tt
+    stays (Err fault) is = λ mild. let both = is mild in (both.0, both.1 ∙ first.header)
+
+    pub announced-grows : GrowsReftable state mark at s result s'
+    announced-grows = record {
+      leaked = grows.leaked;
+      leaks = record { none = grows.leaks.none; pinned = λ holds loose. let still = sound-behind state s mid between first holds.0 holds.1 in grows.leaks.pinned (still.0, first.order, still.1) (first.loose true loose) };
+      faults = λ whole. faultless-then (first.faults tt) (grows.step.faults whole);
+      quiet = quiet-behind state s mid between first (WasNotCutOff result) grows.leaked (state s'.file.image) End grows.step.quiet;
+      raised = λ keeps sound whole. let still = sound-behind state s mid between first keeps sound in
+          raised-behind state s mid between first End keeps sound (grows.step.raised first.order still.0 still.1 whole);
+      grown = λ keeps sound. let still = sound-behind state s mid between first keeps sound in grown result keeps sound (grows.grown first.order still.0 still.1);
+      enough = enough result grows.enough;
+      order = ordered result;
+      shape = shape-behind (Ok tt) s' first grows.step.moved grows.step.loose grows.step.room;
+      waits = waits result grows.waits;
+      kept = grows.kept;
+      stays = stays result grows.stays;
+      cause = fails-weaker _ _ (allocates-behind state s mid between first (λ number full keeps sound. let still = sound-behind state s mid between first keeps sound in no-place-as Start Mid first.header refl (first.counts keeps sound tt) mark at number (full first.order still.0 still.1)))
+          (λ same. same ∙ first.cause) result grows.cause;
+    }

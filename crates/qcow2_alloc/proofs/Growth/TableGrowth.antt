@@ -1,0 +1,243 @@
+-- The refcount table grows, from the first of the call to its last.
+use Rattle.std.proofs.Common.{◌≡◌, ◌≢◌, ℕ, ◌+◌, ◌-◌, ◌*◌, ◌/◌, ◌^◌, ◌≤◌, ◌++◌, refl, arith, ap, sym, subst, ◌∙◌, length, inl, inr, Result, Ok, Err, false, true}
+use Rattle.std.specs.Prelude.{⊤, IsTrue, OnOk, OnErr, IfErr, min, slice_index}
+use Rattle.std.proofs.lemmas.Bool.{cases_Bool}
+use Rattle.imago_storage.specs.State.{StorageState}
+use Rattle.imago_storage.specs.declared.fault.Fault.{Fault}
+use Rattle.imago_storage.specs.declared.fault.Fault.TheVariants.{Memory, DamagedTable, Limit}
+use Rattle.imago_storage.proofs.Composing.{keeps_on, later_both}
+use Rattle.qcow2_types.specs.Counts.{counters_of_block}
+use Rattle.qcow2_types.specs.Header.{Fields, Header, words_of_cluster}
+use Rattle.qcow2_types.specs.Words.{Layout, block_offset}
+use Rattle.qcow2_metadata.specs.Tables.{IsGrownLength, TableValue}
+use Rattle.qcow2_alloc.specs.declared.allocation.searching.Run.{Run}
+use Rattle.qcow2_alloc.specs.declared.cache.CacheDependency.TheVariants.{L2DependsOnRb}
+use Rattle.qcow2_alloc.specs.declared.cache.MetadataCaches.{MetadataCaches}
+use Rattle.qcow2_alloc.specs.declared.file.ImageFile.{ImageFile}
+use Rattle.qcow2_alloc.specs.Allocating.{Allocating, MovedTable, allocating_causes}
+use Rattle.qcow2_alloc.specs.Allocators.{metadata_of}
+use Rattle.qcow2_alloc.specs.Caches.{order_of, cached_file}
+use Rattle.qcow2_alloc.specs.Causes.{HasCause, FailsFor}
+use Rattle.qcow2_alloc.specs.FreeList.{covers}
+use Rattle.qcow2_alloc.specs.Freeing.{IsLoose, counting_causes}
+use Rattle.qcow2_alloc.specs.Going.{WasNotCutOff, IsMild}
+use Rattle.qcow2_alloc.specs.Growing.{lacks, IsFirstRoom, LooksForRoom}
+use Rattle.qcow2_alloc.specs.GrowingTables.{GrowsTable, TableGrown, IsRoomToGrow, IsRoomInReach, NoPlaceToGrow, room_from, table_run}
+use Rattle.qcow2_alloc.specs.MakingRoom.{run_of}
+use Rattle.qcow2_alloc.specs.MovingTables.{clusters_of, IsPlan, WhyNotGrown, WhyNotPlaced, IsFreeIn, WasSound, FillsRoom, EntersFree}
+use Rattle.qcow2_alloc.specs.Quiet.{Metadata, counted, IsSound}
+use Rattle.qcow2_alloc.specs.SearchingClusters.{IsSafeWith, Looked}
+use Rattle.qcow2_alloc.specs.State.{ImageState, lent, metadata}
+use Rattle.qcow2_alloc.proofs.Causes.{cause-weaker, fails-weaker}
+use Rattle.qcow2_alloc.proofs.Handing.CountSequences.{allocating-none, allocating-as}
+use Rattle.qcow2_alloc.proofs.Flushing.Faultless.{faultless-then}
+use Rattle.qcow2_alloc.proofs.Searching.SearchesBeforeCounts.{counts-looked, looked-allocates}
+use Rattle.qcow2_alloc.proofs.Freeing.EntryFrees.{failed}
+use Rattle.qcow2_alloc.proofs.Caching.Loose.{loose-all}
+use Rattle.qcow2_alloc.proofs.Blocks.BlockCreationCalls.{first-counted, can-name, counting-allocates, freeing-allocates}
+use Rattle.qcow2_alloc.proofs.Quiet.QuietGiven.{quietly-given, quietly-then-given}
+use Rattle.qcow2_alloc.proofs.Quiet.QuietThen.{quietly-otherwise}
+
+module _ {S : Type 0} (state : S → StorageState) (mark at : ℕ) (image : ImageState S) where
+  abbrev start : Metadata
+  start = metadata state image
+
+  abbrev Keeps : Type 0
+  Keeps = IsTrue (state image.file.image).shape.keeps
+
+  abbrev Sound : Type 0
+  Sound = Keeps × (order_of image.caches ≡ L2DependsOnRb) × IsSound start
+
+  abbrev Full : ℕ → Type 0
+  Full number = order_of image.caches ≡ L2DependsOnRb → Keeps → IsSound start → NoPlaceToGrow start mark at number
+
+  safe-with : Keeps → IsSound start → IsSafeWith state image.table image.caches image.file
+  safe-with keeps sound = record { keeps = keeps; safe = sound.safe; table_of_file = sound.table }
+
+  -- It is refused, and nothing was counted.
+  not-grown : (fault : Fault) (C : MetadataCaches S) (fC : ImageFile S) → Allocating state (IsMild fault) (λ _. 0) image (lent image.table C fC image.pending) → fC.header ≡ image.file.header
+      → (Keeps → IsSound start → (number : ℕ) → fault ≡ Limit number → (c : ℕ) → counted (metadata_of state fC C image.table image.pending) c ≡ counted start c)
+      → HasCause (allocating_causes Sound (IsLoose image.table image.caches) Full (state image.file.image).faults (state fC.image).faults) fault → GrowsTable state mark at image (failed fault) (lent image.table C fC image.pending)
+  not-grown fault C fC step header same why = record {
+    leaked = λ _. 0;
+    leaks = record { none = λ not c. refl; pinned = λ holds loose c. refl };
+    step = step;
+    grown = λ order keeps sound. tt;
+    barred = λ order keeps sound number is. same keeps sound number (let e = is in cc e);
+    enough = tt;
+    waits = tt;
+    kept = refl;
+    stays = λ mild. (refl, header);
+    cause = why;
+  }
+
+  -- There is no copy of the table,
+  pub no-copy : (fault : Fault) → WhyNotGrown image.file.header.fields image.table at fault → GrowsTable state mark at image (failed fault) image
+  no-copy fault why = not-grown fault image.caches image.file (allocating-as state ⊤ (IsMild fault) (λ _. 0) (λ _. 0) image image (λ mild. tt) (λ c. refl) (allocating-none state image)) refl (λ keeps sound number is c. refl) (by-fault fault why)
+    where
+      by-fault : (fault : Fault) → WhyNotGrown image.file.header.fields image.table at fault → HasCause (allocating_causes Sound (IsLoose image.table image.caches) Full (state image.file.image).faults (state image.file.image).faults) fault
+      by-fault Memory why = tt
+      by-fault DamagedTable why = λ known. why (ap (λ (l : Layout). l.cluster_bits) known.2.table.layout)
+      by-fault (Limit number) why = (λ order keeps sound. inl why, refl)
+      by-fault other why = absurd why
+
+  -- or the search for a room was refused,
+  pub no-room : (fault : Fault) (C : MetadataCaches S) (fC : ImageFile S) → Looked state {T = Run} image.table (cached_file image.caches image.file) (Err fault) (cached_file C fC) → GrowsTable state mark at image (failed fault) (lent image.table C fC image.pending)
+  no-room fault C fC looked =
+      not-grown fault C fC (looked-allocates state image Run (Err fault) C fC looked) looked.header
+      (λ keeps sound number is. counts-looked state image Run (Err fault) C fC looked keeps sound (subst (λ (f : Fault). WasNotCutOff {T = Run} (Err f)) (sym is) tt))
+      (cause-weaker (freeing-allocates (λ known. safe-with known.0 known.2) (λ u. loose-all image.table image.caches u.0 u.2) refl) fault looked.cause)
+
+  -- A room was found for a copy.
+  module _ (room : Run) (copy : TableValue) (from n : ℕ) (C : MetadataCaches S) (fC : ImageFile S) (looks : LooksForRoom state image.table from n (cached_file image.caches image.file) (Ok room) (cached_file C fC)) (from_is : from ≡ min mark (length image.table.words * counters_of_block image.file.header.fields))
+      (n_is : n ≡ clusters_of copy image.file.header.fields.cluster_bits) (long : IsGrownLength (words_of_cluster image.file.header.fields) (counters_of_block image.file.header.fields) at (length copy.words))
+      (whole : clusters_of copy image.file.header.fields.cluster_bits * words_of_cluster image.file.header.fields ≡ length copy.words) where
+    abbrev h : Fields
+    h = image.file.header.fields
+
+    abbrev clusters : ℕ
+    clusters = clusters_of copy image.file.header.fields.cluster_bits
+
+    there : MetadataCaches S → Metadata
+    there caches = metadata_of state fC caches image.table image.pending
+
+    found : Sound → IsFirstRoom image.table (counters_of_block h) (counted start) (room_from start mark) clusters room.first room.len
+    found known =
+        subst (λ (k : ℕ). IsFirstRoom image.table (counters_of_block h) (counted start) (room_from start mark) k room.first room.len) n_is
+        (subst (λ (f : ℕ). IsFirstRoom image.table (counters_of_block h) (counted start) f n room.first room.len) from_is (looks.found (safe-with known.0 known.2)))
+
+    room-to-grow : Sound → IsRoomToGrow start mark at room.first room.len clusters
+    room-to-grow known = record { long = subst (λ (l : ℕ). IsGrownLength (words_of_cluster h) (counters_of_block h) at l) (sym whole) long; room = found known }
+
+    -- It can't take it.
+    pub no-place : (fault : Fault) → 1 ≤ room.len → WhyNotPlaced fC.header.fields image.table room copy fault → GrowsTable state mark at image (failed fault) (lent image.table C fC image.pending)
+    no-place fault some why =
+        not-grown fault C fC (allocating-as state ⊤ (IsMild fault) (λ _. 0) (λ _. 0) image (lent image.table C fC image.pending) (λ mild. tt) (λ c. refl) (looked-allocates state image Run (Ok room) C fC looks.looked)) looks.looked.header
+        (λ keeps sound number is. counts-looked state image Run (Ok room) C fC looks.looked keeps sound tt)
+        (by-fault fault (subst (λ (H : Header). WhyNotPlaced H.fields image.table room copy fault) looks.looked.header why))
+      where
+        behind : Sound → room.first ≢ 0
+        behind known none =
+            let zero = (found known).room.free room.first (omega arith) (omega (arith, some)) in
+            let first : counted start 0 ≡ 0 = subst (λ c. counted start c ≡ 0) none zero in
+            let one = first-counted start known.2 in
+            omega (arith, first, one)
+
+        by-fault : (fault : Fault) → WhyNotPlaced h image.table room copy fault → HasCause (allocating_causes Sound (IsLoose image.table image.caches) Full (state image.file.image).faults (state fC.image).faults) fault
+        by-fault Memory why = tt
+        by-fault DamagedTable why = λ known. why (behind known, can-name start known.2 (room.first + (room.len - 1)) (λ none. behind known (omega (arith, none))))
+        by-fault (Limit number) why = (
+          λ order keeps sound. inr (
+            room.first,
+            room.len,
+            clusters,
+            room-to-grow (keeps, order, sound),
+            λ (near : IsRoomInReach start room.first room.len clusters). why.0 (near.reach, subst (λ (w : ℕ). room.first + room.len ≤ w * counters_of_block h) whole near.inside),
+            why.1,
+          ),
+          looks.looked.cause,
+        )
+        by-fault other why = absurd why
+
+    -- It takes it, as it was planned.
+    module _ (placed : TableValue) (plan_there : IsPlan fC.header.fields image.table room placed) (same : length placed.words ≡ length copy.words)
+        (result : Result Unit Fault) (sD : ImageState S) (fills : EntersFree state room placed (lent image.table C fC image.pending) result sD)
+        (waits : OnOk result (sD.pending ≡ image.pending ++ table_run fC.header.fields)) (kept : OnErr result (sD.pending ≡ image.pending)) where
+      abbrev mid : Metadata
+      mid = metadata_of state fC C image.table image.pending
+
+      abbrev end : Metadata
+      end = metadata state sD
+
+      abbrev looked : Looked state image.table (cached_file image.caches image.file) (Ok room) (cached_file C fC)
+      looked = looks.looked
+
+      plan : IsPlan h image.table room placed
+      plan = subst (λ (H : Header). IsPlan H.fields image.table room placed) looked.header plan_there
+
+      abbrev Was : Type 0
+      Was = WasSound state image
+
+      free : Was → IsFreeIn state room (lent image.table C fC image.pending)
+      free known = (
+        looked.order ∙ known.0,
+        λ c above below. counts-looked state image Run (Ok room) C fC looked known.1 known.2 tt c ∙ (found (known.1, known.0, known.2)).room.free c above below,
+      )
+
+      abbrev filled : FillsRoom state Was room placed (lent image.table C fC image.pending) result sD
+      filled = fills image.caches image.file free
+
+      abbrev one : Allocating state ⊤ (λ _. 0) image (lent image.table C fC image.pending)
+      one = looked-allocates state image Run (Ok room) C fC looked
+
+      on : Keeps → IsTrue (state fC.image).shape.keeps
+      on keeps = keeps_on (state image.file.image) (state fC.image) looked.going.shape keeps
+
+      mid-sound : order_of image.caches ≡ L2DependsOnRb → Keeps → IsSound start → IsSound mid
+      mid-sound order keeps sound = ((one.quiet order).holds keeps sound tt).0
+
+      mid-counts : Keeps → IsSound start → (c : ℕ) → counted mid c ≡ counted start c
+      mid-counts keeps sound = counts-looked state image Run (Ok room) C fC looked keeps sound tt
+
+      from-ok : (r : Result Unit Fault) {X : Type 0} → r ≡ Ok tt → OnOk r X → X
+      from-ok (Ok done) is x = x
+      from-ok (Err fault) is x = absurd (cc is)
+
+      on-ok : (r : Result Unit Fault) {X : Type 0} → (r ≡ Ok tt → X) → OnOk r X
+      on-ok (Ok done) x = x refl
+      on-ok (Err fault) x = tt
+
+      clusters-same : clusters_of placed h.cluster_bits ≡ clusters
+      clusters-same = ap (λ l. (8 * l + (2 ^ h.cluster_bits - 1)) / 2 ^ h.cluster_bits) same
+
+      table-grown : order_of image.caches ≡ L2DependsOnRb → Keeps → IsSound start → result ≡ Ok tt → TableGrown mark at start end
+      table-grown order keeps sound done =
+          let is : sD.table ≡ record placed { modified = false } = from-ok result done filled.table_is in
+          let words : (i : ℕ) → slice_index sD.table.words i ≡ slice_index placed.words i = λ i. ap (λ (t : TableValue). slice_index t.words i) is in
+          record {
+            first = room.first;
+            total = room.len;
+            clusters = clusters;
+            room = room-to-grow (keeps, order, sound);
+            reach = record { reach = plan.room.reach; inside = subst (λ (k : ℕ). room.first + room.len ≤ k * words_of_cluster h * counters_of_block h) clusters-same plan.room.inside };
+            long = ap (λ (t : TableValue). length t.words) is ∙ plan.grown.long ∙ ap (λ k. k * words_of_cluster h) clusters-same;
+            placed = ap (λ (t : TableValue). t.cluster) is ∙ plan.grown.placed;
+            news = λ i lack. ap block_offset (words i) ∙ plan.grown.news i lack;
+            olds = λ i not. ap block_offset (words i) ∙ plan.grown.olds i (elim (cases_Bool (lacks image.table (counters_of_block h) room.first room.len i)) [ inl lack ↦ absurd (not lack) | inr off ↦ off ]);
+            counts = λ c. from-ok result done (filled.counts (order, keeps, sound) (on keeps) (mid-sound order keeps sound)) c ∙ ap (λ k. k + covers c (run_of room.first room.len)) (mid-counts keeps sound c);
+          }
+
+      pub grows : GrowsTable state mark at image result sD
+      grows = record {
+        leaked = filled.leaked;
+        leaks = record { none = filled.leaks.none; pinned = λ holds loose. filled.leaks.pinned (was-on holds) (looked.loose true loose) };
+        step = record {
+          faults = λ whole. faultless-then (one.faults tt) (filled.faults whole);
+          quiet = λ order. quietly-given (WasNotCutOff result) filled.leaked (λ _. 0) (state image.file.image) start (state sD.file.image) end (filled.shape ∙ looked.going.shape) (later_both _ _ _ looked.going.later filled.later) (λ keeps sound.
+              quietly-otherwise (WasNotCutOff result) (λ c. 0 + filled.leaked c) (λ c. 0 + 0) filled.leaked (λ _. 0) (state image.file.image) start (state sD.file.image) end (λ s c. omega arith) (λ s c used none. refl)
+              (quietly-then-given ⊤ (WasNotCutOff result) (λ _. 0) (λ _. 0) filled.leaked (λ _. 0) (state image.file.image) start (state fC.image) mid (state sD.file.image) end tt (λ s c some. refl) (one.quiet order) filled.shape filled.later
+              (λ k s s1 quiet. filled.quiet (order, keeps, sound))));
+          raised = λ order keeps sound ok c. elim (filled.raised (order, keeps, sound) (on keeps) (mid-sound order keeps sound) ok c) [
+            | inl stays ↦ inl (stays ∙ mid-counts keeps sound c)
+            | inr up ↦ inr (sym (mid-counts keeps sound c) ∙ up.0, up.1)
+          ];
+          order = filled.order ∙ looked.order;
+          moved = subst (λ (H : Header). MovedTable H sD.file.header) looked.header filled.moved;
+          longer = filled.longer;
+          loose = λ any loose. filled.loose any (looked.loose any loose);
+          room = record { tables = filled.room.tables ∙ looked.room.tables; blocks = filled.room.blocks ∙ looked.room.blocks; entries = filled.room.entries ∙ looked.room.entries };
+        };
+        grown = λ order keeps sound. on-ok result (table-grown order keeps sound);
+        barred = λ order keeps sound number is. absurd (never result number is filled.cause);
+        enough = on-ok result (λ done. subst (λ (l : ℕ). IsGrownLength (words_of_cluster h) (counters_of_block h) at l) (sym (ap (λ (t : TableValue). length t.words) (from-ok result done filled.table_is) ∙ same)) long);
+        waits = subst (λ (H : Header). OnOk result (sD.pending ≡ image.pending ++ table_run H.fields)) looked.header waits;
+        kept = kept;
+        stays = subst (λ (H : Header). IfErr result (λ fault. IsMild fault → (sD.table ≡ image.table) × (sD.file.header ≡ H))) looked.header filled.stays;
+        cause = fails-weaker _ _ (counting-allocates was-on looked.loose looked.cause) (λ same. same ∙ looked.cause) result filled.cause;
+      }
+        where
+          was-on : Sound → Was × IsTrue (state fC.image).shape.keeps × IsSound mid
+          was-on known = ((known.1, known.0, known.2), on known.0, mid-sound known.1 known.0 known.2)
+
+          never : (r : Result Unit Fault) (number : ℕ) → r ≡ Err (Limit number) → FailsFor (counting_causes (Was × IsTrue (state fC.image).shape.keeps × IsSound mid) (IsLoose image.table C) (state fC.image).faults (state sD.file.image).faults) r → ⊥
+          never r number is why = subst (λ (x : Result Unit Fault). FailsFor (counting_causes (Was × IsTrue (state fC.image).shape.keeps × IsSound mid) (IsLoose image.table C) (state fC.image).faults (state sD.file.image).faults) x) is why

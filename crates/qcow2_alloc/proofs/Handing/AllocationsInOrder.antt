@@ -1,0 +1,390 @@
+-- Clusters are handed out once the order of writes was announced.
+use Rattle.std.proofs.Common.{◌≡◌, ◌≢◌, ℕ, ◌+◌, ◌-◌, ◌/◌, ◌<◌, ◌≤◌, [], Bool, refl, arith, ap, subst, ◌∙◌, inl, inr, List, length, Option, None, Some, Result, Ok, Err, true}
+use Rattle.std.specs.Prelude.{⊤, IsTrue, OnOk, IfOk}
+use Rattle.std.proofs.lemmas.Bool.{le-leb, lt-ltb}
+use Rattle.imago_storage.specs.State.{StorageState}
+use Rattle.imago_storage.specs.declared.fault.Fault.{Fault}
+use Rattle.imago_storage.specs.declared.fault.Fault.TheVariants.{Memory, Limit}
+use Rattle.imago_storage.proofs.Composing.{keeps_on}
+use Rattle.qcow2_types.specs.Counts.{counters_of_block}
+use Rattle.qcow2_types.specs.Header.{Header}
+use Rattle.qcow2_types.specs.Pending.{FreeEntry}
+use Rattle.qcow2_metadata.specs.Places.{IsInReach}
+use Rattle.qcow2_alloc.specs.declared.cache.CacheDependency.TheVariants.{L2DependsOnRb}
+use Rattle.qcow2_alloc.specs.declared.cache.MetadataCaches.{MetadataCaches}
+use Rattle.qcow2_alloc.specs.declared.file.ImageFile.{ImageFile}
+use Rattle.qcow2_alloc.specs.Allocating.{MovedTable, allocating_causes}
+use Rattle.qcow2_alloc.specs.Allocators.{metadata_of}
+use Rattle.qcow2_alloc.specs.Caches.{order_of}
+use Rattle.qcow2_alloc.specs.Causes.{HasCause}
+use Rattle.qcow2_alloc.specs.Crowding.{IsCrowded}
+use Rattle.qcow2_alloc.specs.Freeing.{Frees, HasSpareRoom, IsLoose, IsMarked, IsRestInTurn, freeing_causes}
+use Rattle.qcow2_alloc.specs.FreeList.{covers}
+use Rattle.qcow2_alloc.specs.Going.{WasNotCutOff}
+use Rattle.qcow2_alloc.specs.GrowingTables.{IsInRoomToGrow, IsLengthenedByTable, IsRoomToGrow, IsTakenFor, NoPlaceToGrow}
+use Rattle.qcow2_alloc.specs.HandingOut.{AllocatesClusterAt, AllocatesClusters, AreUnnamed, IsBarred, IsFreed, IsHandedAt, IsOneAt, IsSearched, StaysInShape, handed_at}
+use Rattle.qcow2_alloc.specs.HandingOutOne.{AllocatesAt}
+use Rattle.qcow2_alloc.specs.Quiet.{Metadata, IsSound, Quietly, counted}
+use Rattle.qcow2_alloc.specs.ReadyingRuns.{Allocates, IsRunCounted, IsRunTold, handed_by}
+use Rattle.qcow2_alloc.specs.State.{ImageState, lent, metadata, IsKept}
+use Rattle.qcow2_alloc.proofs.Causes.{cause-weaker, fails-weaker}
+use Rattle.qcow2_alloc.proofs.Blocks.BlockCreationCalls.{freeing-allocates, allocating-weaker}
+use Rattle.qcow2_alloc.proofs.Handing.CountSequences.{moved-none}
+use Rattle.qcow2_alloc.proofs.Handing.BlocksBeforeTables.{Announced, no-place-as, room-as, quiet-behind, sound-behind, raised-behind, marked-behind, allocates-behind}
+use Rattle.qcow2_alloc.proofs.Handing.SingleCounts.{not_handed}
+use Rattle.qcow2_alloc.proofs.Flushing.Faultless.{faultless-then}
+use Rattle.qcow2_alloc.proofs.Freeing.EntryFrees.{failed}
+use Rattle.qcow2_alloc.proofs.Freeing.ListRemainders.{rest-all, rest-none}
+use Rattle.qcow2_alloc.proofs.Growth.GrowthInOrder.{shape-behind}
+use Rattle.qcow2_alloc.proofs.Handing.ClustersHandedOut.{handed-unnamed}
+use Rattle.qcow2_alloc.proofs.Caching.Loose.{loose-on, loose-all}
+use Rattle.qcow2_alloc.proofs.Quiet.QuietFlushes.{memory-quietly, quiet-none, quietly-weaker}
+use Rattle.qcow2_alloc.proofs.Quiet.QuietThen.{fewer-counted, quietly-then, quietly-otherwise}
+use Rattle.qcow2_alloc.proofs.Blocks.RunProvision.{leaks-none}
+
+module _ {S : Type 0} (state : S → StorageState) (mark cluster : ℕ) (s : ImageState S) (mid : MetadataCaches S) (between : ImageFile S) where
+  abbrev Start : Metadata
+  Start = metadata state s
+
+  abbrev Mid : Metadata
+  Mid = metadata_of state between mid s.table s.pending
+
+  -- One cluster isn't where that was refused,
+  pub at-not-announced : (fault : Fault) → Announced state s (failed fault) (lent s.table mid between s.pending) → AllocatesClusterAt state mark cluster s (not_handed fault) (lent s.table mid between s.pending) mark
+  at-not-announced fault first = record {
+    leaked = λ _. 0;
+    leaks = leaks-none _ _ (not_handed fault);
+    faults = first.faults;
+    quiet = first.quiet;
+    raised = λ keeps sound whole c. inl (first.counts keeps sound whole c);
+    one = tt;
+    answer = λ keeps sound. tt;
+    near = λ keeps sound. tt;
+    further = tt;
+    stays = refl;
+    marked = λ keeps sound whole marked c below. let same = first.counts keeps sound whole c in let was = marked c below in omega (arith, same, was);
+    order = tt;
+    shape = shape-behind state mark cluster s mid between (failed fault) (lent s.table mid between s.pending) first (moved-none between.header between.header refl) (λ any loose. loose) (record { tables = refl; blocks = refl; entries = refl });
+    list = inl refl;
+    cause = cause-weaker (freeing-allocates (λ holds. holds) (λ u. loose-all s.table s.caches u.0 u.2) refl) fault first.cause;
+  }
+
+  -- and else as it is under that order.
+  module _ (first : Announced state s (Ok tt) (lent s.table mid between s.pending)) (result : Result (Option FreeEntry) Fault) (s' : ImageState S) (mark' : ℕ)
+      (at : AllocatesAt state (λ m. IsBarred m mark cluster) mark cluster (lent s.table mid between s.pending) result s' mark') where
+    abbrev End : Metadata
+    End = metadata state s'
+
+    answered : (r : Result (Option FreeEntry) Fault) → IsTrue (state s.file.image).shape.keeps → IsSound Start → IfOk r (IsHandedAt (IsBarred Mid mark cluster) cluster Mid End) → IfOk r (IsHandedAt (IsBarred Start mark cluster) cluster Start End)
+    answered (Ok (Some entry)) keeps sound (zero, is, unnamed, free) = (let same = first.counts keeps sound tt cluster in omega (arith, same, zero), is, unnamed, free)
+    answered (Ok None) keeps sound (inl more) = inl (let same = first.counts keeps sound tt cluster in omega (arith, same, more))
+    answered (Ok None) keeps sound (inr (inl stands)) = inr (inl stands)
+    answered (Ok None) keeps sound (inr (inr (inl far))) = inr (inr (inl (subst (λ (H : Header). IsInReach H.fields.cluster_bits cluster → ⊥) first.header far)))
+    answered (Ok None) keeps sound (inr (inr (inr (past, number, none)))) = inr (inr (inr (
+      subst (λ (H : Header). length s.table.words ≤ cluster / counters_of_block H.fields) first.header past,
+      number,
+      no-place-as Start Mid first.header refl (first.counts keeps sound tt) mark (cluster / counters_of_block s.file.header.fields) number (subst (λ (H : Header). NoPlaceToGrow Mid mark (cluster / counters_of_block H.fields) number) first.header none),
+    )))
+    answered (Err fault) keeps sound said = tt
+
+    room-there : IsTrue (state s.file.image).shape.keeps → IsSound Start → (c : ℕ) → IsInRoomToGrow Mid mark (cluster / counters_of_block between.header.fields) c → IsInRoomToGrow Start mark (cluster / counters_of_block s.file.header.fields) c
+    room-there keeps sound c (past, begin, total, clusters, room, from, to) = (
+      subst (λ (H : Header). length s.table.words ≤ cluster / counters_of_block H.fields) first.header past,
+      begin,
+      total,
+      clusters,
+      room-as Start Mid first.header refl (first.counts keeps sound tt) mark (cluster / counters_of_block s.file.header.fields) begin total clusters (subst (λ (H : Header). IsRoomToGrow Mid mark (cluster / counters_of_block H.fields) begin total clusters) first.header room),
+      from,
+      to,
+    )
+
+    nearby : (r : Result (Option FreeEntry) Fault) → IsTrue (state s.file.image).shape.keeps → IsSound Start → IfOk r (λ _. IsTakenFor mark cluster Mid End) → IfOk r (λ _. IsTakenFor mark cluster Start End)
+    nearby (Err fault) keeps sound said = tt
+    nearby (Ok found) keeps sound said = λ c none more. elim (said c (let same = first.counts keeps sound tt c in omega (arith, same, none)) more) [ inl le ↦ inl le | inr room ↦ inr (room-there keeps sound c room) ]
+
+    ordered : (r : Result (Option FreeEntry) Fault) → OnOk r (order_of s'.caches ≡ L2DependsOnRb)
+    ordered (Ok found) = at.did.step.order ∙ first.order
+    ordered (Err fault) = tt
+
+    pub at-announced : AllocatesClusterAt state mark cluster s result s' mark'
+    at-announced = record {
+      leaked = at.did.leaked;
+      leaks = record { none = at.did.leaks.none; pinned = λ holds loose. let still = sound-behind state s mid between first holds.0 holds.1 in at.did.leaks.pinned (still.0, first.order, still.1) (first.loose true loose) };
+      faults = λ whole. faultless-then (first.faults tt) (at.did.step.faults whole);
+      quiet = quiet-behind state s mid between first (WasNotCutOff result) (handed_at result at.did.leaked) (state s'.file.image) End at.did.step.quiet;
+      raised = λ keeps sound whole. let still = sound-behind state s mid between first keeps sound in
+          raised-behind state s mid between first End keeps sound (at.did.step.raised first.order still.0 still.1 whole);
+      one = subst (λ (H : Header). IfOk result (IsOneAt cluster H.fields.cluster_bits)) first.header at.one;
+      answer = λ keeps sound. let still = sound-behind state s mid between first keeps sound in answered result keeps sound (at.answer first.order still.0 still.1);
+      near = λ keeps sound. let still = sound-behind state s mid between first keeps sound in nearby result keeps sound (at.near first.order still.0 still.1);
+      further = at.further;
+      stays = at.stays;
+      marked = λ keeps sound whole marked. let still = sound-behind state s mid between first keeps sound in
+          at.marked first.order still.0 still.1 whole (marked-behind state s mid between first mark keeps sound marked);
+      order = ordered result;
+      shape = shape-behind state mark cluster s mid between (Ok tt) s' first at.did.step.moved at.did.step.loose at.did.step.room;
+      list = subst (λ (H : Header). IsLengthenedByTable H.fields s.table s'.table s.pending s'.pending) first.header at.did.list;
+      cause = fails-weaker _ _ (allocates-behind state s mid between first (λ n full. full)) (λ same. same ∙ first.cause) result at.did.cause;
+    }
+
+-- Nothing was freed, and nothing has changed, for want of memory.
+memory-unfreed : {S : Type 0} (state : S → StorageState) (s : ImageState S) (mark : ℕ) → Frees state mark s (failed Memory) s mark
+memory-unfreed state s mark =
+    let m = metadata state s in
+    record {
+      faults = λ whole. absurd whole;
+      quiet = memory-quietly _ (λ _. 0) (λ _. 0) (state s.file.image) m m (λ sound whole. (sound, quiet-none m sound));
+      marked = λ keeps sound whole marked. marked;
+      lower = omega arith;
+      fallen = inl refl;
+      header = refl;
+      no_shorter = omega arith;
+      pins = omega arith;
+      room = record { tables = refl; blocks = refl; entries = refl };
+      less = λ c. omega arith;
+      fewer = omega arith;
+      cause = tt;
+    }
+
+-- what is answered with a run, and where that is refused
+abbrev pub run_so : FreeEntry → Result FreeEntry Fault
+run_so entry = Ok entry
+
+abbrev pub refused_run : Fault → Result FreeEntry Fault
+refused_run fault = Err fault
+
+-- A cluster of an entry is covered by it.
+covers-inside : (c : ℕ) (e : FreeEntry) → e.first ≤ c → c < e.first + e.count → covers c e ≡ 1
+covers-inside c e above below = rw (le-leb e.first c above, lt-ltb c (e.first + e.count) below) refl
+
+-- Clusters in a row are handed out: what waits is freed first.
+module _ {S : Type 0} (state : S → StorageState) (mark n : ℕ) (is_metadata : Bool) (image : ImageState S) where
+  abbrev First : Metadata
+  First = metadata state image
+
+  -- That was refused,
+  module _ (fault : Fault) (mark1 : ℕ) (A : MetadataCaches S) (fA : ImageFile S) (pA : List FreeEntry) (frees : Frees state mark image (failed fault) (lent image.table A fA pA) mark1) (rest : IsRestInTurn image.pending pA) where
+    abbrev Rest : Metadata
+    Rest = metadata_of state fA A image.table pA
+
+    not-limited : IsSearched (refused_run fault) → HasCause (freeing_causes (IsKept state image) (HasSpareRoom image.caches) (state image.file.image).faults (state fA.image).faults) fault → ⊥
+    not-limited searched why = by-fault fault searched why
+      where
+        by-fault : (f : Fault) → IsSearched (refused_run f) → HasCause (freeing_causes (IsKept state image) (HasSpareRoom image.caches) (state image.file.image).faults (state fA.image).faults) f → ⊥
+        by-fault (Limit number) searched why = why
+        by-fault f searched why = searched
+
+    pub run-not-freed : AllocatesClusters state mark n is_metadata image (refused_run fault) (lent image.table A fA pA) mark1
+    run-not-freed = record {
+      leaked = λ _. 0;
+      leaks = leaks-none _ _ (refused_run fault);
+      faults = frees.faults;
+      quiet = quietly-weaker _ (WasNotCutOff (refused_run fault)) (λ _. 0) (λ _. 0) (state image.file.image) First (state fA.image) Rest (λ sound whole. inl whole) frees.quiet;
+      run = tt;
+      unnamed = λ keeps sound. tt;
+      answer = failed fault;
+      between = A;
+      at = fA;
+      mid_mark = mark1;
+      left = pA;
+      frees = frees;
+      rest = rest;
+      halted = λ other is. (ap (λ f. refused_run f) (let e = is in let same : fault ≡ other = cc in same), refl, refl, refl, refl);
+      mid = Rest;
+      mid_left = refl;
+      freed = λ keeps sound whole. let held = frees.quiet.holds keeps sound (inl whole) in record {
+        sound = held.0;
+        quiet = held.1;
+        header = frees.header;
+        table = refl;
+        fewer = fewer-counted First Rest (λ _. 0) (λ _. 0) held.1 sound held.0 frees.header refl (λ c. refl) frees.less;
+        lower = frees.lower;
+        marked = frees.marked keeps sound (inl whole);
+      };
+      emptied = tt;
+      searched = λ searched. absurd (not-limited searched frees.cause);
+      fresh = λ keeps sound. tt;
+      taken = λ keeps sound. tt;
+      little = λ keeps sound. tt;
+      raised = λ keeps sound whole c. inl refl;
+      marked = λ keeps sound whole. frees.marked keeps sound (inl whole);
+      further = tt;
+      stays = refl;
+      order = tt;
+      shape = record { moved = moved-none image.file.header fA.header frees.header; loose = loose-on image.table image.caches A frees.pins frees.room.blocks; room = frees.room };
+      list = inl refl;
+      cause = cause-weaker (freeing-allocates (λ holds. holds) (λ u. u.2.room) refl) fault frees.cause;
+    }
+
+  -- or not begun, for want of memory,
+  pub run-not-held : AllocatesClusters state mark n is_metadata image (refused_run Memory) image mark
+  run-not-held = run-not-freed Memory mark image.caches image.file image.pending (memory-unfreed state image mark) (rest-all image.pending)
+
+  -- or there was nothing left.
+  module _ (mark1 : ℕ) (A : MetadataCaches S) (fA : ImageFile S) (frees : Frees state mark image (Ok tt) (lent image.table A fA []) mark1) (B : MetadataCaches S) (fB : ImageFile S) where
+    abbrev Freed : Metadata
+    Freed = metadata_of state fA A image.table []
+
+    abbrev Ready : Metadata
+    Ready = metadata_of state fB B image.table []
+
+    freed-loose : (any : Bool) → IsLoose image.table image.caches any → IsLoose image.table A any
+    freed-loose = loose-on image.table image.caches A frees.pins frees.room.blocks
+
+    still-sound : IsTrue (state image.file.image).shape.keeps → IsSound First → IsTrue (state fA.image).shape.keeps × IsSound Freed
+    still-sound keeps sound = (keeps_on (state image.file.image) (state fA.image) frees.quiet.shape keeps, (frees.quiet.holds keeps sound (inl tt)).0)
+
+    quiet-on : (ok : Type 0) (handed : ℕ → ℕ) (s : StorageState) (m : Metadata) → Quietly ok handed (λ _. 0) (state fA.image) Freed s m → Quietly ok handed (λ _. 0) (state image.file.image) First s m
+    quiet-on ok handed s m second =
+        quietly-otherwise ok (λ c. 0 + handed c) (λ c. 0 + 0) handed (λ _. 0) (state image.file.image) First s m (λ sound c. omega arith) (λ sound c used none. omega arith)
+        (quietly-then _ ok (λ _. 0) (λ _. 0) handed (λ _. 0) (state image.file.image) First (state fA.image) Freed s m (inl tt) (λ sound c some. refl) frees.quiet second)
+
+    -- The announcement was refused,
+    pub run-not-announced : (fault : Fault) → Announced state (lent image.table A fA []) (failed fault) (lent image.table B fB []) → AllocatesClusters state mark n is_metadata image (refused_run fault) (lent image.table B fB []) mark1
+    run-not-announced fault second = record {
+      leaked = λ _. 0;
+      leaks = leaks-none _ _ (refused_run fault);
+      faults = λ mild. faultless-then (frees.faults tt) (second.faults mild);
+      quiet = quiet;
+      run = tt;
+      unnamed = λ keeps sound. tt;
+      answer = Ok tt;
+      between = A;
+      at = fA;
+      mid_mark = mark1;
+      left = [];
+      frees = frees;
+      rest = rest-none image.pending;
+      halted = λ other is. let e = is in absurd (cc e);
+      mid = Ready;
+      mid_left = refl;
+      freed = λ keeps sound whole. let held = quiet.holds keeps sound whole in record {
+        sound = held.0;
+        quiet = held.1;
+        header = second.header ∙ frees.header;
+        table = refl;
+        fewer = fewer-counted First Ready (λ _. 0) (λ _. 0) held.1 sound held.0 (second.header ∙ frees.header) refl (λ c. refl) frees.less;
+        lower = frees.lower;
+        marked = marked keeps sound whole;
+      };
+      emptied = refl;
+      searched = λ searched. absurd (never fault searched second.cause);
+      fresh = λ keeps sound. tt;
+      taken = λ keeps sound. tt;
+      little = λ keeps sound. tt;
+      raised = λ keeps sound whole c. inl refl;
+      marked = marked;
+      further = tt;
+      stays = refl;
+      order = tt;
+      shape = record {
+        moved = moved-none image.file.header fB.header (second.header ∙ frees.header);
+        loose = λ any loose. second.loose any (freed-loose any loose);
+        room = record { tables = second.room.tables ∙ frees.room.tables; blocks = second.room.blocks ∙ frees.room.blocks; entries = second.room.entries ∙ frees.room.entries };
+      };
+      list = inl refl;
+      cause = cause-weaker (freeing-allocates (λ holds. still-sound holds.0 holds.1) (λ u. loose-all image.table A u.0 (freed-loose u.0 u.2)) frees.cause) fault second.cause;
+    }
+      where
+        quiet : Quietly (WasNotCutOff (refused_run fault)) (λ _. 0) (λ _. 0) (state image.file.image) First (state fB.image) Ready
+        quiet = quiet-on (WasNotCutOff (refused_run fault)) (λ _. 0) (state fB.image) Ready second.quiet
+
+        marked : IsTrue (state image.file.image).shape.keeps → IsSound First → WasNotCutOff (refused_run fault) → IsMarked First mark → IsMarked Ready mark1
+        marked keeps sound whole was c below =
+            let still = still-sound keeps sound in
+            let same = second.counts still.0 still.1 whole c in
+            let more = frees.marked keeps sound (inl tt) was c below in
+            omega (arith, same, more)
+
+        never : (f : Fault) → IsSearched (refused_run f) → HasCause (freeing_causes (IsTrue (state fA.image).shape.keeps × IsSound Freed) (IsLoose image.table A true) (state fA.image).faults (state fB.image).faults) f → ⊥
+        never (Limit number) searched why = why
+        never f searched why = searched
+
+    -- or a run was searched for.
+    module _ (second : Announced state (lent image.table A fA []) (Ok tt) (lent image.table B fB [])) (result : Result FreeEntry Fault) (s' : ImageState S) (mark' : ℕ)
+        (third : Allocates state mark1 n is_metadata (lent image.table B fB []) result s' mark') where
+      abbrev Last : Metadata
+      Last = metadata state s'
+
+      ready-sound : IsTrue (state image.file.image).shape.keeps → IsSound First → IsTrue (state fB.image).shape.keeps × IsSound Ready
+      ready-sound keeps sound = let still = still-sound keeps sound in sound-behind state (lent image.table A fA []) B fB second still.0 still.1
+
+      ready-marked : IsTrue (state image.file.image).shape.keeps → IsSound First → IsMarked First mark → IsMarked Ready mark1
+      ready-marked keeps sound marked = let still = still-sound keeps sound in marked-behind state (lent image.table A fA []) B fB second mark1 still.0 still.1 (frees.marked keeps sound (inl tt) marked)
+
+      is-freed : IsTrue (state image.file.image).shape.keeps → IsSound First → IsFreed First mark Ready mark1
+      is-freed keeps sound = let quiet = ((quiet-on ⊤ (λ _. 0) (state fB.image) Ready second.quiet).holds keeps sound tt).1 in record {
+        sound = (ready-sound keeps sound).1;
+        quiet = quiet;
+        header = second.header ∙ frees.header;
+        table = refl;
+        fewer = fewer-counted First Ready (λ _. 0) (λ _. 0) quiet sound (ready-sound keeps sound).1 (second.header ∙ frees.header) refl (λ c. refl) frees.less;
+        lower = frees.lower;
+        marked = ready-marked keeps sound;
+      }
+
+      same-shape : StaysInShape image s'
+      same-shape = record {
+        moved = subst (λ (H : Header). MovedTable H s'.file.header) (second.header ∙ frees.header) third.step.moved;
+        loose = λ any loose. third.step.loose any (second.loose any (freed-loose any loose));
+        room = record { tables = third.step.room.tables ∙ second.room.tables ∙ frees.room.tables; blocks = third.step.room.blocks ∙ second.room.blocks ∙ frees.room.blocks; entries = third.step.room.entries ∙ second.room.entries ∙ frees.room.entries };
+      }
+
+      abbrev RunIs : ℕ → FreeEntry → Type 0
+      RunIs bits entry = (entry.count ≡ n) × (entry.metadata ≡ is_metadata) × (0 < n → (entry.first ≢ 0) × IsInReach bits (entry.first + (n - 1)))
+
+      runs : IfOk result (RunIs image.file.header.fields.cluster_bits)
+      runs = subst (λ (H : Header). IfOk result (RunIs H.fields.cluster_bits)) (second.header ∙ frees.header) third.run
+
+      unnamed-run : IsTrue (state image.file.image).shape.keeps → IsSound First → (r : Result FreeEntry Fault) → result ≡ r → IfOk r (RunIs image.file.header.fields.cluster_bits) → IfOk r (IsRunCounted mark1 n Last)
+          → IfOk r (λ entry. (c : ℕ) → entry.first ≤ c → c < entry.first + n → counted Ready c ≡ 0) → IfOk r (AreUnnamed Last)
+      unnamed-run keeps sound (Err fault) is run taken fresh = tt
+      unnamed-run keeps sound (Ok entry) is run taken fresh = λ c above below.
+          let still = ready-sound keeps sound in
+          let quiet : Quietly (WasNotCutOff (run_so entry)) (handed_by (run_so entry) third.leaked) (λ _. 0) (state fB.image) Ready (state s'.file.image) Last =
+          subst (λ (r : Result FreeEntry Fault). Quietly (WasNotCutOff r) (handed_by r third.leaked) (λ _. 0) (state fB.image) Ready (state s'.file.image) Last) is (third.step.quiet second.order) in
+          let held = quiet.holds still.0 still.1 tt in
+          let length-is = run.0 in
+          let inside : c < entry.first + n = omega (arith, below, length-is) in
+          handed-unnamed Ready Last (λ d. covers d entry) c still.1 held.0 second.order held.1 (fresh c above inside) (taken.once c above inside) (covers-inside c entry above below)
+
+      run-ordered : (r : Result FreeEntry Fault) → OnOk r (order_of s'.caches ≡ L2DependsOnRb)
+      run-ordered (Ok entry) = third.step.order ∙ second.order
+      run-ordered (Err fault) = tt
+
+      pub run-announced : AllocatesClusters state mark n is_metadata image result s' mark'
+      run-announced = record {
+        leaked = third.leaked;
+        leaks = record { none = third.leaks.none; pinned = λ holds loose. let still = ready-sound holds.0 holds.1 in third.leaks.pinned (still.0, second.order, still.1) (second.loose true (freed-loose true loose)) };
+        faults = λ whole. faultless-then (frees.faults tt) (faultless-then (second.faults tt) (third.step.faults whole));
+        quiet = quiet-on (WasNotCutOff result) (handed_by result third.leaked) (state s'.file.image) Last
+            (quiet-behind state (lent image.table A fA []) B fB second (WasNotCutOff result) (handed_by result third.leaked) (state s'.file.image) Last third.step.quiet);
+        run = runs;
+        unnamed = λ keeps sound. let still = ready-sound keeps sound in unnamed-run keeps sound result refl runs (third.taken second.order still.0 still.1) (third.fresh second.order still.0 still.1);
+        answer = Ok tt;
+        between = A;
+        at = fA;
+        mid_mark = mark1;
+        left = [];
+        frees = frees;
+        rest = rest-none image.pending;
+        halted = λ other is. let e = is in absurd (cc e);
+        mid = Ready;
+        mid_left = refl;
+        freed = λ keeps sound whole. is-freed keeps sound;
+        emptied = refl;
+        searched = λ searched. (refl, second.order);
+        fresh = λ keeps sound. let still = ready-sound keeps sound in third.fresh second.order still.0 still.1;
+        taken = λ keeps sound. let still = ready-sound keeps sound in third.taken second.order still.0 still.1;
+        little = λ keeps sound. let still = ready-sound keeps sound in third.little second.order still.0 still.1;
+        raised = λ keeps sound whole. let still = ready-sound keeps sound in third.step.raised second.order still.0 still.1 whole;
+        marked = λ keeps sound whole marked. let still = ready-sound keeps sound in third.marked second.order still.0 still.1 whole (ready-marked keeps sound marked);
+        further = third.moved;
+        stays = third.stays;
+        order = run-ordered result;
+        shape = same-shape;
+        list = subst (λ (H : Header). IsLengthenedByTable H.fields image.table s'.table [] s'.pending) (second.header ∙ frees.header) third.list;
+        cause = fails-weaker _ _ (allocating-weaker (λ holds. still-sound holds.0 holds.1) freed-loose (λ n full keeps sound. let still = still-sound keeps sound in full still.0 still.1) frees.cause) (λ same. same ∙ frees.cause) result
+            (fails-weaker _ (allocating_causes (IsKept state (lent image.table A fA [])) (IsLoose image.table A) (λ number. IsTrue (state fA.image).shape.keeps → IsSound Freed → IsCrowded Ready mark1 n × IsRunTold Last mark1 n number) (state fA.image).faults (state s'.file.image).faults)
+            (allocates-behind state (lent image.table A fA []) B fB second (λ n full keeps sound. let still = sound-behind state (lent image.table A fA []) B fB second keeps sound in full second.order still.0 still.1)) (λ same. same ∙ second.cause) result third.cause);
+      }

@@ -1,0 +1,168 @@
+-- A cluster gets a counter, and is handed out where it is free.
+use Rattle.std.proofs.Common.{◌≡◌, ℕ, ◌+◌, ◌/◌, ◌<◌, ◌≤◌, true, refl, arith, ap, sym, subst, ◌∙◌, inl, inr, Option, None, Some, Result, Ok, Err, length}
+use Rattle.std.specs.Prelude.{⊤, ◌⊎◌, IsTrue, IfOk}
+use Rattle.std.proofs.lemmas.Bool.{cases_eq, cases_lt}
+use Rattle.std.proofs.lemmas.List.{get_or_past}
+use Rattle.imago_storage.specs.State.{StorageState}
+use Rattle.imago_storage.specs.declared.fault.Fault.{Fault}
+use Rattle.imago_storage.proofs.Composing.{keeps_on}
+use Rattle.qcow2_types.specs.Counts.{counters_of_block}
+use Rattle.qcow2_types.specs.Header.{Header}
+use Rattle.qcow2_types.specs.Words.{block_offset}
+use Rattle.qcow2_types.specs.Pending.{FreeEntry}
+use Rattle.qcow2_types.specs.References.{structure, meets}
+use Rattle.qcow2_metadata.specs.Places.{IsInReach}
+use Rattle.qcow2_alloc.specs.declared.allocation.handing_out.Readiness.TheVariants.{Ready, NoPlace}
+use Rattle.qcow2_alloc.specs.declared.cache.CacheDependency.TheVariants.{L2DependsOnRb}
+use Rattle.qcow2_alloc.specs.declared.cache.MetadataCaches.{MetadataCaches}
+use Rattle.qcow2_alloc.specs.declared.file.ImageFile.{ImageFile}
+use Rattle.qcow2_alloc.specs.Allocating.{Allocating, OnlyRaised}
+use Rattle.qcow2_alloc.specs.Allocators.{metadata_of}
+use Rattle.qcow2_alloc.specs.Caches.{order_of}
+use Rattle.qcow2_alloc.specs.Freeing.{IsMarked}
+use Rattle.qcow2_alloc.specs.Going.{WasNotCutOff}
+use Rattle.qcow2_alloc.specs.GrowingTables.{IsTakenFor}
+use Rattle.qcow2_alloc.specs.HandingOut.{handed_at, IsBarred, IsHandedAt, IsOneAt}
+use Rattle.qcow2_alloc.specs.HandingOutOne.{AllocatesAt, ReadiesCounter, leaked_by}
+use Rattle.qcow2_alloc.specs.Quiet.{Metadata, IsSound, counted}
+use Rattle.qcow2_alloc.specs.State.{ImageState, lent, metadata, IsGuarded}
+use Rattle.qcow2_alloc.proofs.Causes.{fails-weaker}
+use Rattle.qcow2_alloc.proofs.Blocks.BlockCreationCalls.{allocating-weaker}
+use Rattle.qcow2_alloc.proofs.Handing.CountSequences.{counted-still, allocating-none, allocating-as, allocating-then}
+use Rattle.qcow2_alloc.proofs.Blocks.RunProvision.{leaks-none}
+use Rattle.qcow2_alloc.proofs.Handing.ClustersHandedOut.{stands-there}
+use Rattle.qcow2_alloc.proofs.Handing.SingleCounts.{handed_so, not_handed}
+use Rattle.qcow2_alloc.proofs.Blocks.CounterProvision.{ready_so, not_ready}
+
+-- What is before the mark stays counted where counts are raised alone,
+pub marked-raised : (m m' : Metadata) (mark : ℕ) → OnlyRaised m m' → IsMarked m mark → IsMarked m' mark
+marked-raised m m' mark raised marked c below = counted-still m m' c raised (marked c below)
+
+-- and what isn't counted then wasn't before.
+pub free-raised : (m m' : Metadata) (c : ℕ) → OnlyRaised m m' → counted m' c ≡ 0 → counted m c ≡ 0
+free-raised m m' c raised zero = elim (raised c) [ inl same ↦ omega (arith, same, zero) | inr up ↦ up.0 ]
+
+module _ {S : Type 0} (state : S → StorageState) (mark cluster : ℕ) (s : ImageState S) where
+  abbrev Old : Metadata
+  Old = metadata state s
+
+  abbrev Barred : Metadata → Type 0
+  Barred m = IsBarred m mark cluster
+
+  -- A cluster that words can't name isn't handed out,
+  pub out-of-reach : (IsInReach s.file.header.fields.cluster_bits cluster → ⊥) → AllocatesAt state Barred mark cluster s (handed_so None) s mark
+  out-of-reach far = record {
+    did = record {
+      leaked = λ _. 0;
+      leaks = leaks-none _ _ (handed_so None);
+      step = allocating-none state s;
+      list = inl refl;
+      cause = refl;
+    };
+    one = tt;
+    answer = λ order keeps sound. inr (inr (inl far));
+    near = λ order keeps sound c none more. absurd (omega (arith, none, more));
+    further = refl;
+    stays = tt;
+    marked = λ order keeps sound whole marked. marked;
+  }
+
+  module _ (mid : ImageState S) where
+    abbrev Mid : Metadata
+    Mid = metadata state mid
+
+    -- nor one that there is no counter for,
+    pub uncounted-at : ReadiesCounter state mark cluster s (ready_so NoPlace) mid → AllocatesAt state Barred mark cluster s (handed_so None) mid mark
+    uncounted-at counter = record {
+      did = record { leaked = λ _. 0; leaks = leaks-none _ _ (handed_so None); step = counter.did.step; list = counter.did.list; cause = counter.did.cause };
+      one = tt;
+      answer = λ order keeps sound. inr (inr (counter.barred order keeps sound refl));
+      near = counter.near;
+      further = refl;
+      stays = tt;
+      marked = λ order keeps sound whole marked. marked-raised Old Mid mark (counter.did.step.raised order keeps sound tt) marked;
+    }
+
+    -- nor any where that is refused.
+    pub refused-at : (fault : Fault) → ReadiesCounter state mark cluster s (not_ready fault) mid → AllocatesAt state Barred mark cluster s (not_handed fault) mid mark
+    refused-at fault counter = record {
+      did = record {
+        leaked = counter.did.leaked;
+        leaks = record { none = λ full. counter.did.leaks.none (λ at. full (let e = at in cc)); pinned = counter.did.leaks.pinned };
+        step = counter.did.step;
+        list = counter.did.list;
+        cause = counter.did.cause;
+      };
+      one = tt;
+      answer = λ order keeps sound. tt;
+      near = λ order keeps sound. tt;
+      further = tt;
+      stays = refl;
+      marked = λ order keeps sound whole marked. marked-raised Old Mid mark (counter.did.step.raised order keeps sound whole) marked;
+    }
+
+    module _ (counter : ReadiesCounter state mark cluster s (ready_so Ready) mid) (result : Result (Option FreeEntry) Fault) (new : MetadataCaches S) (after : ImageFile S) (mark' : ℕ)
+        (one : AllocatesAt state (λ _. ⊥) mark cluster mid result (lent mid.table new after mid.pending) mark') where
+      abbrev New : Metadata
+      New = metadata_of state after new mid.table mid.pending
+
+      holds-still : IsGuarded state s → IsGuarded state mid
+      holds-still holds = let quiet = counter.did.step.quiet holds.1 in (keeps_on (state s.file.image) (state mid.file.image) quiet.shape holds.0, counter.did.step.order ∙ holds.1, (quiet.holds holds.0 holds.2 tt).0)
+
+      both : Allocating state (WasNotCutOff result) (handed_at result one.did.leaked) s (lent mid.table new after mid.pending)
+      both = allocating-as state (WasNotCutOff result) (WasNotCutOff result) (λ c. leaked_by (ready_so Ready) counter.did.leaked c + handed_at result one.did.leaked c) (handed_at result one.did.leaked) s (lent mid.table new after mid.pending) (λ w. w) (λ c. omega arith)
+          (allocating-then state ⊤ (WasNotCutOff result) (leaked_by (ready_so Ready) counter.did.leaked) (handed_at result one.did.leaked) s mid (lent mid.table new after mid.pending) tt counter.did.step one.did.step)
+
+      -- None is answered of a cluster that is counted by now: it was before, or something stands in it.
+      taken-by : result ≡ Ok None → order_of s.caches ≡ L2DependsOnRb → IsTrue (state s.file.image).shape.keeps → IsSound Old → 0 < counted Mid cluster → (0 < counted Old cluster) ⊎ (0 < structure New.file New.header.fields (meets New.header.fields cluster))
+      taken-by none order keeps sound more =
+          let whole : WasNotCutOff result = subst (λ (r : Result (Option FreeEntry) Fault). WasNotCutOff r) (sym none) tt in
+          let held = holds-still (keeps, order, sound) in
+          let after-all = (both.quiet order).holds keeps sound whole in
+          let kept : handed_at result one.did.leaked cluster ≡ 0 = subst (λ (r : Result (Option FreeEntry) Fault). handed_at r one.did.leaked cluster ≡ 0) (sym none) refl in
+          elim (cases_lt 0 (counted Old cluster)) [
+            | inl was ↦ inl was
+            | inr none' ↦ inr (stands-there Old New (handed_at result one.did.leaked) cluster sound after-all.0 after-all.1 counter.did.list (omega (arith, none')) kept
+                (counted-still Mid New cluster (one.did.step.raised held.1 held.0 held.2 whole) more))
+          ]
+
+      answered : (r : Result (Option FreeEntry) Fault) → result ≡ r → order_of s.caches ≡ L2DependsOnRb → IsTrue (state s.file.image).shape.keeps → IsSound Old → IfOk r (IsHandedAt ⊥ cluster Mid New) → IfOk r (IsHandedAt (Barred Old) cluster Old New)
+      answered (Ok (Some entry)) is order keeps sound (zero, once, unnamed, free) = (free-raised Old Mid cluster (counter.did.step.raised order keeps sound tt) zero, once, unnamed, free)
+      answered (Ok None) is order keeps sound (inl more) = elim (taken-by is order keeps sound more) [ inl was ↦ inl was | inr stands ↦ inr (inl stands) ]
+      answered (Ok None) is order keeps sound (inr (inl stands)) = inr (inl stands)
+      answered (Ok None) is order keeps sound (inr (inr never)) = absurd never
+      answered (Err fault) is order keeps sound said = tt
+
+      -- What was counted anew was so for its counter, or is the cluster.
+      nearby : (r : Result (Option FreeEntry) Fault) → order_of s.caches ≡ L2DependsOnRb → IsTrue (state s.file.image).shape.keeps → IsSound Old → IfOk r (λ _. IsTakenFor mark cluster Mid New) → IfOk r (λ _. IsTakenFor mark cluster Old New)
+      nearby (Err fault) order keeps sound said = tt
+      nearby (Ok found) order keeps sound said = λ c none more. elim (cases_eq (counted Mid c) 0) [
+        | inr made ↦ counter.near order keeps sound c none (omega (arith, made))
+        | inl still ↦ elim (said c still more) [
+          | inl le ↦ inl le
+          | inr room ↦ absurd (never room.0)
+        ]
+      ]
+        where
+          never : length mid.table.words ≤ cluster / counters_of_block mid.file.header.fields → ⊥
+          never past =
+              let here : length mid.table.words ≤ cluster / counters_of_block s.file.header.fields = subst (λ (H : Header). length mid.table.words ≤ cluster / counters_of_block H.fields) counter.did.step.moved.2 past in
+              counter.there refl (ap block_offset (get_or_past mid.table.words (cluster / counters_of_block s.file.header.fields) 0 here))
+
+      -- Else it is handed out where it is free.
+      pub readied-at : AllocatesAt state Barred mark cluster s result (lent mid.table new after mid.pending) mark'
+      readied-at = record {
+        did = record {
+          leaked = one.did.leaked;
+          leaks = record { none = one.did.leaks.none; pinned = λ holds loose. one.did.leaks.pinned (holds-still holds) (counter.did.step.loose true loose) };
+          step = both;
+          list = counter.did.list;
+          cause = fails-weaker _ _ (allocating-weaker holds-still counter.did.step.loose (λ n full. full) counter.did.cause) (λ same. same ∙ counter.did.cause) result one.did.cause;
+        };
+        one = subst (λ (H : Header). IfOk result (IsOneAt cluster H.fields.cluster_bits)) counter.did.step.moved.2 one.one;
+        answer = λ order keeps sound. let held = holds-still (keeps, order, sound) in answered result refl order keeps sound (one.answer held.1 held.0 held.2);
+        near = λ order keeps sound. let held = holds-still (keeps, order, sound) in nearby result order keeps sound (one.near held.1 held.0 held.2);
+        further = one.further;
+        stays = one.stays;
+        marked = λ order keeps sound whole marked. let held = holds-still (keeps, order, sound) in one.marked held.1 held.0 held.2 whole (marked-raised Old Mid mark (counter.did.step.raised order keeps sound tt) marked);
+      }

@@ -1,0 +1,339 @@
+-- A run that was made ready is counted, and handed out.
+use Rattle.std.proofs.Common.{◌≡◌, ◌≢◌, ℕ, ◌+◌, ◌/◌, ◌<◌, ◌≤◌, refl, arith, ap, sym, subst, ◌∙◌, List, Bool, Result, Ok, Err, inl, inr, true}
+use Rattle.std.specs.Prelude.{⊤, IsTrue, slice_index}
+use Rattle.std.proofs.lemmas.Bool.{cases_eq, cases_lt}
+use Rattle.std.proofs.lemmas.Bool.Decides.{nat_tests}
+use Rattle.imago_storage.specs.State.{StorageState}
+use Rattle.imago_storage.specs.declared.fault.Fault.{Fault}
+use Rattle.imago_storage.specs.declared.fault.Fault.TheVariants.{Memory, Storage, DamagedTable, CacheFull, Counter}
+use Rattle.imago_storage.proofs.Composing.{keeps_on}
+use Rattle.qcow2_types.specs.Counts.{counters_of_block}
+use Rattle.qcow2_types.specs.Header.{Header}
+use Rattle.qcow2_types.specs.Pending.{FreeEntry}
+use Rattle.qcow2_types.specs.Words.{block_offset}
+use Rattle.qcow2_metadata.specs.Tables.{TableValue}
+use Rattle.qcow2_alloc.specs.declared.cache.CacheDependency.TheVariants.{L2DependsOnRb}
+use Rattle.qcow2_alloc.specs.declared.cache.MetadataCaches.{MetadataCaches}
+use Rattle.qcow2_alloc.specs.declared.file.ImageFile.{ImageFile}
+use Rattle.qcow2_alloc.specs.Allocating.{Allocating, CountsRun, MovedTable, OnlyRaised}
+use Rattle.qcow2_alloc.specs.Allocators.{metadata_of}
+use Rattle.qcow2_alloc.specs.Caches.{order_of}
+use Rattle.qcow2_alloc.specs.Causes.{HasCause}
+use Rattle.qcow2_alloc.specs.Crowding.{IsGapless, IsRoomy, room_for}
+use Rattle.qcow2_alloc.specs.FreeList.{covers}
+use Rattle.qcow2_alloc.specs.Freeing.{IsLoose, IsMarked, counting_causes}
+use Rattle.qcow2_alloc.specs.Going.{WasNotCutOff}
+use Rattle.qcow2_alloc.specs.MakingRoom.{run_of}
+use Rattle.qcow2_alloc.specs.Quiet.{Metadata, IsSound, counted}
+use Rattle.qcow2_alloc.specs.ReadyingRuns.{Allocates, IsRunCounted, ReadiesRun, handed_by, mark_behind}
+use Rattle.qcow2_alloc.specs.State.{ImageState, lent, metadata}
+use Rattle.qcow2_alloc.proofs.Causes.{cause-weaker}
+use Rattle.qcow2_alloc.proofs.Blocks.BlockCreationCalls.{counting-allocates}
+use Rattle.qcow2_alloc.proofs.Handing.CountSequences.{allocating-none, allocating-as, raised-then}
+use Rattle.qcow2_alloc.proofs.Flushing.Faultless.{faultless-then}
+use Rattle.qcow2_alloc.proofs.Space.GaplessRuns.{gapless-same}
+use Rattle.qcow2_alloc.proofs.Growth.LongerReftables.{covers-inside}
+use Rattle.qcow2_alloc.proofs.Space.RoomConsumption.{covered-inside}
+use Rattle.qcow2_alloc.proofs.Quiet.QuietGiven.{quietly-then-given}
+use Rattle.qcow2_alloc.proofs.Quiet.QuietThen.{quietly-otherwise}
+use Rattle.qcow2_alloc.proofs.Blocks.RunProvision.{leaks-on, leaks-ok}
+
+-- No cluster is covered by a run that is no part of it.
+covers-outside : (c first n : ℕ) → (first ≤ c → c < first + n → ⊥) → covers c (run_of first n) ≡ 0
+covers-outside c first n away = elim (cases_lt c first) [
+  | inl before ↦ grind (arith, nat_tests)
+  | inr from ↦ elim (cases_lt c (first + n)) [ inl below ↦ absurd (away from below) | inr past ↦ grind (arith, nat_tests) ]
+]
+
+-- The mark stands behind a run that it stood before, or a lone cluster that was the first one, and else where it did.
+behind-here : (mark n first : ℕ) → first ≡ mark → mark_behind mark n first ≡ first + n
+behind-here mark n first same = grind (arith, nat_tests)
+
+behind-one : (mark n first : ℕ) → first ≢ mark → n ≡ 1 → mark_behind mark n first ≡ first + 1
+behind-one mark n first apart one = grind (arith, nat_tests)
+
+behind-not : (mark n first : ℕ) → first ≢ mark → n ≢ 1 → mark_behind mark n first ≡ mark
+behind-not mark n first apart more = grind (arith, nat_tests)
+
+-- Counts that are raised alone keep what is before the mark counted,
+marked-on : (m m' : Metadata) (mark : ℕ) → OnlyRaised m m' → IsMarked m mark → IsMarked m' mark
+marked-on m m' mark raised marked c below = elim (raised c) [
+  | inl same ↦ let some = marked c below in omega (arith, same, some)
+  | inr up ↦ let one = up.1 in omega (arith, one)
+]
+
+-- and so does a run that is counted, which was the first one from the mark on.
+marked-behind : (m m' : Metadata) (mark n : ℕ) (entry : FreeEntry) → OnlyRaised m m' → IsRunCounted mark n m' entry → IsMarked m mark → IsMarked m' (mark_behind mark n entry.first)
+marked-behind m m' mark n entry raised taken marked c below =
+    let first = entry.first in
+    let old : c < mark → 0 < counted m' c = marked-on m m' mark raised marked c in
+    let own : first ≤ c → c < first + n → 0 < counted m' c = λ above under. let one = taken.once c above under in omega (arith, one) in
+    elim (cases_lt c mark) [
+      | inl before ↦ old before
+      | inr from ↦ elim (cases_eq first mark) [
+        | inl same ↦ let is = behind-here mark n first same in own (omega (arith, from, same)) (omega (arith, below, is))
+        | inr apart ↦ elim (cases_eq n 1) [
+          | inl one ↦
+              let is = behind-one mark n first apart one in
+              elim (cases_lt c first) [
+                | inl less ↦
+                    let met = taken.least c from less in
+                    let above = met.1 in
+                    let under = met.2 in
+                    let here : met.0 ≡ c = omega (arith, above, under, one) in
+                    subst (λ d. 0 < counted m' d) here met.4
+                | inr more ↦ own more (omega (arith, below, is, one))
+              ]
+          | inr more ↦ let is = behind-not mark n first apart more in absurd (omega (arith, from, below, is))
+        ]
+      ]
+    ]
+
+-- What a call lost that was refused as it counted so many clusters of a run.
+abbrev pub lost : Fault → ℕ → ℕ → ℕ → ℕ
+lost CacheFull first part c = covers c (run_of first part)
+lost fault first part c = 0
+
+-- an answer that refuses
+abbrev pub refusal : Fault → Result FreeEntry Fault
+refusal fault = Err fault
+
+lost-none : (fault : Fault) (first part : ℕ) → (refusal fault ≡ Err CacheFull → ⊥) → (c : ℕ) → lost fault first part c ≡ 0
+lost-none CacheFull first part other c = absurd (other refl)
+lost-none fault first part other c = refl
+
+lost-pinned : (sound : Type 0) (loose : Bool → Type 0) (a b : ℕ) (fault : Fault) (first part : ℕ) → HasCause (counting_causes sound loose a b) fault → sound → loose true → (c : ℕ) → lost fault first part c ≡ 0
+lost-pinned sound loose a b CacheFull first part why holds all c = absurd (why (true, λ is. holds, all))
+lost-pinned sound loose a b fault first part why holds all c = refl
+
+module _ {S : Type 0} (state : S → StorageState) (mark n : ℕ) (is_metadata : Bool) (s : ImageState S) where
+  abbrev mA : Metadata
+  mA = metadata state s
+
+  abbrev Keeps : Type 0
+  Keeps = IsTrue (state s.file.image).shape.keeps
+
+  abbrev Handing : Result FreeEntry Fault → TableValue → MetadataCaches S → ImageFile S → List FreeEntry → ℕ → Type 0
+  Handing result table' new after pending' mark' = Allocates state mark n is_metadata s result (lent table' new after pending') mark'
+
+  -- What can't come about hands out what you like.
+  allocating-never : (ok : Type 0) (h h' : ℕ → ℕ) (s' : ImageState S) → (order_of s.caches ≡ L2DependsOnRb → Keeps → IsSound mA → ok → ⊥)
+      → Allocating state ok h s s' → Allocating state ok h' s s'
+  allocating-never ok h h' s' never step = record {
+    faults = step.faults;
+    quiet = λ order. let quiet = step.quiet order in record { shape = quiet.shape; later = quiet.later; passes = quiet.passes; holds = λ keeps sound done. absurd (never order keeps sound done) };
+    raised = step.raised;
+    order = step.order;
+    moved = step.moved;
+    longer = step.longer;
+    loose = step.loose;
+    room = step.room;
+  }
+
+  -- A run of no clusters is handed out at the mark.
+  pub none-allocated : n ≡ 0 → Handing (Ok (record { first = mark; count = n; metadata = is_metadata })) s.table s.caches s.file s.pending mark
+  none-allocated zero = record {
+    leaked = λ _. 0;
+    leaks = record { none = λ other c. refl; pinned = λ holds all c. refl };
+    step = allocating-as state ⊤ ⊤ (λ _. 0) (λ c. covers c (run_of mark n)) s s (λ whole. whole) (λ c. sym (covers-outside c mark n (λ above below. omega (arith, above, below, zero))))
+        (allocating-none state s);
+    run = (refl, refl, λ some. absurd (omega (arith, some, zero)));
+    taken = λ order keeps sound. record {
+      behind = omega arith;
+      once = λ c above below. absurd (omega (arith, above, below, zero));
+      least = λ z above below. absurd (omega (arith, above, below));
+    };
+    fresh = λ order keeps sound c above below. absurd (omega (arith, above, below, zero));
+    little = λ order keeps sound. record { early = λ roomy c above below. roomy.free c (omega (arith, above)) below; gapless = λ one. gapless-same mark mA mA (λ c. refl) };
+    moved = sym (behind-here mark n mark refl ∙ omega (arith, zero));
+    stays = tt;
+    marked = λ order keeps sound whole marked. marked;
+    list = inl refl;
+    cause = refl;
+  }
+
+  module _ (sB : ImageState S) where
+    abbrev mB : Metadata
+    mB = metadata state sB
+
+    -- No run was made ready.
+    pub run-refused : (fault : Fault) → ReadiesRun state mark n s (Err fault) sB → Handing (Err fault) sB.table sB.caches sB.file sB.pending mark
+    run-refused fault ready = record {
+      leaked = ready.leaked;
+      leaks = leaks-on _ _ _ _ fault ready.leaked (λ holds. holds) (λ any loose. loose) ready.leaks;
+      step = allocating-as state (WasNotCutOff {T = ℕ} (Err fault)) (WasNotCutOff {T = FreeEntry} (Err fault)) ready.leaked (handed_by (Err fault) ready.leaked) s sB (λ whole. whole) (λ c. refl) ready.step;
+      run = tt;
+      taken = λ order keeps sound. tt;
+      fresh = λ order keeps sound. tt;
+      little = λ order keeps sound. tt;
+      moved = tt;
+      stays = refl;
+      marked = λ order keeps sound whole. marked-on mA mB mark (ready.step.raised order keeps sound whole);
+      list = ready.list;
+      cause = ready.cause;
+    }
+
+    module _ (first : ℕ) (ready : ReadiesRun state mark n s (Ok first) sB) where
+      -- So far none was handed out.
+      begun : Allocating state ⊤ (λ _. 0) s sB
+      begun = allocating-as state ⊤ ⊤ ready.leaked (λ _. 0) s sB (λ whole. whole) (leaks-ok _ _ first ready.leaked ready.leaks) ready.step
+
+      free : order_of s.caches ≡ L2DependsOnRb → Keeps → IsSound mA → (c : ℕ) → first ≤ c → c < first + n → counted mB c ≡ 0
+      free order keeps sound = (ready.found order keeps sound).free
+
+      -- Each can be counted.
+      abbrev CanCount : Type 0
+      CanCount = IsTrue (state sB.file.image).shape.keeps × (order_of sB.caches ≡ L2DependsOnRb) × IsSound mB
+          × ((c : ℕ) → first ≤ c → c < first + n → (counted mB c ≡ 0) × (block_offset (slice_index sB.table.words (c / counters_of_block sB.file.header.fields)) ≢ 0))
+
+      holds-on : Keeps × (order_of s.caches ≡ L2DependsOnRb) × IsSound mA → CanCount
+      holds-on holds =
+          let quiet = begun.quiet holds.1 in (
+            keeps_on (state s.file.image) (state sB.file.image) quiet.shape holds.0,
+            begun.order ∙ holds.1,
+            (quiet.holds holds.0 holds.2 tt).0,
+            λ c above below. (
+              free holds.1 holds.0 holds.2 c above below,
+              subst (λ k. block_offset (slice_index sB.table.words (c / k)) ≢ 0) (sym (ap (λ (H : Header). counters_of_block H.fields) moved.2)) (ready.ready c above below),
+            ),
+          )
+        where
+          moved : MovedTable s.file.header sB.file.header
+          moved = begun.moved
+
+      module _ (C : MetadataCaches S) (fC : ImageFile S) where
+        abbrev mC : Metadata
+        mC = metadata_of state fC C sB.table sB.pending
+
+        -- A part of the run is counted, each cluster of it once.
+        counted-more : (result : Result Unit Fault) (counts : CountsRun state first n sB result (lent sB.table C fC sB.pending)) → order_of s.caches ≡ L2DependsOnRb → Keeps → IsSound mA → WasNotCutOff result → (c : ℕ) → counted mC c ≡ counted mB c + covers c (run_of first counts.part)
+        counted-more result counts order keeps sound whole =
+            let there = holds-on (keeps, order, sound) in
+            counts.raised there.1 there.0 there.2 (free order keeps sound) whole
+
+        part-raised : (result : Result Unit Fault) → CountsRun state first n sB result (lent sB.table C fC sB.pending) → order_of s.caches ≡ L2DependsOnRb → Keeps → IsSound mA → WasNotCutOff result → OnlyRaised mB mC
+        part-raised result counts order keeps sound whole c =
+            let more = counted-more result counts order keeps sound whole c in
+            let le = counts.inside in
+            elim (cases_lt c first) [
+              | inl less ↦ let none = covers-outside c first counts.part (λ above below. omega (arith, above, less)) in inl (omega (arith, more, none))
+              | inr from ↦ elim (cases_lt c (first + counts.part)) [
+                | inl below ↦ let none = free order keeps sound c from (omega (arith, below, le)) in let one = covers-inside c first counts.part from below in inr (none, omega (arith, more, none, one))
+                | inr past ↦ let none = covers-outside c first counts.part (λ above below. omega (arith, past, below)) in inl (omega (arith, more, none))
+              ]
+            ]
+
+        part-allocates : (result : Result Unit Fault) (counts : CountsRun state first n sB result (lent sB.table C fC sB.pending)) → Allocating state (WasNotCutOff result) (λ c. covers c (run_of first counts.part)) s (lent sB.table C fC sB.pending)
+        part-allocates result counts =
+            let part : ℕ → ℕ = λ c. covers c (run_of first counts.part) in record {
+              faults = λ whole. faultless-then (begun.faults tt) (counts.faults whole);
+              quiet = λ order. quietly-otherwise (WasNotCutOff result) (λ c. 0 + part c) (λ c. 0 + 0) part (λ _. 0) (state s.file.image) mA (state fC.image) mC (λ sound c. omega arith) (λ sound c used none. omega arith)
+                  (quietly-then-given ⊤ (WasNotCutOff result) (λ _. 0) (λ _. 0) part (λ _. 0) (state s.file.image) mA (state sB.file.image) mB (state fC.image) mC tt (λ sound c some. refl) (begun.quiet order) counts.shape counts.later
+                  (λ keeps sound there quiet. counts.quiet (begun.order ∙ order) (λ again. free order keeps sound)));
+              raised = λ order keeps sound whole. raised-then mA mB mC (begun.raised order keeps sound tt) (part-raised result counts order keeps sound whole);
+              order = counts.order ∙ begun.order;
+              moved = subst (λ (H : Header). MovedTable s.file.header H) (sym counts.header) begun.moved;
+              longer = begun.longer;
+              loose = λ any loose. counts.loose any (begun.loose any loose);
+              room = record { tables = counts.room.tables ∙ begun.room.tables; blocks = counts.room.blocks ∙ begun.room.blocks; entries = counts.room.entries ∙ begun.room.entries };
+            }
+
+        abbrev Stopped : Fault → (ℕ → ℕ) → Type 0
+        Stopped f h = Allocating state (WasNotCutOff {T = FreeEntry} (Err f)) h s (lent sB.table C fC sB.pending)
+
+        -- Counting is refused.
+        pub count-refused : (fault : Fault) → CountsRun state first n sB (Err fault) (lent sB.table C fC sB.pending) → Handing (Err fault) sB.table C fC sB.pending mark
+        count-refused fault counts = record {
+          leaked = lost fault first counts.part;
+          leaks = record { none = lost-none fault first counts.part; pinned = λ holds all. lost-pinned CanCount (IsLoose sB.table sB.caches) _ _ fault first counts.part counts.cause (holds-on holds) (begun.loose true all) };
+          step = stopped fault counts.cause (part-allocates (Err fault) counts);
+          run = tt;
+          taken = λ order keeps sound. tt;
+          fresh = λ order keeps sound. tt;
+          little = λ order keeps sound. tt;
+          moved = tt;
+          stays = refl;
+          marked = λ order keeps sound whole. marked-on mA mC mark ((part-allocates (Err fault) counts).raised order keeps sound whole);
+          list = ready.list;
+          cause = cause-weaker (counting-allocates holds-on begun.loose ready.cause) fault counts.cause;
+        }
+          where
+            stopped : (f : Fault) → HasCause (counting_causes CanCount (IsLoose sB.table sB.caches) (state sB.file.image).faults (state fC.image).faults) f → Stopped f (λ c. covers c (run_of first counts.part)) → Stopped f (handed_by (Err f) (lost f first counts.part))
+            stopped CacheFull why step = allocating-as state (WasNotCutOff {T = FreeEntry} (Err CacheFull)) (WasNotCutOff {T = FreeEntry} (Err CacheFull)) _ _ s (lent sB.table C fC sB.pending) (λ whole. whole) (λ c. refl) step
+            stopped Memory why step = allocating-never _ _ _ (lent sB.table C fC sB.pending) (λ order keeps sound whole. whole) step
+            stopped Storage why step = allocating-never _ _ _ (lent sB.table C fC sB.pending) (λ order keeps sound whole. whole) step
+            stopped DamagedTable why step = allocating-never _ _ _ (lent sB.table C fC sB.pending) (λ order keeps sound whole. why (holds-on (keeps, order, sound))) step
+            stopped Counter why step = allocating-never _ _ _ (lent sB.table C fC sB.pending) (λ order keeps sound whole. why (holds-on (keeps, order, sound))) step
+            stopped other why step = absurd why
+
+        -- All are counted.
+        module _ (counts : CountsRun state first n sB (Ok tt) (lent sB.table C fC sB.pending)) where
+          abbrev entry : FreeEntry
+          entry = record { first = first; count = n; metadata = is_metadata }
+
+          once : order_of s.caches ≡ L2DependsOnRb → Keeps → IsSound mA → (c : ℕ) → counted mC c ≡ counted mB c + covers c (run_of first n)
+          once order keeps sound c = subst (λ k. counted mC c ≡ counted mB c + covers c (run_of first k)) counts.whole (counted-more (Ok tt) counts order keeps sound tt c)
+
+          run-counted : order_of s.caches ≡ L2DependsOnRb → Keeps → IsSound mA → IsRunCounted mark n mC entry
+          run-counted order keeps sound =
+              let found = ready.found order keeps sound in record {
+                behind = found.behind;
+                once = λ c above below. let none = found.free c above below in let one = covers-inside c first n above below in let more = once order keeps sound c in omega (arith, none, one, more);
+                least = λ z above below.
+                    let met = found.least z above below in
+                    let some = met.3 in
+                    let more = once order keeps sound met.0 in (
+                      met.0,
+                      met.1,
+                      met.2,
+                      covers-outside met.0 first n (λ from under. let none = found.free met.0 from under in omega (arith, none, some)),
+                      omega (arith, some, more),
+                    );
+              }
+
+          -- It is among the clusters that are enough,
+          run-early : order_of s.caches ≡ L2DependsOnRb → Keeps → IsSound mA → (roomy : IsRoomy mA mark n) (c : ℕ) → roomy.first + room_for mA.header.fields n ≤ c → c < roomy.first + roomy.total → counted mC c ≡ 0
+          run-early order keeps sound roomy c above below =
+              let made = ready.little order keeps sound in
+              let none = made.0.early roomy c above below in
+              let ends = made.1 roomy in
+              let apart = covers-outside c first n (λ from to. omega (arith, to, ends, above)) in
+              let more = once order keeps sound c in
+              omega (arith, none, apart, more)
+
+          -- and leaves no gap.
+          run-gapless : order_of s.caches ≡ L2DependsOnRb → Keeps → IsSound mA → n ≤ 1 → IsGapless mark mA mC
+          run-gapless order keeps sound one c none some d from to =
+              let more = once order keeps sound c in
+              let still : 0 < counted mB d → 0 < counted mC d = (λ was. let more' = once order keeps sound d in omega (arith, was, more')) in
+              elim (cases_eq (counted mB c) 0) [
+                | inr made ↦ still ((ready.little order keeps sound).0.gapless one c none (omega (arith, made)) d from to)
+                | inl free' ↦
+                    let inside = covered-inside c first n (omega (arith, more, free', some)) in
+                    let ends = inside.1 in
+                    let met = (ready.found order keeps sound).least d from (omega (arith, to, ends, one)) in
+                    let above = met.1 in
+                    let below = met.2 in
+                    let here : met.0 ≡ d = omega (arith, above, below, one) in
+                    still (subst (λ x. 0 < counted mB x) here met.3)
+              ]
+
+          pub run-allocated : Handing (Ok entry) sB.table C fC sB.pending (mark_behind mark n first)
+          run-allocated = record {
+            leaked = λ _. 0;
+            leaks = record { none = λ other c. refl; pinned = λ holds all c. refl };
+            step = allocating-as state ⊤ ⊤ (λ c. covers c (run_of first counts.part)) (handed_by (Ok entry) (λ _. 0)) s (lent sB.table C fC sB.pending) (λ whole. whole)
+                (λ c. ap (λ k. covers c (run_of first k)) counts.whole) (part-allocates (Ok tt) counts);
+            run = (refl, refl, λ some. (ready.some, ready.reach));
+            taken = run-counted;
+            fresh = λ order keeps sound c above below. elim (begun.raised order keeps sound tt c) [
+              | inl same ↦ let none = free order keeps sound c above below in omega (arith, same, none)
+              | inr up ↦ up.0
+            ];
+            little = λ order keeps sound. record { early = run-early order keeps sound; gapless = run-gapless order keeps sound };
+            moved = refl;
+            stays = tt;
+            marked = λ order keeps sound whole. marked-behind mA mC mark n entry ((part-allocates (Ok tt) counts).raised order keeps sound tt) (run-counted order keeps sound);
+            list = ready.list;
+            cause = counts.cause ∙ ready.cause;
+          }

@@ -1,0 +1,87 @@
+-- What is left as it was where a call was refused before it had begun.
+use Rattle.std.proofs.Common.{◌≡◌, ℕ, Bool, refl, sym, subst, ◌∙◌, Result, Ok, Err}
+use Rattle.std.specs.Prelude.{OnOk}
+use Rattle.imago_storage.specs.State.{StorageState}
+use Rattle.imago_storage.specs.Calls.{Kept}
+use Rattle.imago_storage.specs.declared.fault.Fault.{Fault}
+use Rattle.qcow2_metadata.specs.Tables.{TableValue}
+use Rattle.qcow2_alloc.specs.declared.allocation.Allocator.{Allocator}
+use Rattle.qcow2_alloc.specs.declared.cache.MetadataCaches.{MetadataCaches}
+use Rattle.qcow2_alloc.specs.declared.file.ImageFile.{ImageFile}
+use Rattle.qcow2_alloc.specs.FreeList.{FreeList}
+use Rattle.qcow2_alloc.specs.Memory.{Cached}
+use Rattle.qcow2_alloc.specs.ReadyingRuns as runs
+use Rattle.qcow2_alloc.specs.Safety.{AreBlocksClean, AreTablesClean}
+use Rattle.qcow2_alloc.specs.State.{seen}
+use Rattle.qcow2_alloc.proofs.Flushing.WriteSequences.{kept-same}
+use Rattle.qcow2_alloc.proofs.Searching.SearchSequences.{kept-then}
+use Rattle.qcow2_clusters.specs.MakingTables.{HasWordsOf}
+use Rattle.qcow2_clusters.specs.Rest.{AreEmpty, Clusters, lent, storage}
+use Rattle.qcow2_clusters.specs.Settling.{Settles}
+use Rattle.qcow2_clusters.specs.Sparing.{IsSpared, Spares, SparesUnsettled}
+
+module _ {S : Type 0} (state : S → StorageState) where
+  -- Nothing was done,
+  pub nothing-begun : {T : Type 0} (was : Bool) (c : Clusters S) (e : Fault) → Spares {T = T} state was c (Err e) was c
+  nothing-begun {T} was c e = λ not. record {
+    unbegun = not;
+    refused = tt;
+    kept = kept-same (storage state c);
+    header = refl;
+    space = refl;
+  }
+
+  -- or nothing but what changes no byte.
+  pub spared-behind : {T : Type 0} (was now : Bool) (old mid new : Clusters S) (e : Fault) → Kept (storage state old) (storage state mid)
+      → mid.file.header ≡ old.file.header → mid.space ≡ old.space → IsSpared {T = T} state was mid (Err e) new
+      → IsSpared {T = T} state was old (Err e) new
+  spared-behind {T} was now old mid new e kept header space spared = record {
+    unbegun = spared.unbegun;
+    refused = tt;
+    kept = kept-then (storage state old) (storage state mid) (storage state new) kept spared.kept;
+    header = spared.header ∙ header;
+    space = spared.space ∙ space;
+  }
+
+  -- No clusters were allocated.
+  pub run-spared : (was now : Bool) (c : Clusters S) (e : Fault) (allocator : Allocator) (caches : MetadataCaches S) (file : ImageFile S)
+      (list : FreeList) → AreEmpty c.caches
+      → runs.Spares state was now c.space.allocator (seen c.space.allocator c.caches c.file c.space.to_free) allocator
+      (seen allocator caches file list)
+      → list.held ≡ c.space.to_free.held
+      → SparesUnsettled {T = ℕ} state was c (Err e) now (lent file caches (record { allocator = allocator; to_free = list }))
+  run-spared was now c e allocator caches file list empty spares held = λ not.
+      let s = spares not in
+      let clean = s.4 (subst (λ (d : Cached). AreTablesClean d) (sym empty) tt) (subst (λ (d : Cached). AreBlocksClean d) (sym empty) tt) in (
+        record {
+          unbegun = s.0;
+          refused = tt;
+          kept = clean.kept;
+          header = s.3;
+          space = λ i. record { allocator = s.1 i; to_free = record { entries = s.2 i; held = held i } };
+        },
+        clean.tables,
+        clean.blocks,
+      )
+
+  -- An answer that only a refusal can be where a refusal was given is one.
+  refused-still : {T : Type 0} (e : Fault) (result : Result T Fault) → OnOk result (result ≡ Err e) → OnOk result ⊥
+  refused-still e (Ok v) is = absurd (cc is)
+  refused-still e (Err other) is = tt
+
+  -- What was refused so is settled.
+  pub settled-spared : (was now : Bool) (c : Clusters S) (e : Fault) (mid : Clusters S) (result : Result ℕ Fault) (after : ImageFile S)
+      (new : MetadataCaches S) → Settles {T = ℕ} state (Err e) mid.file mid.caches result after new
+      → SparesUnsettled {T = ℕ} state was c (Err e) now mid → Spares state was c result now (lent after new mid.space)
+  settled-spared was now c e mid result after new settles spares = λ not.
+      let s = spares not in record {
+        unbegun = s.0.unbegun;
+        refused = refused-still e result settles.ok;
+        kept = kept-then (storage state c) (storage state mid) (state after.image) s.0.kept (settles.still s.1 s.2);
+        header = settles.header ∙ s.0.header;
+        space = s.0.space;
+      }
+
+-- a table that stays
+pub words-same : (top : TableValue) → HasWordsOf top top
+words-same top = record { layout = refl; words = refl }

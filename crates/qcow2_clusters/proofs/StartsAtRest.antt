@@ -1,0 +1,150 @@
+-- What begins at rest: with nothing cached, in whatever order.
+use Rattle.std.proofs.Common.{◌≡◌, ℕ, ◌+◌, ◌<◌, refl, arith, ap, sym, subst, ◌∙◌, List, [], ◌∷◌, Bool, true, false, cond, inl, inr, eq-eqb, Result}
+use Rattle.std.specs.Prelude.{nat_eq, nat_lt, ◌&&◌}
+use Rattle.std.proofs.lemmas.Bool.{cases_lt, lt-ltb}
+use Rattle.std.proofs.lemmas.List.Sums.{sum_by-cons}
+use Rattle.imago_storage.specs.State.{StorageState}
+use Rattle.imago_storage.specs.declared.fault.Fault.{Fault}
+use Rattle.qcow2_types.specs.Bytes.{Bytes, word}
+use Rattle.qcow2_types.specs.Counts.{count}
+use Rattle.qcow2_types.specs.Entries.{l1_table_sound}
+use Rattle.qcow2_types.specs.Header.{Fields, Header}
+use Rattle.qcow2_types.specs.Words.{l1_word_sound}
+use Rattle.qcow2_types.proofs.Counting.Bounded.{all-below}
+use Rattle.qcow2_types.proofs.Counting.Sound.{all-below-holds}
+use Rattle.qcow2_metadata.specs.Tables.{TableValue}
+use Rattle.qcow2_metadata.proofs.TableFacts.{words_same}
+use Rattle.qcow2_alloc.specs.declared.async_lru_cache.Slot.{Slot}
+use Rattle.qcow2_alloc.specs.declared.cache.CacheDependency.{CacheDependency}
+use Rattle.qcow2_alloc.specs.declared.cache.CacheDependency.TheVariants.{Unset, L2DependsOnRb, RbDependsOnL2}
+use Rattle.qcow2_alloc.specs.declared.cache.MetadataCaches.{MetadataCaches}
+use Rattle.qcow2_alloc.specs.Allocating.{MovedTable}
+use Rattle.qcow2_alloc.specs.Caches.{KeepsTables, cached_in}
+use Rattle.qcow2_alloc.specs.Finding.{PinsNothing, pinned_among, pinned_in}
+use Rattle.qcow2_alloc.specs.Freeing.{IsLoose}
+use Rattle.qcow2_alloc.specs.Going.{WasNotCutOff}
+use Rattle.qcow2_alloc.specs.Memory.{Cached, memory}
+use Rattle.qcow2_alloc.specs.Opening.{IsL1Of}
+use Rattle.qcow2_alloc.specs.Quiet.{IsQuiet, IsSound, Metadata, Quietly, counted}
+use Rattle.qcow2_alloc.specs.Safety.{IsOrdered, Safe}
+use Rattle.qcow2_alloc.proofs.Caching.Loose.{loose-none}
+use Rattle.qcow2_alloc.proofs.Quiet.QuietFlushes.{memory-quietly, order-quiet}
+use Rattle.qcow2_clusters.specs.Rest.{AreEmpty, Clusters, HasEntries, KeepsL1, changed, nothing_cached, resting, storage}
+use Rattle.qcow2_clusters.specs.Settling.{AreUnpinned, at_rest}
+use Rattle.qcow2_clusters.proofs.Settlement.{Unpinned, unpinned-tables}
+
+-- What is in any order before one was announced is in each.
+ordered-any : (order : CacheDependency) (f g : Bytes) (h : Fields) → IsOrdered Unset f g h → IsOrdered order f g h
+ordered-any Unset f g h both = both
+ordered-any L2DependsOnRb f g h both = both.0
+ordered-any RbDependsOnL2 f g h both = both.1
+
+-- An image that is sound at rest is so where nothing is cached, in whatever order: that is quiet.
+pub begun-quiet : (m : Metadata) → m.cached ≡ nothing_cached → IsSound (at_rest m) → IsSound m × IsQuiet (λ _. 0) (λ _. 0) (at_rest m) m
+begun-quiet m none sound =
+    let was = sound.safe in
+    let safe : Safe m.file m.header nothing_cached m.order = record {
+      consistent = was.consistent;
+      tables_apart = was.tables_apart;
+      blocks_apart = was.blocks_apart;
+      tables = was.tables;
+      blocks = was.blocks;
+      apart = was.apart;
+      ordered = ordered-any m.order m.file (memory m.file m.header.fields nothing_cached) m.header.fields was.ordered;
+      covered = was.covered;
+    } in
+    subst (λ (cached : Cached). IsSound (record m { cached = cached }) × IsQuiet (λ _. 0) (λ _. 0) (at_rest m) (record m { cached = cached })) (sym none)
+    (order-quiet (at_rest m) m.order sound safe)
+
+pub begun-sound : (m : Metadata) → m.cached ≡ nothing_cached → IsSound (at_rest m) → IsSound m
+begun-sound m none sound = (begun-quiet m none sound).0
+
+pub begun-quietly : (ok : Type 0) (s : StorageState) (m : Metadata) → m.cached ≡ nothing_cached → Quietly ok (λ _. 0) (λ _. 0) s (at_rest m) s m
+begun-quietly ok s m none = memory-quietly ok (λ _. 0) (λ _. 0) s (at_rest m) m (λ sound done. begun-quiet m none sound)
+
+-- In it each cluster is counted as often.
+pub begun-counts : {S : Type 0} (state : S → StorageState) (c : Clusters S) → AreEmpty c.caches → (d : ℕ)
+    → counted (changed state c) d ≡ counted (resting state c) d
+begun-counts state c empty d =
+    ap (λ (cached : Cached). count (memory (resting state c).file c.file.header.fields cached) c.file.header.fields d) empty
+
+-- Of no entries none is pinned,
+pub empty-unpinned : {S : Type 0} (caches : MetadataCaches S) → AreEmpty caches → AreUnpinned caches
+empty-unpinned caches none = record {
+  tables = subst (λ (c : Cached). Unpinned c.tables) (sym none) tt;
+  blocks = subst (λ (c : Cached). Unpinned c.blocks) (sym none) tt;
+}
+
+-- and so there is room to spare.
+pub empty-loose : {S : Type 0} (table : TableValue) (caches : MetadataCaches S) → AreEmpty caches → HasEntries caches → IsLoose table caches false
+empty-loose table caches none room = loose-none table caches (ap (λ (c : Cached). pinned_in c.blocks) none) room.blocks
+
+-- Where none is pinned under any key, none is;
+module _ {V : Type 0} where
+  abbrev one_of : (ℕ → Bool) → ℕ × Slot V → ℕ
+  one_of keys e = cond (keys e.0 && nat_lt 0 e.1.pins) 1 0
+
+  one-own : (e : ℕ × Slot V) → 0 < e.1.pins → one_of (nat_eq e.0) e ≡ 1
+  one-own e some = ap (λ b. cond (b && nat_lt 0 e.1.pins) 1 0) (eq-eqb e.0 e.0 refl) ∙ ap (λ b. cond b 1 0) (lt-ltb 0 e.1.pins some)
+
+  pub pinless : (es : List (ℕ × Slot V)) → ((key : ℕ) → pinned_among (nat_eq key) es ≡ 0) → Unpinned es
+  pinless [] none = tt
+  pinless (e ∷ es) none = (
+    elim (cases_lt 0 e.1.pins) [
+      | inl some ↦
+          let own = one-own e some in
+          let parts : pinned_among (nat_eq e.0) (e ∷ es) ≡ one_of (nat_eq e.0) e + pinned_among (nat_eq e.0) es = sum_by-cons (one_of (nat_eq e.0)) e es in
+          let all = none e.0 in
+          absurd (omega (arith, own, parts, all))
+      | inr none ↦ omega (arith, none)
+    ],
+    pinless es (λ key.
+        let parts : pinned_among (nat_eq key) (e ∷ es) ≡ one_of (nat_eq key) e + pinned_among (nat_eq key) es = sum_by-cons (one_of (nat_eq key)) e es in
+        let all = none key in
+        omega (arith, parts, all)),
+  )
+
+-- and none is once a call was made that keeps the tables and pins no block,
+pub kept-unpinned : {S : Type 0} (old new : MetadataCaches S) → AreEmpty old → KeepsTables old new
+    → ((key : ℕ) → pinned_among (nat_eq key) (cached_in new).blocks ≡ 0) → AreUnpinned new
+kept-unpinned old new empty keeps none = record {
+  tables = unpinned-tables (cached_in new).tables (cached_in old).tables keeps.entries (empty-unpinned old empty).tables;
+  blocks = pinless (cached_in new).blocks none;
+}
+
+-- as those do that free,
+pub freed-unpinned : {S : Type 0} (old new : MetadataCaches S) → AreEmpty old → KeepsTables old new
+    → PinsNothing (cached_in old).blocks (cached_in new).blocks → AreUnpinned new
+freed-unpinned old new empty keeps pins = kept-unpinned old new empty keeps (λ key.
+    let were = ap (λ (c : Cached). pinned_among (nat_eq key) c.blocks) empty in
+    let fewer = pins.among (nat_eq key) in
+    omega (arith, were, fewer))
+
+-- and those that allocate.
+pub loose-unpinned : {S : Type 0} (table : TableValue) (old new : MetadataCaches S) → AreEmpty old → KeepsTables old new → IsLoose table new false → AreUnpinned new
+loose-unpinned table old new empty keeps loose = kept-unpinned old new empty keeps (λ key. elim (cases_lt 0 (pinned_among (nat_eq key) (cached_in new).blocks)) [
+  | inl some ↦ absurd (let no = (loose.named key some).0 in cc)
+  | inr none ↦ omega (arith, none)
+])
+
+-- The L1 table in memory is the file's still where words of that stay.
+sound-still : (f x : Bytes) (h : Fields) → ((i : ℕ) → i < h.l1_entries → word x h.l1_offset i ≡ word f h.l1_offset i) → l1_table_sound f h ≡ true → l1_table_sound x h ≡ true
+unfolding l1_table_sound
+sound-still f x h same sound = all-below-holds h.l1_entries (λ i. l1_word_sound h.cluster_bits (word x h.l1_offset i)) (λ i lt.
+    ap (l1_word_sound h.cluster_bits) (same i lt) ∙ all-below h.l1_entries (λ j. l1_word_sound h.cluster_bits (word f h.l1_offset j)) sound i lt)
+
+pub l1-stays : (f x : Bytes) (H H' : Header) (l1 : TableValue) → MovedTable H H'
+    → ((i : ℕ) → i < H.fields.l1_entries → word x H.fields.l1_offset i ≡ word f H.fields.l1_offset i) → IsL1Of f H.fields l1 → IsL1Of x H'.fields l1
+unfolding l1_table_sound
+l1-stays f x H H' l1 moved same of = subst (λ (K : Header). IsL1Of x K.fields l1) (sym moved.2) (record {
+  layout = of.layout;
+  words = of.words ∙ sym (words_same x f H.fields.l1_offset H.fields.l1_offset H.fields.l1_entries same);
+  sound = sound-still f x H.fields same of.sound;
+})
+
+-- So it is where the image stays quietly.
+pub l1-kept : {S T : Type 0} (state : S → StorageState) (c : Clusters S) (result : Result T Fault) (c' : Clusters S) (handed taken : ℕ → ℕ)
+    → Quietly (WasNotCutOff result) handed taken (storage state c) (resting state c) (storage state c') (resting state c') → KeepsL1 state c result c'
+l1-kept state c result c' handed taken quiet ready whole l1 of =
+    let both = quiet.holds ready.keeps ready.sound whole in
+    l1-stays (resting state c).file (resting state c').file c.file.header c'.file.header l1 both.1.shows.moved both.1.shows.l1 of

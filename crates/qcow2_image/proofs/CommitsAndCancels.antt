@@ -1,0 +1,464 @@
+-- Commits and cancels of prepared mappings in the words of the driver.
+use Rattle.std.proofs.Common.{◌≡◌, ◌≢◌, ℕ, ◌+◌, ◌-◌, ◌≤◌, refl, arith, ap, sym, subst, ◌∙◌, inl, inr, Bool, false, true, [], ◌∷◌, ◌++◌, Option, Some, None, Result, Ok, Err}
+use Rattle.std.proofs.Math.Nat.{le_refl}
+use Rattle.std.proofs.lemmas.Bool.{cases_lt}
+use Rattle.std.specs.Prelude.{IsTrue, IsSome, IfSome, IfErr}
+use Rattle.std.specs.Borrow.{RattleType}
+use Rattle.imago_storage.specs.State.{StorageState}
+use Rattle.imago_storage.specs.Calls.{Later}
+use Rattle.imago_storage.specs.declared.fault.Fault.{Fault}
+use Rattle.imago_storage.specs.declared.fault.Fault.TheVariants.{DamagedTable, Memory, Storage}
+use Rattle.imago_storage.specs.declared.storage.Storage.{Ghosts}
+use Rattle.imago_access.specs.Changes.{Cancelled}
+use Rattle.imago_access.specs.Files.{ImageCause, IsMild, files}
+use Rattle.imago_access.specs.Going.{IsUnchanged, Went}
+use Rattle.imago_access.specs.Layer.{Cell, IsFree}
+use Rattle.imago_access.specs.PreparingCalls.{Cancels, CommitRefused, Commits}
+use Rattle.imago_access.specs.Spending.{GivenBack, IsMine, IsSpending, Spends, commit_refusal}
+use Rattle.imago_access.specs.declared.mapping.PreparedDataMapping.{PreparedDataMapping}
+use Rattle.imago_access.specs.declared.seen.Seen.{Ghosts as SeenGhosts}
+use Rattle.qcow2_types.specs.Bytes.{Bytes, bytes_of}
+use Rattle.qcow2_types.specs.Header.{Fields, Header}
+use Rattle.qcow2_types.specs.References.{refs}
+use Rattle.qcow2_types.proofs.Counting.Either.{refs-file}
+use Rattle.qcow2_alloc.specs.declared.file.ImageFile.{ImageFile}
+use Rattle.qcow2_alloc.specs.Causes.{HasCause}
+use Rattle.qcow2_alloc.specs.FreeList.{covers}
+use Rattle.qcow2_alloc.specs.Going as going
+use Rattle.qcow2_alloc.specs.Going.{writing_causes}
+use Rattle.qcow2_alloc.specs.Quiet.{Metadata, IsSound, counted, in_memory, named_at_all, referenced, waiting}
+use Rattle.qcow2_alloc.proofs.Blocks.RunCounts.{covers-behind}
+use Rattle.qcow2_alloc.proofs.Growth.LongerReftables.{covers-before, covers-inside}
+use Rattle.qcow2_steps.specs.Words.{IsReserved}
+use Rattle.qcow2_steps.proofs.Steps.{put-off-advances}
+use Rattle.qcow2_clusters.specs.Naming.{TakesNone}
+use Rattle.qcow2_clusters.specs.Storing.{AreReserved}
+use Rattle.qcow2_clusters.specs.declared.space.Space.{Space}
+use Rattle.qcow2_image.specs.Committing.{CancelsUnspent, CommitsUnspent, DropsUnspent, GivesBack, SpendsUnspent, answer_of, failed_behind_any}
+use Rattle.qcow2_image.specs.Holding.{Holding, IsOwnAs, claim_held}
+use Rattle.qcow2_image.specs.ImageLayer.{blank_of, cells, homes, qcow2_fixed}
+use Rattle.qcow2_image.specs.Rooms.{HasRoom, HoldsIn, IsSafe, IsVacant, IsZeroed, ReadsNone, Sees, rest_of, searched_from}
+use Rattle.qcow2_image.specs.Seen.{IsSeen, file_of, homes_of, layer_of, memory_of}
+use Rattle.qcow2_image.specs.Unspent.{holding, holding_in}
+use Rattle.qcow2_image.specs.contracts.qcow2.Qcow2Seen.TheImpl.{ghosts}
+use Rattle.qcow2_image.specs.declared.qcow2.PreparedMappingState.{PreparedMappingState}
+use Rattle.qcow2_image.specs.declared.qcow2.Qcow2.{Qcow2}
+use Rattle.qcow2_image.specs.declared.tables.Tables.{Tables}
+use Rattle.qcow2_image.specs.declared.unspent.Unspent.{Unspent}
+use Rattle.qcow2_image.proofs.Commits.{committed, failed-is, fixed-same, home-grows, is-free, refused-hard, room-kept, safe-now, size-same, stays-so, stops-settled}
+use Rattle.qcow2_image.proofs.DiskEffects.{rest-memory, whole-below}
+use Rattle.qcow2_image.proofs.CallNeeds.{settles-byte, since-as}
+use Rattle.qcow2_image.proofs.Steps.{memory-is}
+use Rattle.qcow2_image.proofs.SearchStart.{counted-same}
+use Rattle.qcow2_image.proofs.CommitLeaks.{dropped-leaks, spent-leaks}
+
+abbrev Answer : Type 0
+Answer = Result Unit (Fault × Option (PreparedDataMapping PreparedMappingState))
+
+-- the free space in which host clusters in a row wait to be freed for which room was held
+abbrev with_waiting : Space → (host n : ℕ) → Space
+with_waiting space host n = record space {
+  to_free = record {
+    entries = space.to_free.entries ++ record { first = host; count = n; metadata = false } ∷ [];
+    held = space.to_free.held - 1;
+  };
+}
+
+-- Host clusters in a row that are reserved may be put among what waits to be freed.
+put-off-sound : (m : Metadata) (x n : ℕ) → in_memory m ≡ m.file → IsSound m → AreReserved n m x
+    → IsSound (record m { pending = m.pending ++ record { first = x; count = n; metadata = false } ∷ [] })
+put-off-sound m x n clean sound reserved =
+    (put-off-advances m (record { first = x; count = n; metadata = false }) sound enough (λ c some. absurd (omega (arith, some)))).sound where
+      beside : (c : ℕ) → covers c (record { first = x; count = n; metadata = false }) ≡ 0
+          → referenced m c + waiting m c + covers c (record { first = x; count = n; metadata = false }) ≤ counted m c
+      beside c none = let owed = sound.covered c in omega (arith, none, owed)
+
+      enough : (c : ℕ) → referenced m c + waiting m c + covers c (record { first = x; count = n; metadata = false }) ≤ counted m c
+      enough c = elim (cases_lt c x) [
+        | inl before ↦ beside c (covers-before c x n before)
+        | inr from ↦ elim (cases_lt c (x + n)) [
+          | inr behind ↦ beside c (covers-behind c x n behind)
+          | inl to ↦
+              let own = reserved c from to in
+              let one : covers c (record { first = x; count = n; metadata = false }) ≡ 1 = covers-inside c x n from to in
+              let le : refs m.file m.header.fields c ≤ named_at_all m c = refs-file m.file (in_memory m) m.header.fields c in
+              let same : referenced m c ≡ refs m.file m.header.fields c = ap (λ b. refs b m.header.fields c) clean in
+              let none = own.unnamed in
+              let waits = own.waits in
+              let used = own.used.taken in
+              omega (arith, one, le, same, none, waits, used)
+        ]
+      ]
+
+module _ (R : RattleType) (st : Ghosts R.Denot) (sd : mir.Syntax.Dict) (dd : mir.Syntax.Dict) where
+  abbrev sees : SeenGhosts (Qcow2 R.Denot st) PreparedMappingState
+  sees = ghosts R st sd dd
+
+  -- Nothing was done.
+  went-nowhere : (ok whole : Type 0) (d : Qcow2 R.Denot st) → Went sees ok whole d d
+  went-nowhere ok whole d = record {
+    fixed = refl;
+    failed = λ was. was;
+    later = ((refl, record { faults = le_refl (st.state d.tables.file.image).faults; refusals = le_refl (st.state d.tables.file.image).refusals }), tt);
+    faults = λ _. ((refl, refl), tt);
+    safely = λ _ safe. safe;
+    lasting = λ l. l;
+  }
+
+  module _ (state : PreparedMappingState) (old new : Qcow2 R.Denot st) (own : state.number ≡ old.number) where
+    abbrev spent-with : Answer → Type 0
+    spent-with r = Commits sees (Some state) r old new
+
+    another-commits : claim_held (holding_in st old.unspent) ≢ Some state.claim → Commits sees (Some state) (Ok tt) old old
+    another-commits other = record {
+      ok = (own, λ mine. absurd (other mine));
+      size = refl;
+      room = λ safe mine. absurd (other mine.1);
+      stops = λ safe mine below. absurd (other mine.1);
+      went = went-nowhere _ _ old;
+      sees = λ none seen. seen;
+      began = λ d call begun mine. begun;
+    }
+
+    module _ (result : Answer) (s : SpendsUnspent st state.claim old result new) where
+      later-now : ((st.state new.tables.file.image).shape ≡ (st.state old.tables.file.image).shape)
+          × Later (st.state old.tables.file.image) (st.state new.tables.file.image)
+      later-now = (s.names.shape, s.names.later)
+
+      fails-on : IsTrue old.failed → IsTrue new.failed
+      fails-on was = subst IsTrue (sym (failed-is st state.claim old new result s)) (from s.named) where
+        from : (r : Result Unit Fault) → IsTrue (failed_behind_any r old.failed)
+        from (Ok done) = was
+        from (Err fault) = refl
+
+      spent-commits : (r : Result Unit Fault) → s.named ≡ r → Commits sees (Some state) (answer_of r) old new
+      spent-commits (Ok done) is = record {
+        ok = (own, λ mine. (is-free st state.claim old new result s, λ safe. committed st state.claim old new result s safe is));
+        size = size-same st state.claim old new result s;
+        room = λ safe mine. record {
+          kept = λ p left. room-kept st state.claim old new result s safe is p;
+          free = λ p none. stays-so st state.claim old new result s safe is TakesNone p none;
+          zeroes = λ p left none. stays-so st state.claim old new result s safe is ReadsNone p none;
+        };
+        stops = λ safe mine. stops-settled st state.claim old new result s safe;
+        went = record {
+          fixed = fixed-same st state.claim old new result s;
+          failed = fails-on;
+          later = (later-now, tt);
+          faults = λ whole. (s.names.faults (subst going.WasNotCutOff (sym is) tt), tt);
+          safely = λ whole safe. safe-now st state.claim old new result s safe is;
+          lasting = λ l. l;
+        };
+        sees = λ none. absurd (cc none);
+        began = λ d call begun mine safe.
+            let then = begun safe in
+            let done = committed st state.claim old new result s then.0 is in
+            let header = s.names.header in (
+              safe-now st state.claim old new result s then.0 is,
+              since-as st d old new (home-grows st state.claim old new result s then.0 is)
+                  (λ p. settles-byte ((layer_of st old).held p) ((layer_of st old).cell p) ((layer_of st new).cell p) (done.cell p))
+                  (ap (λ (H : Header). H.fields.size) header) (ap (λ (H : Header). H.fields.cluster_bits) header)
+                  (spent-leaks st state.claim old new result s then.0 is) then.1,
+            );
+      }
+      spent-commits (Err fault) is = record {
+        ok = tt;
+        size = size-same st state.claim old new result s;
+        room = λ safe mine. tt;
+        stops = λ safe mine. stops-settled st state.claim old new result s safe;
+        went = record {
+          fixed = fixed-same st state.claim old new result s;
+          failed = fails-on;
+          later = (later-now, tt);
+          faults = λ mild. (s.names.faults (subst going.WasNotCutOff (sym is) (whole-below {T = Unit} (Err fault) mild)), tt);
+          safely = λ whole safe. absurd (cc whole.0);
+          lasting = λ l. l;
+        };
+        sees = λ none. absurd (cc none);
+        began = λ d call begun mine. tt;
+      }
+
+    -- What a commit does that isn't refused at once.
+    pub commits-by : (result : Answer) → CommitsUnspent st state.claim old result new → Commits sees (Some state) result old new
+    commits-by result (inl another) =
+        subst (λ r. Commits sees (Some state) r old new) (sym another.1)
+        (subst (Commits sees (Some state) (Ok tt) old) (sym another.2) (another-commits another.0))
+    commits-by result (inr s) = subst spent-with (sym s.answer) (spent-commits result s s.named refl)
+
+    -- It gives no mapping back.
+    module _ (mapping : PreparedDataMapping PreparedMappingState) (has : mapping.state ≡ Some state)
+        (none : commit_refusal sees (Some state) (layer_of st old) ≡ None) where
+      no-refusal : commit_refusal sees mapping.state (layer_of st old) ≡ None
+      no-refusal = ap (λ s. commit_refusal sees s (layer_of st old)) has ∙ none
+
+      -- What is known of a refusal: it has spent the mapping, and the image has failed.
+      abbrev Why : Answer → Type 0
+      Why r = IfErr r (λ e. (e.1 ≡ None) × IsTrue new.failed × IsSpending e.0
+          × Spends sees (Some state) (layer_of st old) (layer_of st new) (IsFree (layer_of st new) × (IsSafe st old → IsMild e.0 → ⊥))
+          × ImageCause (files sees old) (files sees new) e.0)
+
+      refused-as : (r : Answer) → Why r → CommitRefused sees mapping r old new
+      refused-as r why = record {
+        at_once = λ f is. absurd (let bad : None ≡ Some f = sym no-refusal ∙ is in cc bad);
+        unchanged = λ either. elim either [
+          | inl without ↦ absurd (let bad : Some state ≡ None = sym has ∙ without in cc bad)
+          | inr some ↦ absurd (let bad : IsSome {T = Fault} None = subst IsSome no-refusal some in cc bad)
+        ];
+        back = back-by r why;
+        spent = spent-by r why;
+        failed = cause-by r why;
+      } where
+        back-by : (r : Answer) → Why r → IfErr r (λ e. IfSome e.1 (λ m. (m ≡ mapping) × GivenBack sees.tag mapping.state (layer_of st old) e.0 × IsUnchanged sees old new))
+        back-by (Ok done) why = tt
+        back-by (Err e) why = subst (λ o. IfSome o (λ m. (m ≡ mapping) × GivenBack sees.tag mapping.state (layer_of st old) e.0 × IsUnchanged sees old new)) (sym why.0) tt
+
+        spent-by : (r : Answer) → Why r → IfErr r (λ e. e.1 ≡ None → IsSome mapping.state × IsTrue new.failed × IsSpending e.0
+            × Spends sees mapping.state (layer_of st old) (layer_of st new) (IsFree (layer_of st new) × (IsSafe st old → IsMild e.0 → ⊥)))
+        spent-by (Ok done) why = tt
+        spent-by (Err e) why = λ without. (
+          subst IsSome (sym has) refl,
+          why.1,
+          why.2,
+          subst (λ o. Spends sees o (layer_of st old) (layer_of st new) (IsFree (layer_of st new) × (IsSafe st old → IsMild e.0 → ⊥))) (sym has) why.3,
+        )
+
+        cause-by : (r : Answer) → Why r → IfErr r (λ e. ImageCause (files sees old) (files sees new) e.0)
+        cause-by (Ok done) why = tt
+        cause-by (Err e) why = why.4
+
+      pub refused-by : (result : Answer) → CommitsUnspent st state.claim old result new → CommitRefused sees mapping result old new
+      refused-by result (inl another) = subst (λ r. CommitRefused sees mapping r old new) (sym another.1) (refused-as (Ok tt) tt)
+      refused-by result (inr s) = subst (λ r. CommitRefused sees mapping r old new) (sym s.answer) (refused-as (answer_of s.named) (from s.named refl s.names.cause)) where
+        spending : (fault : Fault) → HasCause (writing_causes ⊥ (st.state old.tables.file.image).faults (st.state new.tables.file.image).faults) fault → IsSpending fault
+        spending Memory why = tt
+        spending Storage why = tt
+        spending DamagedTable why = tt
+        spending fault why = absurd why
+
+        caused : (fault : Fault) → HasCause (writing_causes ⊥ (st.state old.tables.file.image).faults (st.state new.tables.file.image).faults) fault
+            → ImageCause (files sees old) (files sees new) fault
+        caused Memory why = tt
+        caused Storage why = inl why
+        caused DamagedTable why = tt
+        caused fault why = absurd why
+
+        from : (r : Result Unit Fault) → s.named ≡ r
+            → IfErr r (HasCause (writing_causes ⊥ (st.state old.tables.file.image).faults (st.state new.tables.file.image).faults))
+            → Why (answer_of r)
+        from (Ok done) is why = tt
+        from (Err fault) is why = (
+          refl,
+          subst IsTrue (sym (failed-is st state.claim old new result s ∙ ap (λ r. failed_behind_any r old.failed) is)) refl,
+          spending fault why,
+          (own, λ mine. (is-free st state.claim old new result s, λ safe mild. refused-hard st state.claim old new result s safe fault is mild)),
+          caused fault why,
+        )
+
+-- What a cancel is by its two calls: the mapping was taken out, and its cluster given back.
+pub drops-by : {S : Type 0} (g : Ghosts S) (claim : ℕ) (old mid : Qcow2 S g) (u : Unspent S g)
+    → (u.claim ≡ claim) × (old.unspent ≡ Some u) × (mid ≡ record old { unspent = None }) → (space : Option Space)
+    → GivesBack u.is_kept u.host u.count mid.tables.space space → (new : Qcow2 S g) → new ≡ record mid { tables = new.tables }
+    → new.tables.file ≡ mid.tables.file → new.tables.l1 ≡ mid.tables.l1 → new.tables.caches ≡ mid.tables.caches → new.tables.space ≡ space
+    → CancelsUnspent g claim old new
+drops-by g claim old mid u taken space gives new is file l1 caches known = inr (record {
+  spent = u;
+  there = taken.1;
+  mine = taken.0;
+  space = space;
+  given = subst (λ o. GivesBack u.is_kept u.host u.count o space) (ap (λ (t : Tables _ g). t.space) tables-same) gives;
+  file = file ∙ ap (λ (t : Tables _ g). t.file) tables-same;
+  l1 = l1 ∙ ap (λ (t : Tables _ g). t.l1) tables-same;
+  caches = caches ∙ ap (λ (t : Tables _ g). t.caches) tables-same;
+  known = known;
+  others = is ∙ ap (λ (d : Qcow2 _ g). record d { tables = new.tables }) taken.2;
+}) where
+  tables-same : mid.tables ≡ old.tables
+  tables-same = ap (λ (d : Qcow2 _ g). d.tables) taken.2
+
+-- A prepared mapping is given up.
+module _ {S : Type 0} (g : Ghosts S) (claim : ℕ) (old new : Qcow2 S g) (s : DropsUnspent g claim old new) where
+  abbrev hold : Holding
+  hold = holding g s.spent
+
+  held-is : holding_in g old.unspent ≡ Some hold
+  held-is = ap (holding_in g) s.there
+
+  free-now : new.unspent ≡ None
+  free-now = ap (λ (d : Qcow2 S g). d.unspent) s.others
+
+  none-held : holding_in g new.unspent ≡ None
+  none-held = ap (holding_in g) free-now
+
+  mode-same : new.mode ≡ old.mode
+  mode-same = ap (λ (d : Qcow2 S g). d.mode) s.others
+
+  number-same : new.number ≡ old.number
+  number-same = ap (λ (d : Qcow2 S g). d.number) s.others
+
+  failed-same : new.failed ≡ old.failed
+  failed-same = ap (λ (d : Qcow2 S g). d.failed) s.others
+
+  state-same : g.state new.tables.file.image ≡ g.state old.tables.file.image
+  state-same = ap (λ (f : ImageFile S). g.state f.image) s.file
+
+  file-same : file_of g new.tables ≡ file_of g old.tables
+  file-same = ap (λ (x : StorageState). bytes_of x.bytes) state-same
+
+  memory-same : memory_of g new.tables ≡ memory_of g old.tables
+  memory-same = memory-is g new.tables ∙ file-same ∙ sym (memory-is g old.tables)
+
+  fields-same : new.tables.file.header.fields ≡ old.tables.file.header.fields
+  fields-same = ap (λ (f : ImageFile S). f.header.fields) s.file
+
+  dropped-free : (layer_of g new).unspent ≡ None
+  dropped-free = ap claim_held none-held
+
+  dropped-fixed : (layer_of g new).fixed ≡ (layer_of g old).fixed
+  dropped-fixed = λ i. qcow2_fixed (state-same i).shape (fields-same i) (mode-same i) (number-same i)
+
+  dropped-size : (layer_of g new).size ≡ (layer_of g old).size
+  dropped-size = ap (λ (k : Fields). k.size) fields-same
+
+  dropped : Cancelled (layer_of g old) (layer_of g new)
+  dropped = record {
+    fixed = dropped-fixed;
+    size = dropped-size;
+    failed = failed-same;
+    is_free = dropped-free;
+    cell = λ i. cells (blank_of (mode-same i).backing) (memory-same i) (file-same i) (fields-same i);
+  }
+
+  homes-same : (p : ℕ) → homes_of g new p ≡ homes_of g old p
+  homes-same p = λ i. homes (mode-same i).writable (memory-same i) (fields-same i) p
+
+  as-was : (P : Bytes → Fields → Type 0) → P (memory_of g old.tables) old.tables.file.header.fields → P (memory_of g new.tables) new.tables.file.header.fields
+  as-was P was = subst (λ b. P b new.tables.file.header.fields) (sym memory-same) (subst (P (memory_of g old.tables)) (sym fields-same) was)
+
+  rest-same : (space : Space) → rest_of g new.tables space ≡ rest_of g old.tables space
+  rest-same space = λ i. record (rest_of g old.tables space) { file = bytes_of (state-same i).bytes; header = (s.file i).header }
+
+  seen-still : IsSeen g old.tables → IsSeen g new.tables
+  seen-still seen = record {
+    loads = rw (file-same, ap (λ (f : ImageFile S). f.header) s.file) seen.loads;
+    inside = rw fields-same seen.inside;
+    l1 = rw (file-same, fields-same, s.l1) seen.l1;
+    tables = rw (file-same, fields-same, s.caches) seen.tables;
+  }
+
+  -- Its clusters wait to be freed then, or stay kept.
+  sound-still : HoldsIn g old.tables hold → ((space : Space) → old.tables.space ≡ Some space → IsSound (rest_of g old.tables space))
+      → IfSome new.tables.space (λ space. IsSound (rest_of g new.tables space))
+  sound-still holds sound =
+      subst (λ o. IfSome o (λ space. IsSound (rest_of g new.tables space))) (sym s.known)
+      (from hold.is_kept refl s.space (subst (λ o. GivesBack hold.is_kept hold.host hold.count o s.space) holds.there s.given)) where
+        from : (is_kept : Bool) → hold.is_kept ≡ is_kept → (o : Option Space) → GivesBack is_kept hold.host hold.count (Some holds.space) o
+            → IfSome o (λ space. IsSound (rest_of g new.tables space))
+        from true is o same = subst (λ o. IfSome o (λ space. IsSound (rest_of g new.tables space))) (sym same)
+            (subst IsSound (sym (rest-same holds.space)) (sound holds.space holds.there))
+        from false is o (inl none) = absurd (let room = holds.room is in let no = none.0 in omega (arith, room, no))
+        from false is o (inr given) = subst (λ o. IfSome o (λ space. IsSound (rest_of g new.tables space))) (sym given.1)
+            (subst IsSound (sym (rest-same (with_waiting holds.space hold.host hold.count)))
+            (put-off-sound (rest_of g old.tables holds.space) hold.host hold.count (rest-memory g old.tables holds.space)
+            (sound holds.space holds.there) (λ d from to.
+            let i : ℕ = d - hold.host in
+            let whole : hold.host + i ≡ d = omega (arith, from) in
+            subst (IsReserved (rest_of g old.tables holds.space)) whole
+            (subst (λ b. IsOwnAs b (rest_of g old.tables holds.space) (hold.guest + i) (hold.host + i)) is
+            (holds.held.own i (omega (arith, from, to)))))))
+
+  -- The search for free clusters begins where it did.
+  from-still : (is_kept : Bool) (host n : ℕ) (before after : Option Space) → GivesBack is_kept host n before after
+      → searched_from after ≡ searched_from before
+  from-still true host n before after given = ap searched_from given
+  from-still false host n None after given = ap searched_from given
+  from-still false host n (Some space) after given = elim given [
+    | inl none ↦ ap searched_from none.1
+    | inr back ↦ ap searched_from back.1
+  ]
+
+  safe-still : (was now : Bool) → now ≡ false → IsSafe g (record old { failed = was }) → IsSafe g (record new { failed = now })
+  safe-still was now runs safe = record {
+    runs = runs;
+    keeps = subst (λ (x : StorageState). IsTrue x.shape.keeps) (sym state-same) safe.keeps;
+    consistent = rw (file-same, ap (λ (f : ImageFile S). f.header) s.file) safe.consistent;
+    seen = seen-still safe.seen;
+    sound = sound-still (subst (λ o. IfSome o (HoldsIn g old.tables)) held-is safe.held)
+        (λ space there. subst (λ o. IfSome o (λ x. IsSound (rest_of g old.tables x))) there safe.sound);
+    searched = counted-same g old.tables new.tables file-same (ap (λ (f : ImageFile S). f.header) s.file)
+        (ap searched_from s.known ∙ from-still s.spent.is_kept s.spent.host s.spent.count old.tables.space s.space s.given) safe.searched;
+    held = subst (λ o. IfSome o (HoldsIn g new.tables)) (sym none-held) tt;
+    writable = λ some. absurd (cc (subst IsSome free-now some));
+  }
+
+  sees-still : Sees g old → Sees g new
+  sees-still was = record {
+    seen = seen-still was.seen;
+    sure = elim was.sure [
+      | inl untouched ↦ absurd (let bad : Some s.spent ≡ None = sym s.there ∙ untouched.0 in cc bad)
+      | inr safe ↦ inr (safe-still false false refl safe)
+    ];
+  }
+
+  safe-after : IsSafe g old → IsSafe g new
+  safe-after safe = safe-still old.failed new.failed (failed-same ∙ safe.runs) safe
+
+module _ (R : RattleType) (st : Ghosts R.Denot) (sd : mir.Syntax.Dict) (dd : mir.Syntax.Dict) where
+  abbrev shown : SeenGhosts (Qcow2 R.Denot st) PreparedMappingState
+  shown = ghosts R st sd dd
+
+  module _ (mapping : PreparedDataMapping PreparedMappingState) (state : PreparedMappingState) (has : mapping.state ≡ Some state)
+      (old new : Qcow2 R.Denot st) (own : state.number ≡ old.number) where
+    without-state : {A : Type 0} → mapping.state ≡ None → A
+    without-state none = absurd (let bad : Some state ≡ None = sym has ∙ none in cc bad)
+
+    mine-claim : IsMine shown mapping.state (layer_of st old) → claim_held (holding_in st old.unspent) ≡ Some state.claim
+    mine-claim mine = (subst (λ o. IsMine shown o (layer_of st old)) has mine).1
+
+    cancels-another : claim_held (holding_in st old.unspent) ≢ Some state.claim → Cancels shown mapping (Ok tt) old old
+    cancels-another other = record {
+      ok = subst (λ o. Spends shown o (layer_of st old) (layer_of st old) (Cancelled (layer_of st old) (layer_of st old))) (sym has) (own, λ mine. absurd (other mine));
+      back = tt;
+      unchanged = without-state;
+      fixed = refl;
+      size = refl;
+      failed = refl;
+      none = (refl, refl);
+      lasts = λ l. l;
+      sees = λ seen. seen;
+      safe = λ mine safe. safe;
+      room = λ safe mine. absurd (other (mine-claim mine));
+      began = λ d call begun. begun;
+    }
+
+    cancels-dropped : DropsUnspent st state.claim old new → Cancels shown mapping (Ok tt) old new
+    cancels-dropped s = record {
+      ok = subst (λ o. Spends shown o (layer_of st old) (layer_of st new) (Cancelled (layer_of st old) (layer_of st new))) (sym has)
+          (own, λ mine. dropped st state.claim old new s);
+      back = tt;
+      unchanged = without-state;
+      fixed = dropped-fixed st state.claim old new s;
+      size = dropped-size st state.claim old new s;
+      failed = failed-same st state.claim old new s;
+      none = (state-same st state.claim old new s, refl);
+      lasts = λ l. l;
+      sees = sees-still st state.claim old new s;
+      safe = λ mine. safe-after st state.claim old new s;
+      room = λ safe mine. record {
+        kept = λ p left. as-was st state.claim old new s (λ m h. HasRoom m h p);
+        free = λ p left. as-was st state.claim old new s (λ m h. IsVacant m h p);
+        zeroes = λ p left free. as-was st state.claim old new s (λ m h. IsZeroed m h p);
+      };
+      began = λ d call begun safe.
+          let then = begun safe in
+          let gone = dropped st state.claim old new s in (
+            safe-after st state.claim old new s then.0,
+            since-as st d old new (λ p at is. homes-same st state.claim old new s p ∙ is)
+                (λ p. inl (ap (λ (f : ℕ → Cell). f p) gone.cell))
+                (ap (λ (f : ImageFile R.Denot). f.header.fields.size) s.file) (ap (λ (f : ImageFile R.Denot). f.header.fields.cluster_bits) s.file)
+                (dropped-leaks st state.claim old new s then.0) then.1,
+          );
+    }
+
+    pub cancels-by : CancelsUnspent st state.claim old new → Cancels shown mapping (Ok tt) old new
+    cancels-by (inl another) = subst (Cancels shown mapping (Ok tt) old) (sym another.1) (cancels-another another.0)
+    cancels-by (inr s) = cancels-dropped s

@@ -1,0 +1,169 @@
+-- What a flush leaves, behind what waited to be freed.
+use Rattle.std.proofs.Common.{◌≡◌, arith, ap, sym, subst, ◌∙◌, true, false, Result, Ok, Err, inl, inr}
+use Rattle.std.specs.Prelude.{⊤, IfErr, OnOk}
+use Rattle.std.specs.Borrow.{RattleType}
+use Rattle.imago_storage.specs.State.{Rose, StorageState}
+use Rattle.imago_storage.specs.Calls.{CountsFaults, Kept, Later}
+use Rattle.imago_storage.specs.declared.fault.Fault.{Fault}
+use Rattle.imago_storage.specs.declared.fault.Fault.TheVariants.{Counter, DamagedTable, Memory, Storage}
+use Rattle.imago_storage.specs.declared.storage.Storage.{Ghosts}
+use Rattle.imago_access.specs.Failing.{Fails, RefusesFlush}
+use Rattle.imago_access.specs.Files.{WasNotCutOff}
+use Rattle.imago_access.specs.Going.{Marks, Went}
+use Rattle.imago_access.specs.Layer.{IsLike}
+use Rattle.imago_access.specs.Stops.{IsWritten}
+use Rattle.imago_access.specs.declared.seen.Seen.{Ghosts as SeenGhosts}
+use Rattle.qcow2_alloc.specs.Causes.{HasCause}
+use Rattle.qcow2_alloc.specs.Going.{IsNoShorter}
+use Rattle.qcow2_image.specs.Allocating.{FlushesFreed, FreesPending, failed_cut, waits_in, pending_causes}
+use Rattle.qcow2_image.specs.Holding.{claim_held}
+use Rattle.qcow2_image.specs.ImageLayer.{qcow2_fixed}
+use Rattle.qcow2_image.specs.KeepsDisk.{KeepsDisk}
+use Rattle.qcow2_image.specs.Leaking.{KeepsLeaks}
+use Rattle.qcow2_image.specs.Rooms.{IsSafe, Sees, WasSafe, was_safe}
+use Rattle.qcow2_image.specs.Seen.{layer_of}
+use Rattle.qcow2_image.specs.Unspent.{holding_in}
+use Rattle.qcow2_image.specs.contracts.qcow2.Qcow2Seen.TheImpl.{ghosts}
+use Rattle.qcow2_image.specs.declared.qcow2.PreparedMappingState.{PreparedMappingState}
+use Rattle.qcow2_image.specs.declared.qcow2.Qcow2.{Qcow2}
+use Rattle.qcow2_image.proofs.ClusterSteps.{idle-waits}
+use Rattle.qcow2_image.proofs.Leaks.{leaks-both}
+use Rattle.qcow2_image.proofs.DiskEffects.{kept-disk, keeps-disk-both, keeps-image-disk}
+use Rattle.qcow2_image.proofs.Anew.{on-ok}
+use Rattle.qcow2_image.proofs.RequestsWithoutChanges.{asked-keeps, meant, ok-whole}
+
+-- An image that was safe but for a failure is safe where it didn't fail.
+pub safe-again : {S : Type 0} (g : Ghosts S) (d : Qcow2 S g) → d.failed ≡ false → WasSafe g d → IsSafe g d
+safe-again g d runs was = record {
+  runs = runs;
+  keeps = was.keeps;
+  consistent = was.consistent;
+  seen = was.seen;
+  sound = was.sound;
+  searched = was.searched;
+  held = was.held;
+  writable = was.writable;
+}
+
+-- A request that changes nothing, whose answer marked the image also behind want of memory.
+module _ {S : Type 0} (g : Ghosts S) (old new : Qcow2 S g) (s' : StorageState) (kept : Kept (g.state old.tables.file.image) s') (later : Later (g.state old.tables.file.image) s')
+    (state : g.state new.tables.file.image ≡ s') (header : new.tables.file.header ≡ old.tables.file.header) (l1 : new.tables.l1 ≡ old.tables.l1)
+    (caches : new.tables.caches ≡ old.tables.caches) (space : new.tables.space ≡ old.tables.space) (mode : new.mode ≡ old.mode) (number : new.number ≡ old.number)
+    (unspent : new.unspent ≡ old.unspent) where
+  cut-off : (ok : Type 0) → (ok → ⊥) → new.failed ≡ true → KeepsDisk g ok old new
+  cut-off ok never marked =
+      kept-disk g ok old new (subst (Kept (g.state old.tables.file.image)) (sym state) kept) (subst (Later (g.state old.tables.file.image)) (sym state) later)
+      header mode number unspent (λ was. marked) (λ w. absurd (never w)) (λ w. absurd (never w)) (λ safe w. absurd (never w))
+
+  pub requested : (answer : Result Unit Fault) → CountsFaults (g.state old.tables.file.image).faults s'.faults answer → new.failed ≡ failed_cut answer true old.failed
+      → KeepsDisk g (WasNotCutOff answer) old new
+  requested (Ok done) counts failed =
+      keeps-image-disk {T = Unit} g old new (Ok tt)
+      (asked-keeps g old new s' (Ok tt) kept later (λ whole. (counts, kept.refusals)) state header l1 caches space mode number unspent failed)
+  requested (Err Memory) counts failed = cut-off ⊥ (λ w. w) failed
+  requested (Err Storage) counts failed = cut-off ⊥ (λ w. w) failed
+  requested (Err fault) counts failed = absurd counts
+
+-- What waited was freed, and the file was flushed.
+pub flushes-freed : {S : Type 0} (g : Ghosts S) (old mid new : Qcow2 S g) (result : Result Unit Fault) → FreesPending g old (Ok tt) mid
+    → KeepsDisk g (WasNotCutOff result) mid new → KeepsLeaks g mid new → CountsFaults (g.state mid.tables.file.image).faults (g.state new.tables.file.image).faults result
+    → new.failed ≡ failed_cut result true mid.failed → new.tables.space ≡ mid.tables.space
+    → IsNoShorter (g.state mid.tables.file.image) (g.state new.tables.file.image) → FlushesFreed g old result new
+flushes-freed g old mid new result freed k leaks counts failed space long = record {
+  keeps = keeps-disk-both g ⊤ (WasNotCutOff result) old mid new tt freed.keeps k;
+  leaks = λ safe whole. leaks-both g old mid new (freed.leaks safe tt) leaks;
+  marks = failed ∙ ap (failed_cut result true) freed.marks;
+  no_shorter = let first = freed.no_shorter in omega (arith, first, long);
+  emptied = on-ok result _ (ap waits_in space ∙ freed.emptied);
+  cause = from result counts;
+} where
+  from : (r : Result Unit Fault) → CountsFaults (g.state mid.tables.file.image).faults (g.state new.tables.file.image).faults r → IfErr r (HasCause (pending_causes g old new))
+  from (Ok done) counts = tt
+  from (Err Memory) counts = tt
+  from (Err Storage) counts = subst (λ n. Rose n (g.state new.tables.file.image).faults) (freed.keeps.faults tt).0 counts
+  from (Err fault) counts = absurd counts
+
+module _ (R : RattleType) (st : Ghosts R.Denot) (sd : mir.Syntax.Dict) (dd : mir.Syntax.Dict) (old new : Qcow2 R.Denot st) where
+  abbrev sees : SeenGhosts (Qcow2 R.Denot st) PreparedMappingState
+  sees = ghosts R st sd dd
+
+  -- What keeps the disk went as the driver's calls go.
+  module _ (ok : Type 0) (k : KeepsDisk st ok old new) where
+    pub fixed-kept : (layer_of st new).fixed ≡ (layer_of st old).fixed
+    fixed-kept = λ i. qcow2_fixed (k.shape i)
+        (record old.tables.file.header.fields { version = k.version i; cluster_bits = k.bits i })
+        (k.mode i) (k.number i)
+
+    pub like-kept : IsLike (layer_of st old) (layer_of st new)
+    like-kept = record {
+      fixed = fixed-kept;
+      size = k.size;
+      unspent = ap (λ u. claim_held (holding_in st u)) k.unspent;
+      failed = k.failed;
+    }
+
+    pub went-disk : Went sees ok ok old new
+    went-disk = record {
+      fixed = fixed-kept;
+      failed = k.failed;
+      later = ((k.shape, k.later), tt);
+      faults = λ whole. (k.faults whole, tt);
+      safely = λ whole safe. k.safely safe whole;
+      lasting = λ l. l;
+    }
+
+-- What a flush leaves of an image of which something waited to be freed.
+module _ (R : RattleType) (st : Ghosts R.Denot) (sd : mir.Syntax.Dict) (dd : mir.Syntax.Dict) (old new : Qcow2 R.Denot st) (result : Result Unit Fault)
+    (freed : FlushesFreed st old result new) (runs : old.failed ≡ false) (waits : waits_in old.tables.space ≡ true) where
+  abbrev driver : SeenGhosts (Qcow2 R.Denot st) PreparedMappingState
+  driver = ghosts R st sd dd
+
+  was-safe : Sees st old → IsSafe st old
+  was-safe seen = elim seen.sure [
+    | inl untouched ↦ absurd (cc (sym (idle-waits old.tables.space untouched.1) ∙ waits))
+    | inr was ↦ safe-again st old runs was
+  ]
+
+  pub freed-sees : Sees st old → OnOk result ((layer_of st new ≡ layer_of st old) × Sees st new)
+  freed-sees seen = ok-whole result _ (λ whole.
+      let safe = was-safe seen in
+      let now = freed.keeps.safely safe whole in
+      (freed.keeps.layer safe whole, record { seen = now.seen; sure = inr (was_safe st new now) }))
+
+  pub freed-written : IsSafe st old → OnOk result (IsWritten driver new)
+  freed-written safe = ok-whole result _ (λ whole.
+      meant st new.tables new.mode new.failed new.number (holding_in st new.unspent) (freed.keeps.safely safe whole).seen)
+
+  pub freed-went : Went driver (WasNotCutOff result) (WasNotCutOff result) old new
+  freed-went = went-disk R st sd dd old new (WasNotCutOff result) freed.keeps
+
+  pub freed-like : IsLike (layer_of st old) (layer_of st new)
+  freed-like = like-kept R st sd dd old new (WasNotCutOff result) freed.keeps
+
+  pub freed-marks : IfErr result (Marks driver old new)
+  freed-marks = from result freed.marks where
+    from : (r : Result Unit Fault) → new.failed ≡ failed_cut r true old.failed → IfErr r (Marks driver old new)
+    from (Ok done) marked = tt
+    from (Err Memory) marked = λ yes. inl marked
+    from (Err Storage) marked = λ yes. marked
+    from (Err fault) marked = tt
+
+  pub freed-failed : IfErr result (Fails driver old new)
+  freed-failed = from result freed.cause where
+    from : (r : Result Unit Fault) → IfErr r (HasCause (pending_causes st old new)) → IfErr r (Fails driver old new)
+    from (Ok done) why = tt
+    from (Err Memory) why = tt
+    from (Err Storage) why = inl why
+    from (Err DamagedTable) why = tt
+    from (Err Counter) why = tt
+    from (Err fault) why = absurd why
+
+  pub freed-cause : IsSafe st old → IfErr result (RefusesFlush driver old new)
+  freed-cause safe = from result freed.cause where
+    from : (r : Result Unit Fault) → IfErr r (HasCause (pending_causes st old new)) → IfErr r (RefusesFlush driver old new)
+    from (Ok done) why = tt
+    from (Err Memory) why = tt
+    from (Err Storage) why = inl why
+    from (Err DamagedTable) why = absurd (why safe)
+    from (Err Counter) why = absurd (why safe)
+    from (Err fault) why = absurd why

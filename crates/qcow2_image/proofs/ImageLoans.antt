@@ -1,0 +1,23 @@
+-- An image whose file is lent.
+use Rattle.std.proofs.Common.{◌≡◌, ap, ◌∙◌}
+use Rattle.std.proofs.Props.{props}
+use Rattle.imago_storage.specs.declared.storage.Storage.{Ghosts}
+use Rattle.qcow2_alloc.specs.Caches.{cached_in}
+use Rattle.qcow2_alloc.specs.Memory.{Cached}
+use Rattle.qcow2_alloc.specs.declared.cache.MetadataCaches.{MetadataCaches}
+use Rattle.qcow2_image.specs.Caching.{IsClean, IsUnpinned}
+use Rattle.qcow2_image.specs.declared.qcow2.Qcow2.{Qcow2}
+use Rattle.qcow2_image.specs.Seen.{with_image}
+
+clean-prop : (c : Cached) → IsProp (IsClean c)
+clean-prop c = Prim.hlevel props
+
+loose-prop : {S : Type 0} (c : MetadataCaches S) → IsProp (IsUnpinned c)
+loose-prop c = Prim.hlevel props
+
+-- Whatever it is left as, nothing waits to be written, and nothing is pinned.
+pub image-lent : {S : Type 0} {g : Ghosts S} (d : Qcow2 S g) (w : S) (k : IsClean (cached_in d.tables.caches)) (l : IsUnpinned d.tables.caches)
+    → record d { tables = record d.tables { file = record d.tables.file { image = w }; clean = k; loose = l } } ≡ with_image d w
+image-lent d w k l =
+    ap (λ x. record d { tables = record d.tables { file = record d.tables.file { image = w }; clean = x; loose = l } }) (clean-prop (cached_in d.tables.caches) k d.tables.clean)
+    ∙ ap (λ x. record d { tables = record d.tables { file = record d.tables.file { image = w }; loose = x } }) (loose-prop d.tables.caches l d.tables.loose)

@@ -1,0 +1,217 @@
+-- What lookups of the runs of a range say of all of it.
+use Rattle.std.proofs.Common.{◌≡◌, ◌≢◌, ℕ, zero, suc, ◌+◌, ◌-◌, ◌*◌, ◌/◌, ◌<◌, ◌≤◌, refl, arith, ap, sym, subst, ◌∙◌, inl, inr, Option, Some, None, [], ◌∷◌, Ok}
+use Rattle.std.proofs.lemmas.Bool.{cases_lt, cases_Bool}
+use Rattle.std.proofs.lemmas.Nat.{le-div, pow_pos}
+use Rattle.std.proofs.Math.Nat.{div-mul-le_self, mul-le-mul_right}
+use Rattle.std.specs.Prelude.{Bool, true, false, IfSome, min, ltb}
+use Rattle.imago_storage.specs.State.{Rose}
+use Rattle.imago_storage.specs.Disk.{damaged_place}
+use Rattle.imago_storage.specs.declared.fault.Fault.{Fault}
+use Rattle.imago_storage.specs.declared.fault.Fault.TheVariants.{DamagedTable, Failed, MissingData, Memory, Storage}
+use Rattle.imago_storage.specs.declared.storage.Storage.{Ghosts}
+use Rattle.imago_access.specs.Layer.{Layer, own}
+use Rattle.imago_access.specs.Parts.{IsMappedAt}
+use Rattle.imago_access.specs.Refusals.{LookCause, barrier}
+use Rattle.imago_access.specs.declared.mapping.ShallowMapping.{ShallowMapping}
+use Rattle.qcow2_types.specs.Bytes.{Bytes, bytes_of}
+use Rattle.qcow2_types.specs.Entries.{entry}
+use Rattle.qcow2_types.specs.Header.{Fields, Header, cluster_size}
+use Rattle.qcow2_types.specs.Words.{Mapping, data_at, zeroes, packed, damaged}
+use Rattle.qcow2_types.specs.Words as words
+use Rattle.qcow2_alloc.specs.Causes.{HasCause}
+use Rattle.qcow2_image.specs.HeldHomes.{run-from}
+use Rattle.qcow2_image.specs.Holding.{Holding, HoldsRun, claim_held, held_home, home_or, homes_with, in_run}
+use Rattle.qcow2_image.specs.Homes.{mapped}
+use Rattle.qcow2_image.specs.ImageLayer.{home_by, homes, shallow_of}
+use Rattle.qcow2_image.specs.Looking.{Follows, IsWholeRun, IsWholeRunIn, answer_at, writable_place_of}
+use Rattle.qcow2_image.specs.Writing.{IsHomeAt, telling_causes}
+use Rattle.qcow2_image.specs.Seen.{IsSeen, file_of, homes_of, layer_of, memory_of}
+use Rattle.qcow2_image.specs.Steps.{KeepsImage}
+use Rattle.qcow2_image.specs.Unspent.{holding_in}
+use Rattle.qcow2_image.specs.declared.mode.OpenMode.{OpenMode}
+use Rattle.qcow2_image.specs.declared.qcow2.Qcow2.{Qcow2}
+use Rattle.qcow2_image.proofs.WritePlaces.{in-range, range-in}
+use Rattle.qcow2_image.proofs.Steps.{layer-by, memory-is}
+
+module _ (layer : Layer) (guest place : ℕ) where
+  -- A range and the one behind it, from the place behind on.
+  pub home-both : (n m at : ℕ) → at ≡ place + n → IsHomeAt layer guest place n → IsHomeAt layer (guest + n) at m → IsHomeAt layer guest place (n + m)
+  home-both n m at behind first second i lt = elim (cases_lt i n) [
+    | inl low ↦ first i low
+    | inr high ↦
+        let k : ℕ = i - n in
+        let from : guest + n + k ≡ guest + i = omega (arith, high) in
+        let to : at + k ≡ place + i = omega (arith, high, behind) in
+        ap layer.home (sym from) ∙ second k (omega (arith, lt, high)) ∙ ap (λ x. Some (0, x)) to
+  ]
+
+  -- A place without a home is in no range that is mapped,
+  pub homeless-unmapped : (n k : ℕ) → k < n → layer.home (guest + k) ≡ None → IsMappedAt layer guest place n → ⊥
+  homeless-unmapped n k lt none mapped = cc (sym none ∙ mapped.1 k lt)
+
+  -- nor one whose home is another.
+  pub elsewhere-unmapped : (n k at : ℕ) → k < n → layer.home (guest + k) ≡ Some (0, at) → at ≢ place + k → IsMappedAt layer guest place n → ⊥
+  elsewhere-unmapped n k at lt home other mapped =
+      let same : ◌≡◌ {A = ℕ × ℕ} (0, at) (mapped.0, place + k) = cc (sym home ∙ mapped.1 k lt) in
+      other (ap (λ (x : ℕ × ℕ). x.1) same)
+
+-- Why a range can't be looked at, where that was told of a part of it.
+pub why-told : {S : Type 0} (g : Ghosts S) (entry now new : Qcow2 S g) (offset n : ℕ) (fault : Fault) → layer_of g now ≡ layer_of g entry
+    → now.failed ≡ false → (g.state now.tables.file.image).faults ≡ (g.state entry.tables.file.image).faults
+    → LookCause (layer_of g now) offset n (g.state now.tables.file.image ∷ []) (g.state new.tables.file.image ∷ []) fault
+    → HasCause (telling_causes g entry new) fault
+why-told g entry now new offset n DamagedTable same runs faults why =
+    let here : (offset + why.0 < (layer_of g now).size) × ((layer_of g now).cell (offset + why.0) ≡ own damaged_place) = (why.2, why.3) in
+    let there = subst (λ (l : Layer). (offset + why.0 < l.size) × (l.cell (offset + why.0) ≡ own damaged_place)) same here in
+    (offset + why.0, there.0, there.1)
+why-told g entry now new offset n Memory same runs faults why = tt
+why-told g entry now new offset n Storage same runs faults why = elim why [
+  | inl rose ↦ subst (λ b. Rose b (g.state new.tables.file.image).faults) faults rose
+  | inr none ↦ absurd none
+]
+why-told g entry now new offset n Failed same runs faults why =
+    let none : barrier (layer_of g now) ≡ None = rw runs refl in absurd (cc (sym none ∙ why))
+why-told g entry now new offset n MissingData same runs faults why =
+    let none : barrier (layer_of g now) ≡ None = rw runs refl in absurd (cc (sym none ∙ why))
+why-told g entry now new offset n fault same runs faults why = absurd why
+
+-- Lookups that succeed leave the layer, and all that was seen.
+pub kept-seen : {S : Type 0} (g : Ghosts S) (old new : Qcow2 S g) → KeepsImage {T = Unit} g old (Ok tt) new → IsSeen g old.tables
+    → (layer_of g new ≡ layer_of g old) × IsSeen g new.tables
+kept-seen g old new k seen = (
+  layer-by (g.state old.tables.file.image) (g.state new.tables.file.image) (memory_of g old.tables) (memory_of g new.tables) old.tables.file.header.fields
+      new.tables.file.header.fields old.mode new.mode old.number new.number old.failed new.failed (holding_in g old.unspent) (holding_in g new.unspent)
+      k.tables.kept.shape k.tables.kept.bytes (memory-is g new.tables ∙ ap bytes_of k.tables.kept.bytes ∙ sym (memory-is g old.tables))
+      (ap (λ (H : Header). H.fields) k.tables.header) k.mode k.number k.failed (ap (holding_in g) k.unspent),
+  k.tables.seen seen,
+)
+
+-- no place of a guest cluster that is mapped so can be written by its word
+abbrev IsHomeless : Fields → Mapping → Type 0
+IsHomeless h m = (p : ℕ) → home_by h p m ≡ None
+
+-- So it is where a lookup doesn't answer that it can be, of an image that was opened for writing,
+answer-homeless : (h : Fields) (mode : OpenMode) (bits offset within : ℕ) (m : Mapping) → mode.writable ≡ true
+    → writable_place_of (shallow_of mode bits offset within m) ≡ None → IsHomeless h m
+answer-homeless h mode bits offset within (data_at c false) on none p = refl
+answer-homeless h mode bits offset within (data_at c true) on none p = absurd (cc (rw on at none))
+answer-homeless h mode bits offset within (zeroes c copied) on none p = refl
+answer-homeless h mode bits offset within (packed at n) on none p = refl
+answer-homeless h mode bits offset within words.unmapped on none p = refl
+answer-homeless h mode bits offset within damaged on none p = refl
+
+-- and where the mapping goes on from one that is so,
+unmarked-homeless : (h : Fields) (p c c' : ℕ) (mark mark' : Bool) → mark' ≡ mark → home_by h p (data_at c mark) ≡ None → home_by h p (data_at c' mark') ≡ None
+unmarked-homeless h p c c' mark false same none = refl
+unmarked-homeless h p c c' false true same none = absurd (cc same)
+unmarked-homeless h p c c' true true same none = absurd (cc none)
+
+follows-homeless : (h : Fields) (m m' : Mapping) → Follows m m' → IsHomeless h m → IsHomeless h m'
+follows-homeless h (data_at c mark) (data_at c' mark') follows none p = unmarked-homeless h p c c' mark mark' follows.1 (none p)
+follows-homeless h (zeroes None mark) (data_at c' mark') follows none p = absurd follows
+follows-homeless h (zeroes (Some c) mark) (data_at c' mark') follows none p = absurd follows
+follows-homeless h (packed at n) (data_at c' mark') follows none p = absurd follows
+follows-homeless h words.unmapped (data_at c' mark') follows none p = absurd follows
+follows-homeless h damaged (data_at c' mark') follows none p = absurd follows
+follows-homeless h m (zeroes c copied) follows none p = refl
+follows-homeless h m (packed at n) follows none p = refl
+follows-homeless h m words.unmapped follows none p = refl
+follows-homeless h m damaged follows none p = refl
+
+-- so at each place of the run.
+module _ (h : Fields) (mapping : ℕ → Mapping) (offset asked n : ℕ) (run : IsWholeRun h mapping offset asked n)
+    (first : IsHomeless h (mapping (offset / cluster_size h))) where
+  abbrev begin : ℕ
+  begin = offset / cluster_size h
+
+  cluster-homeless : (k : ℕ) → (begin + k) * cluster_size h < offset + n → IsHomeless h (mapping (begin + k))
+  cluster-homeless zero lt = subst (λ g. IsHomeless h (mapping g)) (omega arith) first
+  cluster-homeless (suc k) lt =
+      let less : (begin + k) * cluster_size h ≤ (begin + suc k) * cluster_size h = mul-le-mul_right (cluster_size h) (omega arith) in
+      let follows = (run.each (begin + suc k) (omega arith) lt).1 in
+      follows-homeless h (mapping (begin + k)) (mapping (begin + suc k)) (subst (λ g. Follows (mapping g) (mapping (begin + suc k))) (omega arith) follows)
+      (cluster-homeless k (omega (arith, less, lt)))
+
+  run-homeless : (i : ℕ) → i < n → IsHomeless h (mapping ((offset + i) / cluster_size h))
+  run-homeless i lt =
+      let g : ℕ = (offset + i) / cluster_size h in
+      let low : begin * cluster_size h ≤ offset = div-mul-le_self offset (cluster_size h) in
+      let from : begin ≤ (offset + i) / cluster_size h = le-div begin (offset + i) (cluster_size h) (pow_pos h.cluster_bits) (omega (arith, low)) in
+      let high : (offset + i) / cluster_size h * cluster_size h ≤ offset + i = div-mul-le_self (offset + i) (cluster_size h) in
+      let is : begin + ((offset + i) / cluster_size h - begin) ≡ (offset + i) / cluster_size h = omega (arith, from) in
+      let same : (begin + ((offset + i) / cluster_size h - begin)) * cluster_size h ≡ (offset + i) / cluster_size h * cluster_size h = ap (λ x. x * cluster_size h) is in
+      subst (λ x. IsHomeless h (mapping x)) is (cluster-homeless ((offset + i) / cluster_size h - begin) (omega (arith, same, high, lt)))
+
+-- what can't be written by its word has no home there
+no-homes : (writable : Bool) (m : Bytes) (h : Fields) (p : ℕ) → (writable ≡ true → home_by h p (mapped m h p) ≡ None) → homes writable m h p ≡ None
+no-homes false m h p none = refl
+no-homes true m h p none = elim (cases_Bool (ltb p h.size)) [ inl t ↦ rw t (none refl) | inr t ↦ rw t refl ]
+
+-- A run that isn't answered as one that can be written can't be by its words.
+module _ {S : Type 0} (g : Ghosts S) (d : Qcow2 S g) (offset asked n : ℕ) (answer : ShallowMapping)
+    (is : answer ≡ answer_at g d.tables d.mode offset) (none : writable_place_of answer ≡ None) where
+  abbrev h : Fields
+  h = d.tables.file.header.fields
+
+  first-homeless : d.mode.writable ≡ true → IsHomeless h (entry (file_of g d.tables) h (offset / cluster_size h))
+  first-homeless on = answer-homeless h d.mode _ _ _ _ on (ap writable_place_of (sym is) ∙ none)
+
+  in-file : (p : ℕ) → (d.mode.writable ≡ true → home_by h p (mapped (file_of g d.tables) h p) ≡ None) → homes_of g d p ≡ None
+  in-file p none = no-homes d.mode.writable (memory_of g d.tables) h p (λ on. subst (λ m. home_by h p (mapped m h p) ≡ None) (sym (memory-is g d.tables)) (none on))
+
+  pub word-none : homes_of g d offset ≡ None
+  word-none = in-file offset (λ on. first-homeless on offset)
+
+  pub words-none : IsWholeRunIn g d.tables offset asked n → (i : ℕ) → i < n → homes_of g d (offset + i) ≡ None
+  words-none run i lt = in-file (offset + i) (λ on. run-homeless h (entry (file_of g d.tables) h) offset asked n run (first-homeless on) i lt (offset + i))
+
+-- Where a place of the run of a mapping lies:
+module _ (hold : Holding) (offset most : ℕ) where
+  abbrev found : ℕ × ℕ
+  found = (hold.place + (offset - hold.offset), min most (hold.length - (offset - hold.offset)))
+
+  run-on : in_run hold offset ≡ true → (i : ℕ) → i < found.1 → held_home hold (offset + i) ≡ Some (0, found.0 + i)
+  run-on is i lt =
+      let run = in-range hold.offset hold.length offset is in
+      let k : ℕ = offset + i - hold.offset in
+      let in-it : in_run hold (offset + i) ≡ true = subst (λ p. in_run hold p ≡ true) (omega (arith, run.0)) (range-in hold.offset hold.length k (omega (arith, run.0, run.1, lt))) in
+      let same : hold.place + (offset + i - hold.offset) ≡ hold.place + (offset - hold.offset) + i = omega (arith, run.0) in
+      rw in-it (ap (λ a. Some (0, a)) same)
+
+-- the run goes on there,
+abbrev GoesOn : Holding → (ℕ → Option (ℕ × ℕ)) → ℕ → ℕ × ℕ → Type 0
+GoesOn hold home offset r = (i : ℕ) → i < r.1 → homes_with (Some hold) home (offset + i) ≡ Some (0, r.0 + i)
+
+pub held-goes-on : (hold : Option Holding) (home : ℕ → Option (ℕ × ℕ)) (offset most : ℕ) (answer : Option (ℕ × ℕ)) → HoldsRun hold offset most answer
+    → ((i : ℕ) → i < most → home (offset + i) ≡ None) → IfSome answer (λ r. (i : ℕ) → i < r.1 → homes_with hold home (offset + i) ≡ Some (0, r.0 + i))
+held-goes-on None home offset most answer is none = subst (λ o. IfSome o (λ r. (i : ℕ) → i < r.1 → home (offset + i) ≡ Some (0, r.0 + i))) (sym is) tt
+held-goes-on (Some hold) home offset most answer is none = subst (λ o. IfSome o (GoesOn hold home offset)) (sym is) (elim (cases_Bool (in_run hold offset)) [
+  | inr off ↦ rw off tt
+  | inl so ↦ rw so (λ i lt. ap (λ o. home_or o (held_home hold (offset + i))) (none i (omega (arith, lt))) ∙ run-on hold offset most so i lt)
+])
+
+-- for so many bytes as are asked for and more than none,
+pub held-some : (hold : Option Holding) (offset most : ℕ) (answer : Option (ℕ × ℕ)) → HoldsRun hold offset most answer
+    → IfSome answer (λ r. (r.1 ≤ most) × (0 < most → 0 < r.1))
+held-some None offset most answer is = subst (λ o. IfSome o (λ r. (r.1 ≤ most) × (0 < most → 0 < r.1))) (sym is) tt
+held-some (Some hold) offset most answer is = subst (λ o. IfSome o (λ r. (r.1 ≤ most) × (0 < most → 0 < r.1))) (sym is) (elim (cases_Bool (in_run hold offset)) [
+  | inr off ↦ rw off tt
+  | inl so ↦ let run = run-from hold offset so in rw so (omega arith, λ some. omega (arith, some, run.0, run.1))
+])
+
+-- and a place that isn't in the run has no home there.
+pub held-nowhere : (hold : Option Holding) (home : ℕ → Option (ℕ × ℕ)) (offset most : ℕ) (answer : Option (ℕ × ℕ)) → HoldsRun hold offset most answer
+    → home offset ≡ None → answer ≡ None → homes_with hold home offset ≡ None
+held-nowhere None home offset most answer is none nowhere = none
+held-nowhere (Some hold) home offset most answer is none nowhere = elim (cases_Bool (in_run hold offset)) [
+  | inr off ↦ ap (λ o. home_or o (held_home hold offset)) none ∙ rw off refl
+  | inl so ↦
+      let there : answer ≡ Some (hold.place + (offset - hold.offset), min most (hold.length - (offset - hold.offset))) = rw so at is in
+      absurd (cc (sym nowhere ∙ there))
+]
+
+-- Where nothing is prepared none is found.
+pub free-nowhere : (hold : Option Holding) (offset most : ℕ) (answer : Option (ℕ × ℕ)) (P : ℕ × ℕ → Type 0) → claim_held hold ≡ None → HoldsRun hold offset most answer
+    → IfSome answer P
+free-nowhere None offset most answer P free is = subst (λ o. IfSome o P) (sym is) tt
+free-nowhere (Some hold) offset most answer P free is = absurd (cc free)
