@@ -1,4 +1,6 @@
-//! Who gets which cluster of an image file: allocation, and the freeing of what nothing names any more.
+//! Who gets which cluster of an image file: allocation, and the freeing of what nothing names any more. To hand out is to allocate for qemu
+//! (`qcow2_alloc_clusters`) and imago (`allocate_clusters`). What waits to be freed is imago's `clusters_to_free`, and the mark qemu's
+//! `free_cluster_index`, imago's `first_free_cluster`.
 ghost use Rattle.std.specs.Prelude.{◌≡◌, ◌≤◌, ◌<◌, ◌-◌, ◌%◌, ◌^◌, ◌+◌, ℕ, true, Ok, Err, OnOk, OnErr, IfOk, IfErr, Some, None, slice_index, length, min, [], Result, MatchOption};
 ghost use Rattle.imago_storage.specs.declared.fault.Fault.{Fault};
 ghost use Rattle.qcow2_metadata.specs.Blocks.{Block, with_counter};

@@ -1,4 +1,5 @@
-//! A cache of entries that a backend loads and flushes, the most recently used first.
+//! A cache of entries that a backend loads and flushes, the most recently used first. qemu's is `Qcow2Cache`. A pin is a reference to an
+//! entry there, and a clone of a value's `Arc` in imago.
 ghost use Rattle.std.specs.Prelude.{IsTrue, IsErr, ◌↔◌, List, ◌≡◌, ◌<◌, ◌+◌, ◌-◌, ◌^◌, ℕ, [], IfOk, OnOk, IfErr, length, ◌∷◌, true, Ok, Err, None, IfSome, IsSome, Result, Some, Option};
 ghost use Rattle.std.specs.Option.{option_map, option_copied};
 ghost use Rattle.std.specs.NonZero.{non_zero_usize_get};

@@ -1,4 +1,5 @@
-// The caches of L2 tables and of refcount blocks, and the order in which they are written.
+// The caches of L2 tables and of refcount blocks, and the order in which they are written. An announced order is a dependency of qemu's
+// caches (`qcow2_cache_set_dependency`), and imago's `l2_depends_on_rb` or `rb_depends_on_l2`.
 ghost use Rattle.std.specs.Prelude.{◌≡◌, ◌≤◌, ◌<◌, IsTrue, IsOk, IfOk, OnOk, OnErr, IsOkUnless, Ok, [], ◌∷◌};
 ghost use Rattle.imago_storage.specs.State.{StorageState};
 ghost use Rattle.qcow2_metadata.specs.Places.{IsInReach};

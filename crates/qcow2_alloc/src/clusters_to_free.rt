@@ -1,4 +1,5 @@
-//! The list of clusters that nothing names any more and that are still counted.
+//! The list of clusters that nothing names any more and that are still counted. The list is imago's `clusters_to_free`. qemu has none:
+//! counts in its cache fall at once.
 ghost use Rattle.std.specs.Prelude.{◌≡◌, ◌==◌, ◌+◌, ◌-◌, ◌<◌, ◌≤◌, [], ◌∷◌, ◌++◌, length, OnOk, IfOk, IfErr};
 ghost use Rattle.std.specs.List.{position, remove};
 ghost use Rattle.imago_storage.specs.declared.fault.Fault.TheVariants.{Memory};

@@ -1,4 +1,5 @@
-// The image file and its header, as they are lent to the caches.
+// The image file and its header, as they are lent to the caches. The file is qemu's protocol node of an image (`bs->file`), and imago's
+// metadata storage.
 ghost use Rattle.std.specs.Prelude.{◌≤◌, ◌↔◌, IsTrue};
 ghost use Rattle.qcow2_metadata.specs.Places.{IsInReach};
 

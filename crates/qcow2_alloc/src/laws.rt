@@ -1,4 +1,5 @@
-//! What callers may rest on beside the contract of each call. The functions do nothing, and their contracts are the laws.
+//! What callers may rest on beside the contract of each call. The functions do nothing, and their contracts are the laws. What is named is
+//! referenced for qemu and imago, a count is a refcount, and a stop is a crash or a power cut.
 
 ghost use Rattle.std.specs.Prelude.{◌≡◌, ◌⊎◌, ◌==◌, if◌then◌else◌, ◌≢◌, ℕ, ◌+◌, ◌*◌, ◌/◌, ◌%◌, ◌^◌, ◌<◌, ◌≤◌, Bool, true, false, Some, ⊤, IsTrue, Result, Ok, Err, OnOk, List, [], ◌∷◌, ◌++◌, length, nat_eq, slice_index, slice_set, replicate, None, IsFalse};
 ghost use Rattle.std.specs.Int.{w64, to_be_bytes};

@@ -1,4 +1,5 @@
-//! The tables of a qcow2 image in memory: what is cached of them, in which order they are written, and who gets which cluster.
+//! The tables of a qcow2 image in memory: what is cached of them, in which order they are written, and who gets which cluster. A word of a
+//! table is its entry for qemu and imago, what it names it references, and a block is a refcount block, or refblock.
 #![tactic(auto)]
 
 mod allocation;

@@ -1,4 +1,5 @@
-// The content of a guest cluster is written to the cluster that it keeps for its zeroes.
+// The content of a guest cluster is written to the cluster that it keeps for its zeroes. qemu calls that a preallocated zero cluster
+// (`QCOW2_CLUSTER_ZERO_ALLOC`), and imago a zero mapping that retains its allocation.
 ghost use Rattle.std.specs.Prelude.{◌≡◌, OnOk, false, length};
 ghost use Rattle.imago_storage.specs.Calls.{Kept};
 ghost use Rattle.qcow2_types.specs.Header.{cluster_size};

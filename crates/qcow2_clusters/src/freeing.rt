@@ -1,4 +1,4 @@
-// What waits to be freed is freed.
+// What waits to be freed is freed. The call is imago's `process_clusters_to_free`. For qemu nothing waits, as its refcounts fall at once.
 ghost use Rattle.qcow2_clusters.specs.Freeing.{FreesWaiting};
 ghost use Rattle.qcow2_clusters.specs.Rest.{AreEmpty, HasEntries, lent};
 

@@ -1,4 +1,4 @@
-// The L1 table comes to be longer.
+// The L1 table comes to be longer. It grows for qemu (`qcow2_grow_l1_table`) and imago (`grow_l1_table`).
 ghost use Rattle.std.specs.Prelude.{◌≡◌, ◌<◌, ◌++◌, ◌-◌, length};
 ghost use Rattle.qcow2_types.specs.TableBytes.{AreFit, table_bytes};
 ghost use Rattle.qcow2_metadata.specs.Tables.{IsPlacedTable, table_place};

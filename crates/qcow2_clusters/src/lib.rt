@@ -1,5 +1,5 @@
 //! Single changes of an image's clusters, each begun and ended at rest: with nothing cached, and nothing that waits in memory to be
-//! written.
+//! written. What a word of a table names, its entry references for qemu and imago. A stop is a crash or a power cut.
 //!
 //! Each call says what the image becomes, and which files a stop of the machine may leave in it.
 #![tactic(auto)]

@@ -1,4 +1,5 @@
-// A word of the L1 table comes to name a new L2 table.
+// A word of the L1 table comes to name a new L2 table. The word is an L1 entry for qemu (`l2_allocate`) and imago (`ensure_l2`), which
+// comes to reference the table.
 ghost use Rattle.std.specs.Prelude.{◌≡◌, ◌<◌, IfOk, IsOkUnless, length, replicate, slice_index};
 ghost use Rattle.imago_storage.specs.Calls.{CountsFaults, Kept, Later};
 ghost use Rattle.qcow2_types.specs.Header.{cluster_size};

@@ -1,4 +1,5 @@
-// Guest clusters in a row come to name clusters in a row that were reserved, or that they kept for their zeroes.
+// Guest clusters in a row come to name clusters in a row that were reserved, or that they kept for their zeroes. qemu links L2 entries for
+// that (`qcow2_alloc_cluster_link_l2`), and imago maps clusters (`commit_data_mapping`).
 ghost use Rattle.std.specs.Prelude.{◌≡◌, ◌≤◌, ◌<◌, ◌+◌, ◌-◌, ◌%◌, ◌^◌, length, OnOk, IfErr};
 ghost use Rattle.qcow2_types.specs.Entries.{l2_entries};
 ghost use Rattle.qcow2_metadata.specs.Places.{IsInReach};

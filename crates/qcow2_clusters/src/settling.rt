@@ -1,4 +1,5 @@
-// Ends changes at rest: what is modified is written, and then nothing is cached.
+// Ends changes at rest: what is modified is written, and then nothing is cached. A change is cut off by what qemu tells as `-ENOMEM` or
+// `-EIO`, and imago as an error of memory or of input and output.
 ghost use Rattle.std.specs.Prelude.{MatchBool};
 ghost use Rattle.qcow2_alloc.specs.Caches.{HasRoomOf};
 ghost use Rattle.qcow2_alloc.specs.Going.{WasNotCutOff};

@@ -1,4 +1,5 @@
-// The free space of an image that is written.
+// The free space of an image that is written. The search for free clusters begins at qemu's `free_cluster_index`, imago's
+// `first_free_cluster`. What waits is imago's `clusters_to_free`.
 ghost use Rattle.std.specs.Prelude.{◌≡◌, [], Ok, Err, MatchResult};
 ghost use Rattle.qcow2_alloc.specs.Allocators.{LoadsAllocator};
 

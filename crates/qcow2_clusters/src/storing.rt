@@ -1,4 +1,5 @@
-// Bytes are stored in clusters that were free.
+// Bytes are stored in clusters that were free. They are allocated for qemu (`qcow2_alloc_clusters`) and imago (`allocate_clusters`), and
+// pending until a word names them.
 ghost use Rattle.std.specs.Prelude.{◌≡◌, ◌≤◌, ◌<◌, ◌+◌, ◌-◌, ◌*◌, ◌^◌, ℕ, Bool, List, IfOk, OnOk, false, length};
 ghost use Rattle.imago_storage.specs.Calls.{Kept};
 ghost use Rattle.imago_storage.specs.Through.{Put};

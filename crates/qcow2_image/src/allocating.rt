@@ -1,4 +1,5 @@
-// Clusters are allocated for guest clusters that have none of their own.
+// Clusters are allocated for guest clusters that have none of their own. qemu does so in `handle_alloc`, and imago in
+// `prepare_cow_cluster`. A word is an L1 or L2 entry there.
 ghost use Rattle.std.specs.Prelude.{◌≡◌, ◌<◌, ◌+◌, ◌*◌, ◌/◌, ◌^◌, ℕ, false, None, Some, length, IfSome, IsTrue};
 ghost use Rattle.qcow2_types.specs.Header.{cluster_size};
 ghost use Rattle.qcow2_image.specs.Allocating.{Begins, EnsuresTable, EnsuresWord, FillsContent, FlushesFreed, FreesPending, IsShownInReach, LoadsSpace, PlacesContent, StoresContent, StoresMost, TellsKept, TellsShown, failed_cut, full_by, kept_by, placed_by, shown_of, waits_in};

@@ -1,4 +1,4 @@
-// How qcow2 images are opened, option by option.
+// How qcow2 images are opened, option by option. Whether layers are below it is whether qemu and imago have a backing file.
 ghost use Rattle.std.specs.Prelude.{◌≡◌, ◌↔◌, false, None, Some, IfOk, IfErr, IsOk, IsOkUnless};
 ghost use Rattle.imago_storage.specs.declared.fault.Fault.{Fault};
 ghost use Rattle.imago_access.specs.Building.{IsOpened};

@@ -1,4 +1,5 @@
-// How many entries the caches of an image have.
+// How many entries the caches of an image have. qemu's options give bytes (`l2-cache-size`, `refcount-cache-size`), and imago's numbers are
+// fixed. A block is imago's refblock.
 ghost use Rattle.std.specs.Prelude.{◌≡◌, ◌≤◌, ◌↔◌, IsOk, IfOk, IsOkUnless};
 ghost use Rattle.std.proofs.Props.{props};
 ghost use Rattle.imago_storage.specs.declared.fault.Fault.{Fault};

@@ -1,4 +1,5 @@
-// Prepared mappings are committed or given up.
+// Prepared mappings are committed or given up. A commit links the L2 entries of qemu's `QCowL2Meta`, or maps the clusters of imago's
+// `PreparedDataMapping`.
 ghost use Rattle.std.specs.Prelude.{◌≡◌, ◌≤◌, ◌-◌, ◌↔◌, IsTrue};
 ghost use Rattle.qcow2_types.specs.Entries.{l2_entries};
 ghost use Rattle.qcow2_image.specs.Committing.{CancelsUnspent, CommitsUnspent, GivesBack, IsNamable, NamesHost, TakesUnspent, held_behind};

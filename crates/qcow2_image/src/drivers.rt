@@ -1,4 +1,5 @@
-// A qcow2 image as the driver of a chain.
+// A qcow2 image as the driver of a chain. A driver is qemu's `BlockDriver` and imago's `FormatDriverInstance`. The layer below is the
+// backing of both.
 ghost use Rattle.std.proofs.Common.{inr};
 ghost use Rattle.std.specs.Prelude.{◌≡◌, ◌<◌, ◌+◌, ◌-◌, ◌/◌, ◌%◌, ◌^◌, min, ◌⊎◌, ⊤, None, Some, List, false, refl, length, IsTrue, IsErr, IsErrOf, IsOk, IsSome, OnOk, IfOk, IfErr};
 ghost use Rattle.std.proofs.lemmas.Nat.{pow_pos};

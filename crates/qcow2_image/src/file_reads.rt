@@ -1,4 +1,4 @@
-// The file of a qcow2 image, as it stands.
+// The file of a qcow2 image, as it stands. It stands in a storage: qemu's protocol node (`bs->file`), imago's `Storage`.
 ghost use Rattle.std.specs.Prelude.{◌≡◌, ◌≤◌, length, OnOk, IfErr, IsOk, IsErrOf};
 ghost use Rattle.imago_access.specs.FileReads.{FilesRead, FileReadCause};
 ghost use Rattle.imago_access.specs.Files.{AreRead, OverflowsIn, WasNotCutOff, files};

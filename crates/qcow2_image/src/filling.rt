@@ -1,5 +1,6 @@
 // The content of host clusters for guest clusters that have none of their own: what they show, copied from the layers below where these
-// show, and from the file where other guest clusters may share their data.
+// show, and from the file where other guest clusters may share their data. That is copy on write: `perform_cow` in qemu, and
+// `prepare_cow_cluster` in imago. The layers below are the backing of both.
 ghost use Rattle.std.specs.Prelude.{◌≡◌, ◌<◌, ◌≤◌, ◌+◌, ◌-◌, ◌%◌, ℕ, false, length, replicate, slice_index, IfOk, IfErr};
 ghost use Rattle.imago_access.specs.Changes.{asking};
 ghost use Rattle.imago_access.specs.declared.seen.SeenBelow.{Ghosts as BelowGhosts};

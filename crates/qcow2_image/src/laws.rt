@@ -1,5 +1,5 @@
-//! What the layer of a qcow2 image shows, by the format, and what its calls leak together.
-//! The functions do nothing, and their contracts are what was proved of the definitions.
+//! What the layer of a qcow2 image shows, by the format, and what its calls leak together. The functions do nothing, and their contracts
+//! are what was proved of the definitions. A layer is qemu's node, a place an offset, and what leaks a leaked cluster for qemu and imago.
 
 ghost use Rattle.std.specs.Prelude.{◌≡◌, ◌<◌, ◌+◌, ℕ, List, false, Ok};
 ghost use Rattle.imago_storage.specs.Disk.{Value};

@@ -1,4 +1,5 @@
-//! The qcow2 driver: an image file, with its metadata cached, as a layer of a chain.
+//! The qcow2 driver: an image file, with its metadata cached, as a layer of a chain. A driver is qemu's `BlockDriver` and imago's
+//! `FormatDriverInstance`, and a layer a node of qemu's backing chain.
 #![tactic(auto)]
 
 mod allocating;

@@ -1,4 +1,5 @@
-// Where the bytes of guest clusters are: through the L1 table and the cached L2 tables.
+// Where the bytes of guest clusters are: through the L1 table and the cached L2 tables. A word says it, which is an L2 entry for qemu
+// (`qcow2_get_host_offset`) and imago (`get_mapping`).
 ghost use Rattle.std.specs.Prelude.{◌≡◌, ◌+◌, ◌*◌, ◌%◌, ◌^◌, ◌<◌, ◌≤◌};
 ghost use Rattle.qcow2_types.specs.Entries.{l2_entries};
 ghost use Rattle.qcow2_metadata.specs.Tables.{mapping_in};

@@ -1,4 +1,5 @@
-// Mappings are prepared for guest clusters whose data is in no host cluster of their own.
+// Mappings are prepared for guest clusters whose data is in no host cluster of their own. A prepared mapping is qemu's `QCowL2Meta`, of
+// `qcow2_alloc_host_offset`, and imago's `PreparedDataMapping`, of `prepare_data_mapping`.
 ghost use Rattle.std.specs.Prelude.{◌≡◌, ◌<◌, ◌≤◌, ◌+◌, ◌-◌, ◌*◌, ◌/◌, ◌%◌, ◌^◌, false, None, length, IfSome};
 ghost use Rattle.imago_access.specs.Changes.{asking};
 ghost use Rattle.qcow2_types.specs.Header.{cluster_size, words_of_cluster};

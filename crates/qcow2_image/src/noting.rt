@@ -1,4 +1,5 @@
-// What is written of a prepared mapping, and where its run lies.
+// What is written of a prepared mapping, and where its run lies. The mapping is qemu's `QCowL2Meta`, and imago's `PreparedDataMapping`. A
+// place is an offset.
 ghost use Rattle.std.specs.Prelude.{◌≡◌, ◌≤◌, ◌+◌, ◌^◌, ◌||◌, ℕ, Some, IfSome, false};
 ghost use Rattle.qcow2_image.specs.Holding.{HoldsRun};
 ghost use Rattle.qcow2_image.specs.Unspent.{covers, here, holding};

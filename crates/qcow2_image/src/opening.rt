@@ -1,5 +1,5 @@
 // How the metadata of an image is opened: its header, its L1 table, its refcount table where it is to be written, and caches of which
-// nothing is filled.
+// nothing is filled. qemu opens it in `qcow2_do_open`, and imago in `do_open`. Layers below are the backing of both.
 ghost use Rattle.std.specs.Prelude.{◌≡◌, ◌≢◌, true, false, None, Ok, OnOk, IfOk, IfErr, IsTrue, length};
 ghost use Rattle.imago_storage.specs.Calls.{CountsFaults, Kept};
 ghost use Rattle.imago_storage.specs.declared.fault.Fault.TheVariants.{DamagedTable};

@@ -1,4 +1,5 @@
-// A qcow2 image as a driver.
+// A qcow2 image as a driver. A driver is qemu's `BlockDriver` and imago's `FormatDriverInstance`. A prepared mapping is `QCowL2Meta`, or
+// `PreparedDataMapping`.
 ghost use Rattle.std.specs.Prelude.{◌≡◌, ◌==◌, ⊤, List, [], Some, None};
 ghost use Rattle.std.specs.Option.{option_copied};
 ghost use Rattle.imago_storage.specs.Steps.{Call};

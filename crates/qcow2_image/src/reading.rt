@@ -1,4 +1,5 @@
-// What a qcow2 image reads of its tables: where places lie, and all of it anew.
+// What a qcow2 image reads of its tables: where places lie, and all of it anew. A place is an offset for qemu (`qcow2_get_host_offset`) and
+// imago (`get_mapping`).
 ghost use Rattle.std.specs.Prelude.{◌≡◌, ◌<◌, ◌≤◌, ◌+◌, ◌*◌, ◌^◌, ◌/◌, ◌%◌, ◌-◌, IfOk, IfErr, min, false};
 ghost use Rattle.imago_access.specs.Files.{WasNotCutOff};
 ghost use Rattle.imago_access.specs.Failing.{Fails, RefusesLookup};

@@ -1,4 +1,5 @@
-// Why calls that change a qcow2 image are refused before anything is done.
+// Why calls that change a qcow2 image are refused before anything is done. What is declined is answered with `-ENOTSUP` by qemu, and with
+// `ErrorKind::Unsupported` by imago.
 ghost use Rattle.std.specs.Prelude.{◌≡◌, ◌<◌, ◌≤◌, ◌+◌, ◌^◌, if◌then◌else◌, false, Some, None, List, IsTrue, IfOk, IfErr, IsOk, OnOk, IsErrOf};
 ghost use Rattle.imago_storage.specs.State.{StorageState};
 ghost use Rattle.imago_storage.specs.Steps.{Call};

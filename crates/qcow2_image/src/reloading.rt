@@ -1,4 +1,4 @@
-// Reading the tables of an open image anew.
+// Reading the tables of an open image anew. That is qemu's `qcow2_co_invalidate_cache`, and imago's `invalidate_cache`.
 ghost use Rattle.std.specs.Prelude.{◌≡◌, ◌≢◌, [], true, false, Ok, IsOk, OnOk, IfOk, IfErr};
 ghost use Rattle.imago_storage.specs.Calls.{Cause, Kept, Later};
 ghost use Rattle.imago_storage.specs.declared.fault.Fault.TheVariants.{DamagedTable};

@@ -1,4 +1,4 @@
-// The metadata of an open image, as one value.
+// The metadata of an open image, as one value. qemu has it in `BDRVQcow2State`, and imago in `Qcow2`.
 ghost use Rattle.std.proofs.Props.{props};
 ghost use Rattle.qcow2_alloc.specs.Caches.{cached_in};
 ghost use Rattle.qcow2_image.specs.Caching.{IsClean, IsUnpinned};

@@ -1,4 +1,4 @@
-// What is prepared of an image and not yet spent.
+// What is prepared of an image and not yet spent. A prepared mapping is qemu's `QCowL2Meta`, and imago's `PreparedDataMapping`.
 ghost use Rattle.std.specs.Prelude.{◌≤◌, ◌+◌, ◌^◌};
 
 use imago_storage::Storage;

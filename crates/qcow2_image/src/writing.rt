@@ -1,4 +1,5 @@
-// Writes where the places of a disk are.
+// Writes where the places of a disk are. A place is an offset for qemu and imago. What a word marks as copied has `QCOW_OFLAG_COPIED`, or
+// the copied bit.
 ghost use Rattle.std.specs.Prelude.{◌≡◌, ◌<◌, ◌≤◌, ◌+◌, ◌^◌, false, None, length, IsTrue, IsFalse, IfOk, IfErr, IfSome};
 ghost use Rattle.imago_access.specs.Failing.{Fails, RefusesLookup};
 ghost use Rattle.imago_access.specs.Mappings.{IsMappedRun};

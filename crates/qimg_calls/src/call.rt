@@ -1,4 +1,5 @@
-// Calls of a chain, and what they are answered with.
+// Calls of a chain, and what they are answered with. They have the names of imago's `FormatAccess`. A mapping that is prepared is qemu's
+// `QCowL2Meta`, and imago's `PreparedDataMapping`.
 ghost use Rattle.std.specs.Prelude.{◌≡◌};
 ghost use Rattle.qimg_calls.specs.Calls.{is_look, is_out_of_place};
 

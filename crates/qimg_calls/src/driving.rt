@@ -1,4 +1,5 @@
-// A list of calls over a chain.
+// A list of calls over a chain. A chain is qemu's backing chain. A mapping that is prepared is qemu's `QCowL2Meta`, and imago's
+// `PreparedDataMapping`.
 ghost use Rattle.std.specs.Prelude.{◌≡◌, ◌≤◌, ◌<◌, [], None, length, IfOk, IfErr, OnOk, OnErr, IsOkUnless, take, vec_capacity};
 ghost use Rattle.imago_access.specs.Layer.{IsFree};
 ghost use Rattle.imago_access.specs.Chain.{Each};

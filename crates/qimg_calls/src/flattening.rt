@@ -1,4 +1,4 @@
-// A copy of one chain's disk into another's.
+// A copy of one chain's disk into another's. `qemu-img convert -n` makes such a copy. imago has no call for it.
 ghost use Rattle.std.specs.Prelude.{◌≡◌, ◌≢◌, ◌≤◌, ◌+◌, length, OnOk, IfErr, IsErrOf};
 ghost use Rattle.imago_storage.specs.declared.fault.Fault.TheVariants.{BadArgument};
 ghost use Rattle.imago_access.specs.Layer.{IsFree, IsLike};

@@ -1,4 +1,5 @@
-//! Lists of calls over a chain of image layers: each reads and changes one flat disk.
+//! Lists of calls over a chain of image layers: each reads and changes one flat disk. A chain is qemu's backing chain, and what imago's
+//! `FormatAccess` stands over.
 #![tactic(auto)]
 
 mod call;

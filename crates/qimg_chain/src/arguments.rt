@@ -1,4 +1,5 @@
-//! The arguments of the program: the layers of a chain, and the files that they are given.
+//! The arguments of the program: the layers of a chain, and the files that they are given. A layer is a node of qemu's backing chain. The
+//! layer below is the backing of qemu and imago.
 ghost use Rattle.std.specs.Prelude.{◌≡◌, ◌↔◌, ◌+◌, ◌*◌, ◌<◌, ◌≤◌, ◌∷◌, length, map, flat_map, codes, MatchOption, IsTrue, IfSome, IfOk, IfErr, IsOkUnless};
 ghost use Rattle.imago_access.specs.declared.format.Format.{Format};
 ghost use Rattle.qimg_chain.specs.Arguments.{words_from, extra_of, layer_of, format_word, layer_words, Says, WhyNotRead, SayNoLayers, AskForNone, AreNoFile, IsExtras, IsLayer};

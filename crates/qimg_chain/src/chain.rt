@@ -1,4 +1,5 @@
-//! Chains of image files, each with a format of its own.
+//! Chains of image files, each with a format of its own. A chain is qemu's backing chain. The file below is the backing file of qemu and
+//! imago.
 mod drivers;
 mod extras;
 mod file_reads;

@@ -1,5 +1,5 @@
 //! Laws of scripts and arguments, of why files don't form a chain, of files that do, of both reads of them, of what they mean behind a
-//! flush, and of stops that are told.
+//! flush, and of stops that are told. A chain is qemu's backing chain, and a stop a crash or a power cut.
 ghost use Rattle.std.specs.Global.{Global};
 ghost use Rattle.std.specs.Prelude.{◌≡◌, ◌∷◌, [], ℕ, Bool, List, None, Option, Result, Vec, length, true, false};
 ghost use Rattle.imago_access.specs.ChainLooks.{ChainReads};

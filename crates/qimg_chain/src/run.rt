@@ -1,4 +1,5 @@
-//! A script is run over a chain of layers: line by line, with an answer to each.
+//! A script is run over a chain of layers: line by line, with an answer to each. A layer is a node of qemu's backing chain. Scripts are
+//! much as those of `qemu-io`, and imago has none.
 ghost use Rattle.std.specs.Prelude.{◌≡◌, ◌+◌, ◌∷◌, ◌++◌, [], length, IfErr, IfSome, OnOk};
 ghost use Rattle.std.specs.Io.BufRead.{take_through, DropsThrough};
 ghost use Rattle.std.specs.Io.KnownBytes.{Appends};

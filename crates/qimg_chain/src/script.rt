@@ -1,4 +1,5 @@
-//! Scripts of the program: what each of their lines asks for, and the text that answers it.
+//! Scripts of the program: what each of their lines asks for, and the text that answers it. Commands are much as those of `qemu-io`, where
+//! `grow` and `shrink` are `truncate`. A mode is imago's `PreallocateMode`.
 //!
 //! A line is the word of a command and its arguments, with one space between each two words. Numbers are decimal, of 1 to 20
 //! digits and below 2^64; bytes are pairs of hexadecimal digits of either case, at least one pair; a mode is `none`, `zero`,

@@ -1,4 +1,4 @@
-//! Free clusters are counted.
+//! Free clusters are counted. For qemu and imago their refcounts go from 0 to 1.
 ghost use Rattle.std.specs.Prelude.{◌≤◌, ◌+◌, ◌^◌, List};
 ghost use Rattle.qcow2_metadata.specs.Blocks.{Block};
 ghost use Rattle.qcow2_types.specs.Pending.{FreeEntry};

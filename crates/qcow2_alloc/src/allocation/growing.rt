@@ -1,4 +1,5 @@
-//! The refcount table grows: room is found for the longer one, which is written, and then takes its place.
+//! The refcount table grows: room is found for the longer one, which is written, and then takes its place. That is imago's `grow_reftable`,
+//! and qemu's `qcow2_refcount_area`. Words of the table are its entries there.
 ghost use Rattle.std.specs.Prelude.{◌≡◌, ◌≤◌, ◌<◌, ◌+◌, ◌*◌, ◌/◌, ◌^◌, IfOk, length, ℕ, ◌-◌, ◌++◌, OnOk, OnErr, IfErr, min};
 ghost use Rattle.qcow2_types.specs.Counts.{counters_of_block};
 ghost use Rattle.qcow2_alloc.specs.Allocators.{table_of, mark_of};

@@ -1,4 +1,5 @@
-//! Clusters are counted and handed out.
+//! Clusters are counted and handed out. qemu and imago allocate them: their refcounts come to be above 0, and they are pending, imago's
+//! `PendingClusters`.
 ghost use Rattle.std.specs.Prelude.{◌≡◌, ◌<◌, ◌+◌, ◌^◌, ◌≢◌, ◌==◌, ◌≤◌, ◌/◌, List, IfOk, OnErr, OnOk, slice_index, true};
 ghost use Rattle.qcow2_alloc.specs.Allocators.{mark_of, table_of};
 ghost use Rattle.qcow2_alloc.specs.ReadyingRuns.{Allocates, Spares, mark_behind};

@@ -1,4 +1,5 @@
-//! Refcount blocks are made where there were none, and new ones are written to clusters that nothing names yet.
+//! Refcount blocks are made where there were none, and new ones are written to clusters that nothing names yet. A block is imago's
+//! refblock, which `ensure_rb` makes; qemu's call is `alloc_refcount_block`.
 ghost use Rattle.std.specs.Prelude.{IsTrue, ◌≡◌, ◌≢◌, ◌≤◌, ◌<◌, ◌*◌, ◌+◌, ◌/◌, ◌%◌, ◌^◌, ℕ, List, Some, true, OnOk, IfOk, IfErr, IsOkUnless, length, replicate, slice_index, slice_set, ◌-◌};
 ghost use Rattle.qcow2_metadata.specs.Blocks.{block_of};
 ghost use Rattle.qcow2_metadata.specs.Places.{IsInReach, IsPlaced, place_of};

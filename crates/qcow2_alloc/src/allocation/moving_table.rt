@@ -1,4 +1,5 @@
-//! A refcount table that has grown takes its room, and becomes the image's.
+//! A refcount table that has grown takes its room, and becomes the image's. The header names it, or references it: in qemu's
+//! `qcow2_refcount_area`, and in imago's `grow_reftable`.
 ghost use Rattle.std.specs.Prelude.{◌≡◌, ◌≢◌, ◌≤◌, ◌<◌, ◌+◌, ◌-◌, ◌*◌, ◌^◌, ℕ, List, OnOk, OnErr, IfErr, IsOkUnless, length};
 ghost use Rattle.qcow2_metadata.specs.Places.{IsInReach};
 ghost use Rattle.qcow2_metadata.specs.Tables.{IsPlacedTable};

@@ -1,4 +1,5 @@
-//! A run of free clusters is made ready to be counted: each of its clusters gets a counter.
+//! A run of free clusters is made ready to be counted: each of its clusters gets a counter. A counter is a refcount for qemu and imago, and
+//! the mark `free_cluster_index`, or `first_free_cluster`.
 ghost use Rattle.std.specs.Prelude.{true, ◌≡◌, ◌≤◌, IsTrue, List, OnOk, length, ◌≢◌, ◌<◌, ◌+◌, ◌-◌, ◌/◌, ◌^◌, ◌↔◌, IfOk, IfErr};
 ghost use Rattle.qcow2_types.specs.Pending.{FreeEntry};
 ghost use Rattle.qcow2_alloc.specs.Allocating.{MakesBlocks};

@@ -1,4 +1,5 @@
-//! How free clusters are searched for, through the blocks that the refcount table names.
+//! How free clusters are searched for, through the blocks that the refcount table names. A free cluster has refcount 0 for qemu and imago.
+//! A search begins at the mark: qemu's `free_cluster_index`, imago's `first_free_cluster`.
 ghost use Rattle.std.specs.Prelude.{◌≡◌, ◌≤◌, ◌<◌, ◌+◌, ◌*◌, ◌/◌, ◌%◌, ◌^◌, if◌then◌else◌, length};
 ghost use Rattle.qcow2_types.specs.Counts.{counters_of_block};
 ghost use Rattle.qcow2_alloc.specs.Allocators.{table_of, UsesBlock};

@@ -1,4 +1,5 @@
-// Calls that change the disk where nothing is kept.
+// Calls that change the disk where nothing is kept. Names are those of imago's `FormatAccess`. qemu's calls are `blk_pwrite`,
+// `blk_pwrite_zeroes`, `blk_pdiscard` and `blk_truncate`.
 ghost use Rattle.std.specs.Prelude.{IsTrue};
 ghost use Rattle.imago_access.specs.Layer.{IsFree};
 ghost use Rattle.qimg_calls.specs.Calls.{is_lone_change};

@@ -1,4 +1,5 @@
-// Calls that only look, and those that write what is held in memory: they may be made whatever is kept.
+// Calls that only look, and those that write what is held in memory: they may be made whatever is kept. A lookup is imago's `get_mapping`,
+// and qemu's `bdrv_block_status_above`.
 ghost use Rattle.std.specs.Prelude.{◌≡◌, IfOk, IfErr};
 ghost use Rattle.qimg_calls.specs.declared.call.Call.TheVariants as calls;
 ghost use Rattle.qimg_calls.specs.declared.call.Answer.TheVariants as told;

@@ -1,4 +1,4 @@
-// Calls of the mapping that is kept, and each call by what is kept.
+// Calls of the mapping that is kept, and each call by what is kept. It is qemu's `QCowL2Meta`, and imago's `PreparedDataMapping`.
 ghost use Rattle.std.specs.Prelude.{◌≡◌, None, Some, IfOk, IfErr, IsFalse, IsTrue, false, true, is_some};
 ghost use Rattle.imago_access.specs.Layer.{IsFree};
 ghost use Rattle.imago_access.specs.Spending.{IsMine};

@@ -1,4 +1,5 @@
-// An image of one of the formats, as the driver of a layer.
+// An image of one of the formats, as the driver of a layer. A driver is qemu's `BlockDriver` and imago's `FormatDriverInstance`, and a
+// layer a node of qemu's backing chain.
 ghost use Rattle.std.specs.Prelude.{map, refl};
 ghost use Rattle.std.proofs.Common.{inr};
 ghost use Rattle.std.proofs.Math.Nat.{le_refl};

@@ -1,4 +1,4 @@
-// The files that were handed in for those that images name.
+// The files that were handed in for those that images name. imago calls those implicit dependencies, and qemu the extents of a VMDK image.
 ghost use Rattle.qimg_chain.specs.Extras.{IsTaken};
 
 use imago_access::ImplicitOpenGate;

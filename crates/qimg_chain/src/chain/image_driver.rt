@@ -1,4 +1,5 @@
-// A layer of a chain of image files: a raw, a VMDK or a qcow2 image.
+// A layer of a chain of image files: a raw, a VMDK or a qcow2 image. A layer is a node of qemu's backing chain, and a `FormatAccess` in
+// imago.
 ghost use Rattle.std.specs.Prelude.{◌≡◌, ◌↔◌, IsTrue};
 ghost use Rattle.imago_access.specs.Layer.{unmapped};
 ghost use Rattle.qimg_chain.specs.ImageDrivers.{began_as};

@@ -1,4 +1,4 @@
-// The files of a chain in memory, lent.
+// The files of a chain in memory, lent. What is lent is passed by pointer in qemu, and borrowed in imago. A layer is qemu's node.
 ghost use Rattle.std.specs.Prelude.{◌≡◌, ◌∷◌, map, IfOk, IsOkUnless};
 ghost use Rattle.imago_storage.specs.MemStorage.{mem_state};
 ghost use Rattle.imago_storage.specs.View.{view_state};

@@ -1,4 +1,4 @@
-// The names of a layer's further files.
+// The names of a layer's further files. imago calls those files implicit dependencies, and qemu the extents of a VMDK image.
 ghost use Rattle.std.specs.Prelude.{◌≡◌, ◌<◌, ℕ, List, [], false, length, map, refl, slice_index_or};
 ghost use Rattle.imago_formats.specs.DescriptorView.{kept_names};
 ghost use Rattle.qcow2_types.specs.Bytes.{bytes_of};

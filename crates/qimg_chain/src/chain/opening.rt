@@ -1,4 +1,4 @@
-// Image files are opened as a chain.
+// Image files are opened as a chain. The chain is qemu's backing chain. The file below is the backing file of qemu and imago.
 ghost use Rattle.std.specs.Prelude.{◌≡◌, ◌⊎◌, ◌<◌, ◌∷◌, length, map, reverse, IfOk, IfErr, IsErrOf};
 ghost use Rattle.imago_storage.specs.State.{InStep};
 ghost use Rattle.imago_access.specs.Building.{IsOpened};

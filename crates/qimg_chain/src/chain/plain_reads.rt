@@ -1,4 +1,4 @@
-// Reads of files as a chain, of which nothing stays open.
+// Reads of files as a chain, of which nothing stays open. The file below is the backing file of qemu and imago, and a place an offset.
 ghost use Rattle.std.specs.Prelude.{◌≡◌, ◌↔◌, ◌∷◌, ◌<◌, ◌+◌, ◌^◌, ℕ, length, map, slice_index, IfErr, IsErrOf, IsTrue, OnOk};
 ghost use Rattle.imago_storage.specs.Disk.{Shows};
 ghost use Rattle.imago_access.specs.Chain.{at, Each};

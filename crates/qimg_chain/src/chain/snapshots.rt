@@ -1,4 +1,4 @@
-// The files of a chain as they stand, copied.
+// The files of a chain as they stand, copied. qemu's snapshots are others: they stand in an image, or are a layer below. imago has none.
 ghost use Rattle.std.specs.Prelude.{◌≡◌, ◌∷◌, map, OnOk, IfOk, IfErr, IsOkUnless};
 ghost use Rattle.imago_access.specs.FileReads.{file_bytes_in, files_at, FilesRead};
 ghost use Rattle.imago_access.specs.Files.{Pairs, WasNotCutOff, files_of};

@@ -1,4 +1,5 @@
-// Mappings of raw and VMDK images, which prepare none with state, as those of an image of any format.
+// Mappings of raw and VMDK images, which prepare none with state, as those of an image of any format. A mapping without state is imago's
+// `PreparedDataMapping::existing`. qemu has no `QCowL2Meta` for it.
 ghost use Rattle.std.specs.Prelude.{◌≡◌, Some, None, OnOk, IfErr};
 ghost use Rattle.imago_storage.specs.declared.fault.Fault.TheVariants.{Foreign};
 ghost use Rattle.qimg_chain.specs.Stateless.{IsSpent, IsGivenBack, IsOwn, IsOthers};

@@ -1,4 +1,5 @@
-// The calls of a chain that lines of a script ask for.
+// The calls of a chain that lines of a script ask for. `grow` and `shrink` are qemu's truncation, and imago's `resize_grow` and
+// `resize_shrink`.
 ghost use Rattle.std.specs.Prelude.{◌≡◌, IsFalse, IsSome, MatchOption, Some};
 ghost use Rattle.imago_access.specs.Layer.{IsFree};
 ghost use Rattle.qimg_calls.specs.Calls.{is_of_mapping};

@@ -1,4 +1,5 @@
-// What lines of a script ask of the top file itself: what the checker says of it, and what it shows by itself.
+// What lines of a script ask of the top file itself: what the checker says of it, and what it shows by itself. The top is qemu's active
+// layer, and `qemu-img check` its checker. imago has none.
 ghost use Rattle.std.specs.Prelude.{IfOk, IfErr};
 ghost use Rattle.qcow2_metadata.specs.Loading.{file};
 ghost use Rattle.qimg_chain.specs.RunAnswers.{Checks, IsLength, ReadsPlainly, WhyNoBuffer};

@@ -1,4 +1,5 @@
-// A script that is run over files, from their opening as a chain on.
+// A script that is run over files, from their opening as a chain on. The files are qemu's backing chain, and the file below is the backing
+// file of qemu and imago.
 ghost use Rattle.std.specs.Prelude.{IfOk, IfErr, Ok};
 ghost use Rattle.qimg_chain.specs.Headline.{NotRun, RunFrom, to_open};
 

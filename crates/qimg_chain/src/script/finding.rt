@@ -1,4 +1,4 @@
-// The numbers of the checker's findings.
+// The numbers of the checker's findings. A finding is a corruption for `qemu-img check`, which has no numbers. imago has no checker.
 ghost use Rattle.std.specs.Prelude.{◌≡◌};
 ghost use Rattle.qimg_chain.specs.CheckNumbers.{check_number};
 

@@ -1,4 +1,5 @@
-// Lines of a script, and how they are read.
+// Lines of a script, and how they are read. `discard-any` and `discard-backing` are imago's `discard_to_any` and `discard_to_backing`.
+// `grow` and `shrink` are qemu's truncation.
 ghost use Rattle.std.specs.Prelude.{◌≡◌, ◌∷◌, [], Some, IfOk, IfErr};
 ghost use Rattle.qimg_chain.specs.Script.{IsLine, NotLine};
 ghost use Rattle.qimg_chain.specs.ScriptWords.{words_of};

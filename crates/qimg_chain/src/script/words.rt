@@ -1,4 +1,4 @@
-// The words of a line of a script.
+// The words of a line of a script. A mode is qemu's `PreallocMode`, and imago's `PreallocateMode`.
 ghost use Rattle.std.specs.Prelude.{◌≡◌, Some, IfOk, IfErr};
 ghost use Rattle.qimg_chain.specs.ScriptWords.{NoBytes, bytes_of, mode_of, number_of};
 
