@@ -12,7 +12,7 @@ use Rattle.imago_storage.specs.declared.fault.Fault.TheVariants.{Unsupported, Ve
 use Rattle.imago_storage.proofs.Rounding.{le_round_up}
 use Rattle.imago_access.specs.Layer.{Layer, IsFree, IsLike, loose}
 use Rattle.imago_access.specs.Chain.{at, IsBacked}
-use Rattle.imago_access.specs.Discards.{GivesDiscarded}
+use Rattle.imago_access.specs.RangeCalls.{GivesDiscarded}
 use Rattle.imago_access.specs.Files.{IsMild, IsDeclined, WasNotCutOff, files_of, files}
 use Rattle.imago_access.specs.Going.{Went}
 use Rattle.imago_access.specs.Parts.{PartCause, DeclinableCause}

@@ -6,7 +6,7 @@ use Rattle.std.proofs.lemmas.Bool.{cases_lt}
 use Rattle.imago_storage.specs.Steps.{IsIn, IsOut}
 use Rattle.imago_access.specs.Layer.{Layer, Fixed, loose}
 use Rattle.imago_access.specs.Changes.{Wrote}
-use Rattle.imago_access.specs.Zeroings.{IsZeroedBy}
+use Rattle.imago_access.specs.RangeCalls.{IsZeroedBy}
 use Rattle.imago_access.specs.declared.access.zeroing.Zeroing.{Zeroing}
 use Rattle.imago_access.specs.declared.access.zeroing.Zeroing.TheVariants.{Keep, GiveUp}
 use Rattle.imago_access.specs.Room.{IsWholeUnit, IsOfUnit, IsApart, Reaches, IsGivenUp, IsGivenUpTo, LeavesRoom, Takes, GivesUp}

@@ -5,6 +5,7 @@ pub mod Layers
 pub mod Files
 pub mod Mappings
 pub mod Kinds
+pub mod RangeCalls
 pub mod Refusals
 pub mod Changes
 pub mod Spending
@@ -19,8 +20,6 @@ pub mod ResizeCalls
 pub mod Running
 pub mod ChainCalls
 pub mod ChainLooks
-pub mod Discards
-pub mod Zeroings
 pub mod RunCalls
 pub mod Building
 pub mod FileReads

@@ -13,7 +13,7 @@ use Rattle.imago_access.specs.declared.access.discarding.Discarding.{Discarding}
 use Rattle.imago_access.specs.Chain.{at, IsBacked}
 use Rattle.imago_access.specs.ChainLooks.{ShowBytes}
 use Rattle.imago_access.specs.Changes.{Committed, Cancelled}
-use Rattle.imago_access.specs.Discards.{GivesDiscarded, discard_by}
+use Rattle.imago_access.specs.RangeCalls.{GivesDiscarded, discard_by, IsZeroedBy, zero_by}
 use Rattle.imago_access.specs.Failing.{FailsOver}
 use Rattle.imago_access.specs.Files.{WasNotCutOff, SomeRose, files}
 use Rattle.imago_access.specs.Parts.{IsPartOf, IsUncutPart, announces, PartCause, MappedCause}
@@ -22,7 +22,6 @@ use Rattle.imago_access.specs.Room.{IsApart, IsUncutAt, Reaches, IsUndeclined, I
 use Rattle.imago_access.specs.Running.{IsIntact, IsBetween, Ran, RanAlone}
 use Rattle.imago_access.specs.Spending.{Spends}
 use Rattle.imago_access.specs.Stops.{KeepsStops, GivesBytes, GivesZero, GivesSettled}
-use Rattle.imago_access.specs.Zeroings.{IsZeroedBy, zero_by}
 
 -- a change of a range, in bytes
 pub data Work : Type 0 where

@@ -3,7 +3,7 @@ use Rattle.std.proofs.Common.{◌≡◌, ◌≢◌, ℕ, Bool, List, ◌++◌, A
 use Rattle.std.specs.Io.BufRead.{take_through, drop_through, DropsThrough}
 use Rattle.std.specs.Io.KnownBytes.{Consumes}
 use Rattle.std.proofs.BufReadLemmas.{take_through-append, drop_through-append}
-use Rattle.qimg_chain.specs.ReaderParts.{ReadsPart}
+use Rattle.qimg_chain.specs.ScriptLimits.{ReadsPart}
 
 -- behind parts without a line feed the rest of the line is read
 pub line-read : (first left rest : Option (List ℕ)) (old new : List ℕ) (ended : Bool) → ended ≡ true → Consumes first left old → All (λ b. b ≢ 10) old → ReadsPart left rest old new ended

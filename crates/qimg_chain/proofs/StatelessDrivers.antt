@@ -14,7 +14,7 @@ use Rattle.imago_access.specs.Refusals.{barrier}
 use Rattle.imago_access.specs.Spending.{CommitCheck, GivenBack, IsForeignTo, Spends, commit_refusal}
 use Rattle.imago_formats.proofs.Quiet.{commits_same, unchanged_same}
 use Rattle.qcow2_image.specs.declared.qcow2.PreparedMappingState.{PreparedMappingState}
-use Rattle.qimg_chain.specs.Stateless.{IsSpent, IsGivenBack, IsOwn, IsOthers}
+use Rattle.qimg_chain.specs.ImageDrivers.{IsSpent, IsGivenBack, IsOwn, IsOthers}
 use Rattle.std.proofs.lemmas.Bool.{eq-eqb, ne_eqb}
 
 -- It prepares no mapping with state, has the number 0, and says of itself whether it is ready and was opened for writing.

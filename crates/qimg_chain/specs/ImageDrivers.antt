@@ -1,4 +1,5 @@
--- The kinds of layers that a chain of image files has.
+-- The kinds of layers that a chain of image files has, and how one without mappings of its own spends one.
+use Rattle.std.specs.Prelude.{◌≡◌, ◌≢◌, ⊤, Bool, Option, Some, None, IsTrue, IsOk, Result, Err}
 use Rattle.imago_storage.specs.Steps.{Call}
 use Rattle.imago_storage.specs.declared.storage.Storage.{Ghosts}
 use Rattle.imago_formats.specs.declared.raw.Raw.{Raw}
@@ -6,6 +7,9 @@ use Rattle.imago_formats.specs.declared.vmdk.driver.Vmdk.{Vmdk}
 use Rattle.qcow2_image.specs.declared.qcow2.Qcow2.{Qcow2}
 use Rattle.qimg_chain.specs.declared.chain.image_driver.ImageDriver.{ImageDriver}
 use Rattle.qimg_chain.specs.declared.chain.image_driver.ImageDriver.TheVariants as variant
+use Rattle.imago_storage.specs.declared.fault.Fault.{Fault}
+use Rattle.imago_access.specs.Spending.{CommitCheck}
+use Rattle.qcow2_image.specs.declared.qcow2.PreparedMappingState.{PreparedMappingState}
 
 -- A call has begun at a moment of a layer, and is going on at another: both are of one kind, and its driver says so.
 abbrev pub began_as : {S : Type 0} {g : Ghosts S} → (Raw S → Call → Raw S → Type 0) → (Vmdk S → Call → Vmdk S → Type 0)
@@ -14,3 +18,24 @@ began_as raw vmdk qcow2 (variant.Raw d) call (variant.Raw now) = raw d call now
 began_as raw vmdk qcow2 (variant.Vmdk d) call (variant.Vmdk now) = vmdk d call now
 began_as raw vmdk qcow2 (variant.Qcow2 d) call (variant.Qcow2 now) = qcow2 d call now
 began_as raw vmdk qcow2 d call now = ⊥
+
+-- A mapping's state, if it has any, of an image that prepares none with state, and has the number 0: it has none, or was prepared under
+-- that number;
+abbrev pub IsOwn : Option PreparedMappingState → Type 0
+IsOwn None = ⊤
+IsOwn (Some s) = s.number ≡ 0
+
+-- it was prepared under another;
+abbrev pub IsOthers : Option PreparedMappingState → Type 0
+IsOthers None = ⊥
+IsOthers (Some s) = s.number ≢ 0
+
+-- the image is ready to commit a mapping of this state;
+abbrev pub IsSpent : Result Unit Fault → Bool → Option PreparedMappingState → Type 0
+IsSpent ready writable None = IsOk ready
+IsSpent ready writable (Some s) = IsOk ready × IsTrue writable × (s.number ≡ 0)
+
+-- or why it isn't.
+abbrev pub IsGivenBack : Result Unit Fault → Bool → Option PreparedMappingState → Fault → Type 0
+IsGivenBack ready writable None fault = ready ≡ Err fault
+IsGivenBack ready writable (Some s) fault = CommitCheck ready writable 0 s.number fault

@@ -11,7 +11,6 @@ pub mod FurtherFiles
 pub mod Headline
 pub mod ImageDrivers
 pub mod PlainReads
-pub mod ReaderParts
 pub mod Refusals
 pub mod RunAnswers
 pub mod RunCalls
@@ -22,5 +21,4 @@ pub mod ScriptParts
 pub mod ScriptRuns
 pub mod ScriptWords
 pub mod Snapshots
-pub mod Stateless
 pub mod ToldStops

@@ -1,7 +1,7 @@
 // Discards that may leave parts of their range as they are.
 ghost use Rattle.std.specs.Prelude.{ℕ, ◌≡◌, ◌↔◌, ◌<◌, ◌+◌, ◌^◌, IsTrue, length, map, IsOk, IfOk, IfErr, IsErrOf, Some};
 ghost use Rattle.imago_storage.specs.Steps.{discard_to_any, discard_to_backing, IsIn};
-ghost use Rattle.imago_access.specs.Discards.{discard_by};
+ghost use Rattle.imago_access.specs.RangeCalls.{discard_by};
 ghost use Rattle.imago_access.specs.Layer.{IsFree, IsLike};
 ghost use Rattle.imago_access.specs.Room.{GivesUp};
 ghost use Rattle.imago_access.specs.Files.{WasNotCutOff, IsDeclined};

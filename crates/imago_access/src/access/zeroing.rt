@@ -10,7 +10,7 @@ ghost use Rattle.imago_access.specs.Changes.{Rewrites, PartRewrites, ToZero, Wro
 ghost use Rattle.imago_access.specs.Parts.{IsPartOf};
 ghost use Rattle.imago_access.specs.Refusals.{barrier};
 ghost use Rattle.imago_access.specs.Stops.{KeepsStops, GivesBytes, GivesZero};
-ghost use Rattle.imago_access.specs.Zeroings.{zero_by};
+ghost use Rattle.imago_access.specs.RangeCalls.{zero_by};
 ghost use Rattle.imago_access.specs.Running.{IsIntact, RanChain, below_ghosts};
 ghost use Rattle.imago_access.specs.ChainCalls.{ChainFails, chain_refusal, EndsAtOnce, IfMild, CallRefused, GivesUnitsUp, GivesUpNear, IsCarriedOut, IsDoneInPart, TakesNear, ZeroesUnits};
 ghost use Rattle.imago_access.specs.Failing.{Fails};

@@ -2,7 +2,7 @@
 // `PreparedDataMapping::existing`. qemu has no `QCowL2Meta` for it.
 ghost use Rattle.std.specs.Prelude.{◌≡◌, Some, None, OnOk, IfErr};
 ghost use Rattle.imago_storage.specs.declared.fault.Fault.TheVariants.{Foreign};
-ghost use Rattle.qimg_chain.specs.Stateless.{IsSpent, IsGivenBack, IsOwn, IsOthers};
+ghost use Rattle.qimg_chain.specs.ImageDrivers.{IsSpent, IsGivenBack, IsOwn, IsOthers};
 
 use imago_access::{PreparedDataMapping, check_commit};
 use imago_formats::NoState;

@@ -2,7 +2,7 @@
 ghost use Rattle.std.specs.Prelude.{◌≡◌, ◌≢◌, ◌≤◌, [], length, take, All, IfOk, IfErr, IfSome, OnOk, IsTrue, IsFalse};
 ghost use Rattle.std.specs.Io.{IsEmptyOrEndsWith, StopsAt};
 ghost use Rattle.std.specs.Io.BufRead.{take_through, DropsThrough};
-ghost use Rattle.qimg_chain.specs.ReaderParts.{ReadsPart};
+ghost use Rattle.qimg_chain.specs.ScriptLimits.{ReadsPart};
 ghost use Rattle.qimg_chain.specs.ScriptRuns.{IsReadingFault};
 
 use super::fault::RunFault;

@@ -5,7 +5,7 @@ use Rattle.imago_access.specs.Layer.{Layer, Fixed}
 use Rattle.imago_access.specs.Room.{Reaches}
 use Rattle.imago_access.proofs.Room.{room_same, gives_up_both, given_none, given_part, given_both, given_rest}
 use Rattle.imago_access.specs.Files.{IsMild, IsDeclined, files}
-use Rattle.imago_access.specs.Discards.{GivesDiscarded}
+use Rattle.imago_access.specs.RangeCalls.{GivesDiscarded}
 use Rattle.imago_access.specs.Parts.{IsPartOf}
 use Rattle.imago_access.proofs.ChangeCauses.{part_cause_later, undeclined_cause}
 use Rattle.imago_access.proofs.Discarding.{declined_mild, undeclined, like_both, intact_alone, went_alone, then_discarded}

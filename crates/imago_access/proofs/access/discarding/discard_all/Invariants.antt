@@ -2,7 +2,7 @@ use Rattle.std.proofs.Common.{◌-◌, ◌≡◌, ◌≤◌, List}
 use Rattle.std.specs.Prelude.{⊤}
 use Rattle.imago_storage.specs.Steps.{Call}
 use Rattle.imago_access.specs.Layer.{Layer, IsLike}
-use Rattle.imago_access.specs.Discards.{GivesDiscarded}
+use Rattle.imago_access.specs.RangeCalls.{GivesDiscarded}
 use Rattle.imago_access.specs.Room.{GivesUp, IsGivenUpTo}
 use Rattle.imago_access.specs.Parts.{IsPartOf}
 use Rattle.imago_access.specs.Running.{RanAlone}

@@ -2,7 +2,7 @@ use Rattle.std.proofs.Common.{sym, subst}
 use Rattle.imago_access.specs.Changes.{ToAny, ToBelow}
 use Rattle.imago_access.specs.Stops.{KeepsStops, GivesAny, GivesBelow}
 use Rattle.imago_access.specs.Running.{IsBetween}
-use Rattle.imago_access.specs.Discards.{GivesDiscarded, discard_by}
+use Rattle.imago_access.specs.RangeCalls.{GivesDiscarded, discard_by}
 use Rattle.imago_access.specs.PartCalls.{PartRefused}
 use Rattle.imago_access.specs.declared.access.discarding.Discarding.{Discarding}
 use Rattle.imago_access.proofs.Rewriting.{result_between, any_shows, below_shows}

@@ -11,7 +11,7 @@ use Rattle.imago_access.proofs.Answers.{handed_on}
 use Rattle.imago_access.proofs.Uncut.{uncut_start, uncut_end, uncut_later, part_within}
 use Rattle.imago_access.specs.declared.access.zeroing.Zeroing.TheVariants as zeroing_is
 use Rattle.imago_access.proofs.Room.{room_same, room_then, out_wider, given_none, given_both, ended_apart, left_on}
-use Rattle.imago_access.specs.Zeroings.{IsZeroedBy}
+use Rattle.imago_access.specs.RangeCalls.{IsZeroedBy}
 use Rattle.imago_access.specs.Running.{IsBetween}
 use Rattle.imago_access.specs.Stops.{GivesZero}
 use Rattle.imago_access.proofs.Running.{ran_same, ran_both, ran_weaker}

@@ -8,7 +8,7 @@ use Rattle.imago_storage.specs.Steps.{IsOut}
 use Rattle.imago_access.specs.Parts.{IsPartOf}
 use Rattle.imago_access.specs.Room.{IsApart, IsUncutAt, LeavesRoom, IsGivenUpTo, IsUndeclined}
 use Rattle.imago_access.specs.declared.access.zeroing.Zeroing.TheVariants as zeroing_is
-use Rattle.imago_access.specs.Zeroings.{IsZeroedBy, zero_by}
+use Rattle.imago_access.specs.RangeCalls.{IsZeroedBy, zero_by}
 use Rattle.imago_access.specs.PartCalls.{IsFor}
 use Rattle.imago_access.specs.Running.{IsIntact, Ran}
 use Rattle.imago_access.specs.Stops.{GivesZero}

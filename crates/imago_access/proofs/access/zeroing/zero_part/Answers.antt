@@ -1,7 +1,7 @@
 use Rattle.std.proofs.Common.{ℕ, sym, subst}
 use Rattle.std.specs.Prelude.{IfOk}
 use Rattle.imago_storage.specs.Steps.{IsIn}
-use Rattle.imago_access.specs.Zeroings.{IsZeroedBy, zero_by}
+use Rattle.imago_access.specs.RangeCalls.{IsZeroedBy, zero_by}
 use Rattle.imago_access.specs.PartCalls.{PartRefused}
 use Rattle.imago_access.specs.declared.access.zeroing.Zeroing.{Zeroing}
 use Rattle.imago_access.proofs.access.zeroing.zero_part.Goals as goal

@@ -9,7 +9,7 @@ use Rattle.imago_access.proofs.Answers.{handed_on}
 use Rattle.imago_access.proofs.Uncut.{uncut_start, part_within}
 use Rattle.imago_access.specs.declared.access.zeroing.Zeroing.TheVariants as zeroing_is
 use Rattle.imago_access.proofs.Room.{room_both, apart_out, apart_wider, given_on, begun_apart, left_on}
-use Rattle.imago_access.specs.Zeroings.{IsZeroedBy}
+use Rattle.imago_access.specs.RangeCalls.{IsZeroedBy}
 use Rattle.imago_access.specs.Stops.{GivesZero}
 use Rattle.imago_access.proofs.ChangeCauses.{part_cause_left}
 use Rattle.imago_access.proofs.Running.{ran_both}

@@ -1,0 +1,28 @@
+-- By which calls of a driver zeroings and discards of a chain are done, and what they leave and give at the places of their range.
+use Rattle.std.specs.Prelude.{ℕ, List}
+use Rattle.imago_storage.specs.Disk.{Value}
+use Rattle.imago_access.specs.Layer.{Layer}
+use Rattle.imago_access.specs.Stops.{GivesAny, GivesBelow}
+use Rattle.imago_access.specs.PartCalls.{PartCall, ensures_zero, discards_to_zero, discards_to_any, discards_to_backing}
+use Rattle.imago_access.specs.declared.access.discarding.Discarding.{Discarding}
+use Rattle.imago_access.specs.declared.access.discarding.Discarding.TheVariants.{ToAny, ToBacking}
+use Rattle.imago_access.specs.declared.access.zeroing.Zeroing.{Zeroing}
+use Rattle.imago_access.specs.declared.access.zeroing.Zeroing.TheVariants.{Keep, GiveUp}
+
+abbrev pub zero_by : Zeroing → PartCall
+zero_by Keep = ensures_zero
+zero_by GiveUp = discards_to_zero
+
+-- a zeroing leaves a place zeroed or, where room is given up, vacant
+abbrev pub IsZeroedBy : Zeroing → (ℕ → Type 0) → (ℕ → Type 0) → ℕ → Type 0
+IsZeroedBy Keep vacant zeroed = zeroed
+IsZeroedBy GiveUp vacant zeroed = vacant
+
+abbrev pub discard_by : Discarding → PartCall
+discard_by ToAny = discards_to_any
+discard_by ToBacking = discards_to_backing
+
+-- a discard gives any byte, or what the layers below show
+abbrev pub GivesDiscarded : Discarding → List Layer → ℕ → ℕ → ℕ → Value → Type 0
+GivesDiscarded ToAny below offset n = GivesAny offset n
+GivesDiscarded ToBacking below offset n = GivesBelow below offset n
