@@ -29,6 +29,7 @@ as_kind f h g = record {
   safe = λ d. h.safe (f d);
   still = λ d. h.still (f d);
   lasts = λ d. h.lasts (f d);
+  surplus = λ d. h.surplus (f d);
   vacant = λ d. h.vacant (f d);
   has_room = λ d. h.has_room (f d);
   zeroed = λ d. h.zeroed (f d);
@@ -59,6 +60,7 @@ module _ {D E St Su : Type 0} (f : D → E) (h : Ghosts E Su) (g : Ghosts D St) 
     safely = u.safely;
     stilled = u.stilled;
     lasting = u.lasting;
+    surplus = u.surplus;
     room = λ safe. takes_in (λ _. ⊤) (u.room safe);
     began = on;
   }
@@ -102,6 +104,7 @@ module _ {D E St Su : Type 0} (f : D → E) (h : Ghosts E Su) (g : Ghosts D St) 
     faults = w.faults;
     safely = w.safely;
     lasting = w.lasting;
+    surplus = w.surplus;
   }
 
   -- a read of a file as it stands
@@ -114,6 +117,7 @@ module _ {D E St Su : Type 0} (f : D → E) (h : Ghosts E Su) (g : Ghosts D St) 
     safely = r.safely;
     stilled = r.stilled;
     lasting = r.lasting;
+    surplus = r.surplus;
     room = λ safe. takes_in (λ _. ⊤) (r.room safe);
     began = on;
   }

@@ -51,6 +51,7 @@ cluster_fixed shape d = record {
   granularity = None;
   kind = 0;
   means = λ f. record { size = d.size; cell = meant_by d.content (blank_of d.backed) f };
+  leaks = λ f c. 0;
   exact = false;
   marks = true;
   states_room = true;

@@ -293,6 +293,8 @@ impl<S: Storage> Seen for OneCluster<S> {
 
     ghost lasts = { λ _. ⊤ };
 
+    ghost surplus = { λ _ c. 0 };
+
     ghost vacant = { λ d. IsBare d.content d.size };
 
     ghost has_room = { λ d. HasRoom d.content d.size };

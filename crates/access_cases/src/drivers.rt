@@ -79,6 +79,8 @@ impl<S: Storage> Seen for Driver<S> {
 
     ghost lasts = { elim [ driver.Raw r ↦ r.size ≤ length (S.state r.storage).bytes | driver.Words w ↦ ⊤ ] };
 
+    ghost surplus = { λ _ c. 0 };
+
     ghost vacant = { elim [ driver.Raw r ↦ ⟦<Raw<S> as Seen>⟧.vacant r | driver.Words w ↦ ⟦<OneCluster<S> as Seen>⟧.vacant w ] };
 
     ghost has_room = { elim [ driver.Raw r ↦ ⟦<Raw<S> as Seen>⟧.has_room r | driver.Words w ↦ ⟦<OneCluster<S> as Seen>⟧.has_room w ] };

@@ -55,6 +55,7 @@ module _ {D St : Type 0} (g : Ghosts D St) where
     safely = λ s. s;
     stilled = λ s. s;
     lasting = λ l. l;
+    surplus = λ s c. refl;
     room = λ s. room_same g (λ _. ⊤) (λ _. ⊤) d;
     began = λ x call b. b;
   }
@@ -68,6 +69,7 @@ module _ {D St : Type 0} (g : Ghosts D St) where
     safely = λ s. second.safely (first.safely s);
     stilled = λ s. second.stilled (first.stilled s);
     lasting = λ l. second.lasting (first.lasting l);
+    surplus = λ s n. second.surplus (first.safely s) n ∙ first.surplus s n;
     room = λ s. takes_both g (λ _. ⊤) (λ _. ⊤) (λ _. ⊤) a b c (λ p there. (tt, tt)) (first.room s) (second.room (first.safely s));
     began = λ x call begun. second.began x call (first.began x call begun);
   }
@@ -87,6 +89,7 @@ module _ {D St : Type 0} (g : Ghosts D St) where
     safely = λ w s. r.safely s;
     cut = inr (record { seen = λ see. (r.layer, r.seen see); safely = r.safely });
     lasting = r.lasting;
+    surplus = λ w. r.surplus;
     kept = λ s. (r.kept, r.stilled s);
     stops = λ s below. let k = r.kept.0.0 in
         passes_none (Left below (g.layer a) (g.image a).bytes g.sound (g.layer a).size (g.layer a).size GivesNone) (g.image a) (g.image b) k.shape (k.stop, k.past, k.bytes, k.refusals);

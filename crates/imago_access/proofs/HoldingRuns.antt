@@ -9,7 +9,7 @@ use Rattle.imago_access.specs.Layer.{Layer, Cell, Held, loose, through, IsFree, 
 use Rattle.imago_access.specs.Chain.{at}
 use Rattle.imago_access.specs.Changes.{asking, run_at, Prepared, NotPrepared, Wrote, Committed, Cancelled, IsHolding, TakesByte, Settles}
 use Rattle.imago_access.specs.Files.{IsMild, WasNotCutOff}
-use Rattle.imago_access.specs.Going.{Went, LookedUnder}
+use Rattle.imago_access.specs.Going.{KeepsSurplus, LookedUnder, Went}
 use Rattle.imago_access.specs.Parts.{IsMappedAt}
 use Rattle.imago_access.specs.Running.{IsTruly, HoldsTrue, IsIntact, Ran, RanAlone, alone_ghosts}
 use Rattle.imago_access.specs.Spending.{claim_of, IsMine, Spends}
@@ -154,12 +154,12 @@ module _ {D St B : Type 0} (g : Ghosts D St) (u : GhostsBelow B) where
   pub ran_given_up : (state : Option St) (whole : Type 0) (gives : ℕ → Value → Type 0) (a b c : D) (x : B) → (free_loose : (d : D) → IsFree (g.layer d) → (p : ℕ) → (g.layer d).held p ≡ loose)
       → IsLike (g.layer a) (g.layer b) → Went g whole whole a b → IsMine g state (g.layer b) → (state ≡ None → IsFree (g.layer b))
       → (whole → g.safe a → g.layer b ≡ g.layer a)
-      → Spends g state (g.layer b) (g.layer c) (Cancelled (g.layer b) (g.layer c)) → (g.safe b → g.safe c) → (g.lasts b → g.lasts c) → g.image c ≡ g.image b → g.extras c ≡ g.extras b
+      → Spends g state (g.layer b) (g.layer c) (Cancelled (g.layer b) (g.layer c)) → (g.safe b → g.safe c) → (g.lasts b → g.lasts c) → (g.safe b → KeepsSurplus g b c) → g.image c ≡ g.image b → g.extras c ≡ g.extras b
       → (g.safe a → (below : List Layer) → KeepsStops g below gives a b)
       → Ran g u whole gives (a, x) (c, x)
-  ran_given_up state whole gives a b c x free_loose like went mine stateless stayed spends safely lasting same same' stops =
+  ran_given_up state whole gives a b c x free_loose like went mine stateless stayed spends safely lasting surplus same same' stops =
       let size : (g.layer c).size ≡ (g.layer a).size = given_up_size g state (g.layer b) (g.layer c) mine spends ∙ like.size in
-      ran_driver g u whole gives a c x size (went_then g whole whole a b c (given_up_fixed g state (g.layer b) (g.layer c) mine spends) (given_up_failed g state (g.layer b) (g.layer c) mine spends) same same' safely lasting went)
+      ran_driver g u whole gives a c x size (went_then g whole whole a b c (given_up_fixed g state (g.layer b) (g.layer c) mine spends) (given_up_failed g state (g.layer b) (g.layer c) mine spends) same same' safely lasting surplus went)
       (λ w i. holds_loose (at (u.under x)) (g.layer c) (free_loose c (given_up_free g state (g.layer b) (g.layer c) mine stateless spends)))
       (λ w i p lt. inl (at_alike (g.layer a) (g.layer c) (u.under x) p size
       (ap (λ (f : ℕ → Cell). through (f p) (at (u.under x) p)) (given_up_cell g state (g.layer b) (g.layer c) mine spends ∙ ap (λ (l : Layer). l.cell) (stayed w i.is_safe)))))
@@ -167,14 +167,14 @@ module _ {D St B : Type 0} (g : Ghosts D St) (u : GhostsBelow B) where
 
   -- writes to a mapping that is given up then
   pub ran_abandoned : (state : Option St) (whole : Type 0) (gives : ℕ → Value → Type 0) (a b c : D) (x : B) → (free_loose : (d : D) → IsFree (g.layer d) → (p : ℕ) → (g.layer d).held p ≡ loose)
-      → IsMine g state (g.layer b) → (state ≡ None → IsFree (g.layer b)) → Spends g state (g.layer b) (g.layer c) (Cancelled (g.layer b) (g.layer c)) → (g.safe b → g.safe c) → (g.lasts b → g.lasts c) → g.image c ≡ g.image b → g.extras c ≡ g.extras b
+      → IsMine g state (g.layer b) → (state ≡ None → IsFree (g.layer b)) → Spends g state (g.layer b) (g.layer c) (Cancelled (g.layer b) (g.layer c)) → (g.safe b → g.safe c) → (g.lasts b → g.lasts c) → (g.safe b → KeepsSurplus g b c) → g.image c ≡ g.image b → g.extras c ≡ g.extras b
       → Ran g u whole gives (a, x) (b, x) → Ran g u whole gives (a, x) (c, x)
-  ran_abandoned state whole gives a b c x free_loose mine stateless spends safely lasting same same' ran =
+  ran_abandoned state whole gives a b c x free_loose mine stateless spends safely lasting surplus same same' ran =
       let size : (g.layer c).size ≡ (g.layer b).size = given_up_size g state (g.layer b) (g.layer c) mine spends in
       let alike : (p : ℕ) → at (g.layer c ∷ u.under x) p ≡ at (g.layer b ∷ u.under x) p = λ p.
       at_alike (g.layer b) (g.layer c) (u.under x) p size (ap (λ (f : ℕ → Cell). through (f p) (at (u.under x) p)) (given_up_cell g state (g.layer b) (g.layer c) mine spends)) in
       ran_over g u whole gives a c x x (size ∙ ran.size)
-      (went_then g whole (whole × u.sees_under x) a b c (given_up_fixed g state (g.layer b) (g.layer c) mine spends) (given_up_failed g state (g.layer b) (g.layer c) mine spends) same same' safely lasting ran.went) ran.looked
+      (went_then g whole (whole × u.sees_under x) a b c (given_up_fixed g state (g.layer b) (g.layer c) mine spends) (given_up_failed g state (g.layer b) (g.layer c) mine spends) same same' safely lasting surplus ran.went) ran.looked
       (λ w i. holds_loose (at (u.under x)) (g.layer c) (free_loose c (given_up_free g state (g.layer b) (g.layer c) mine stateless spends)))
       (λ w i p lt. elim (ran.values w i p lt) [ inl was ↦ inl (alike p ∙ was) | inr gave ↦ inr (subst (gives p) (sym (alike p)) gave) ])
       (λ i. passes_on (Left (u.under x) (g.layer a) (g.image a).bytes g.sound (g.layer a).size (g.layer a).size gives) (g.image a) (g.image b) (g.image c) same (ran.stops i))

@@ -25,6 +25,7 @@ module _ {D St : Type 0} (g : Ghosts D St) where
     safely = λ h s. s;
     cut = inr (record { seen = λ see. (refl, see); safely = λ s. s });
     lasting = λ l. l;
+    surplus = λ h s c. refl;
     kept = λ s. (kept_all_same (files g d), s);
     stops = λ s below. passes_none (Left below (g.layer d) (g.image d).bytes g.sound (g.layer d).size (g.layer d).size GivesNone) (g.image d) (g.image d) refl (refl, refl, refl, refl);
   }
@@ -38,6 +39,7 @@ module _ {D St : Type 0} (g : Ghosts D St) where
     safely = λ x. h.safely (from x);
     cut = h.cut;
     lasting = h.lasting;
+    surplus = λ x. h.surplus (from x);
     kept = h.kept;
     stops = h.stops;
   }
@@ -69,6 +71,7 @@ module _ {D St : Type 0} (g : Ghosts D St) where
         })
       ];
       lasting = λ l. second.lasting (first.lasting l);
+      surplus = λ h s n. second.surplus h (first.safely tt s) n ∙ first.surplus tt s n;
       kept = λ s.
           let one = first.kept s in
           let two = second.kept one.1 in

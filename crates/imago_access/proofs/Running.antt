@@ -4,7 +4,7 @@ use Rattle.std.specs.Prelude.{⊤, IsTrue}
 use Rattle.imago_storage.specs.Disk.{Value}
 use Rattle.imago_access.specs.Layer.{Layer, Fixed, loose, IsFree}
 use Rattle.imago_access.specs.Chain.{at, IsBacked}
-use Rattle.imago_access.specs.Going.{Went, LookedUnder}
+use Rattle.imago_access.specs.Going.{KeepsSurplus, Went, WentAnew, LookedUnder}
 use Rattle.imago_access.specs.Stops.{KeepsStops, KeepsStopsTo, Left}
 use Rattle.imago_access.specs.Running.{IsTruly, HoldsTrue, IsIntact, IsBetween, Ran}
 use Rattle.imago_access.proofs.FilePairs.{later_all_same, later_all_both, faultless_all_same, faultless_all_both}
@@ -47,7 +47,12 @@ module _ {D St : Type 0} (g : Ghosts D St) where
     faults = λ h. faultless_all_same (files g d);
     safely = λ h s. s;
     lasting = λ l. l;
+    surplus = λ h s c. refl;
   }
+
+  -- a call that went on leaves what one that reads files anew does
+  pub went_anew : (ok whole : Type 0) (a b : D) → Went g ok whole a b → WentAnew g ok whole a b
+  went_anew ok whole a b h = record { fixed = h.fixed; failed = h.failed; later = h.later; faults = h.faults; safely = h.safely; lasting = h.lasting }
 
   pub went_weaker : (ok whole ok' whole' : Type 0) (a b : D) → (ok' → ok) → (whole' → whole) → Went g ok whole a b → Went g ok' whole' a b
   went_weaker ok whole ok' whole' a b from from' h = record {
@@ -57,17 +62,19 @@ module _ {D St : Type 0} (g : Ghosts D St) where
     faults = λ x. h.faults (from x);
     safely = λ x. h.safely (from' x);
     lasting = h.lasting;
+    surplus = λ x. h.surplus (from' x);
   }
 
   -- a call, and then one that makes no request
-  pub went_then : (ok whole : Type 0) (a b c : D) → (g.layer c).fixed ≡ (g.layer b).fixed → (IsTrue (g.layer b).failed → IsTrue (g.layer c).failed) → g.image c ≡ g.image b → g.extras c ≡ g.extras b → (g.safe b → g.safe c) → (g.lasts b → g.lasts c) → Went g ok whole a b → Went g ok whole a c
-  went_then ok whole a b c fixed failing same same' safely lasting h = record {
+  pub went_then : (ok whole : Type 0) (a b c : D) → (g.layer c).fixed ≡ (g.layer b).fixed → (IsTrue (g.layer b).failed → IsTrue (g.layer c).failed) → g.image c ≡ g.image b → g.extras c ≡ g.extras b → (g.safe b → g.safe c) → (g.lasts b → g.lasts c) → (g.safe b → KeepsSurplus g b c) → Went g ok whole a b → Went g ok whole a c
+  went_then ok whole a b c fixed failing same same' safely lasting surplus h = record {
     fixed = fixed ∙ h.fixed;
     failed = λ f. failing (h.failed f);
     later = rw (same, same') h.later;
     faults = λ good. rw (same, same') (h.faults good);
     safely = λ w s. safely (h.safely w s);
     lasting = λ l. lasting (h.lasting l);
+    surplus = λ w s n. surplus (h.safely w s) n ∙ h.surplus w s n;
   }
 
 module _ {D St B : Type 0} (g : Ghosts D St) (u : GhostsBelow B) where
@@ -122,6 +129,7 @@ module _ {D St B : Type 0} (g : Ghosts D St) (u : GhostsBelow B) where
       later = later_all_both (files g a) (files g b) (files g c) first.went.later second.went.later;
       faults = λ h. faultless_all_both (files g a) (files g b) (files g c) (first.went.faults tt) (second.went.faults h);
       lasting = λ l. second.went.lasting (first.went.lasting l);
+      surplus = λ h s n. second.went.surplus (h.0, (first.looked.stays tt h.1).1) (first.went.safely (tt, h.1) s) n ∙ first.went.surplus (tt, h.1) s n;
       safely = λ h s. second.went.safely (h.0, (first.looked.stays tt h.1).1) (first.went.safely (tt, h.1) s);
     };
     looked = looked_under_both u whole x y z first.looked second.looked;

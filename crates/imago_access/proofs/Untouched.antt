@@ -5,11 +5,11 @@ use Rattle.imago_storage.specs.Disk.{Value}
 use Rattle.imago_access.specs.Layer.{Layer}
 use Rattle.imago_access.specs.Chain.{at}
 use Rattle.imago_access.specs.Files.{Pairs}
-use Rattle.imago_access.specs.Going.{IsUnchanged, Went}
+use Rattle.imago_access.specs.Going.{IsUnchanged, Went, WentAnew}
 use Rattle.imago_access.specs.Running.{HoldsTrue, IsIntact, Ran}
 use Rattle.imago_access.specs.Stops.{KeepsStops}
 use Rattle.imago_access.proofs.Room.{room_same, takes_both}
-use Rattle.imago_access.proofs.Running.{went_same, ran_driver}
+use Rattle.imago_access.proofs.Running.{went_anew, went_same, ran_driver}
 use Rattle.imago_access.specs.declared.seen.Seen.{Ghosts}
 use Rattle.imago_access.specs.declared.seen.SeenBelow.{Ghosts as GhostsBelow}
 
@@ -22,6 +22,7 @@ unchanged_same g d = record {
   safely = λ s. s;
   stilled = λ s. s;
   lasting = λ l. l;
+  surplus = λ s c. refl;
   room = λ s. room_same g (λ _. ⊤) (λ _. ⊤) d;
   began = λ x call begun. begun;
 }
@@ -34,13 +35,14 @@ unchanged_both g a b c first second = record {
   safely = λ s. second.safely (first.safely s);
   stilled = λ s. second.stilled (first.stilled s);
   lasting = λ l. second.lasting (first.lasting l);
+  surplus = λ s n. second.surplus (first.safely s) n ∙ first.surplus s n;
   room = λ s. takes_both g (λ _. ⊤) (λ _. ⊤) (λ _. ⊤) a b c (λ p there. (tt, tt)) (first.room s) (second.room (first.safely s));
   began = λ x call begun. second.began x call (first.began x call begun);
 }
 
-pub all_went_same : {D St : Type 0} (g : Ghosts D St) (whole : Type 0) (ds : List D) → Pairs (Went g whole whole) ds ds
+pub all_went_same : {D St : Type 0} (g : Ghosts D St) (whole : Type 0) (ds : List D) → Pairs (WentAnew g whole whole) ds ds
 all_went_same g whole [] = tt
-all_went_same g whole (d ∷ ds) = (went_same g whole whole d, all_went_same g whole ds)
+all_went_same g whole (d ∷ ds) = (went_anew g whole whole d d (went_same g whole whole d), all_went_same g whole ds)
 
 -- A call on the driver alone that leaves the layer as it was.
 pub ran_kept : {D St B : Type 0} (g : Ghosts D St) (u : GhostsBelow B)

@@ -8,7 +8,7 @@ use Rattle.imago_access.specs.declared.seen.Seen.{Ghosts}
 use Rattle.imago_access.specs.Layer.{IsFree}
 use Rattle.imago_access.specs.Files.{IsKept}
 use Rattle.imago_access.specs.Refusals.{barrier}
-use Rattle.imago_access.specs.Stops.{IsWritten}
+use Rattle.imago_access.specs.Stops.{IsCounted, IsWritten}
 
 -- these options, or new ones, for writing or not
 abbrev pub options_with : Option OpenOptions → Bool → OpenOptions
@@ -16,9 +16,9 @@ options_with None writable = record { filename = None; writable = writable; dire
 options_with (Some options) writable = record options { writable = writable }
 
 -- A driver just opened, of this format, for writing or not, and with this number, over an image file that was so before. It shows what the
--- file means, and is as long; opening has only read that; nothing is prepared, nothing waits in memory, and it can be used: it has not
--- failed, and no file is missing. What lasts over each call holds from here on. Where the file is sound and its storage keeps what is
--- written, it is as an image that was found sound has to be.
+-- file means, and is as long; opening has only read that; nothing is prepared or else pending, nothing waits in memory, and it can be
+-- used: it has not failed, and no file is missing. What lasts over each call holds from here on. Where the file is sound and its storage
+-- keeps what is written, it is as an image that was found sound has to be.
 pub record IsOpened {D St : Type 0} (g : Ghosts D St) (format : Format) (writable : Bool)
     (number : ℕ) (before : StorageState) (d : D) : Type 0 where
   pub format_is : (g.layer d).fixed.format ≡ format
@@ -26,6 +26,7 @@ pub record IsOpened {D St : Type 0} (g : Ghosts D St) (format : Format) (writabl
   pub number_is : (g.layer d).fixed.number ≡ number
   pub size_is : (g.layer d).size ≡ ((g.layer d).fixed.means (g.image d).bytes).size
   pub meant : IsWritten g d
+  pub counted : IsCounted g d
   pub kept : IsKept before (g.image d)
   pub free : IsFree (g.layer d)
   pub usable : barrier (g.layer d) ≡ None

@@ -7,6 +7,7 @@ use Rattle.imago_storage.specs.declared.fault.Fault.{Fault}
 use Rattle.imago_storage.specs.declared.fault.Fault.TheVariants.{RangeOverflow, Memory, Storage}
 use Rattle.imago_access.specs.declared.seen.Seen.{Ghosts}
 use Rattle.imago_access.specs.Files.{Pairs, IsKept, SomeRose, files}
+use Rattle.imago_access.specs.Going.{KeepsSurplus}
 use Rattle.imago_access.specs.Room.{Takes}
 
 -- the bytes of the storage with this number: none where there is none
@@ -31,6 +32,7 @@ pub record FilesRead {D St : Type 0} (g : Ghosts D St) (whole : Type 0) (old new
   pub safely : g.safe old → g.safe new
   pub stilled : g.still old → g.still new
   pub lasting : g.lasts old → g.lasts new
+  pub surplus : g.safe old → KeepsSurplus g old new
   pub room : g.safe old → Takes g (λ _. ⊤) old new
   pub began : (d : D) (call : Call) → g.began d call old → g.began d call new
 

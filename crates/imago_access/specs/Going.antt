@@ -19,6 +19,10 @@ pub record IsKnown {D St : Type 0} (g : Ghosts D St) (old new : D) : Type 0 wher
   pub seen : g.sees old → (g.layer new ≡ g.layer old) × g.sees new
   pub safely : g.safe old → g.safe new
 
+-- Each cluster is counted beyond what names it, and what is pending, as often as it was: nothing comes to leak, or ceases to.
+abbrev pub KeepsSurplus : {D St : Type 0} → Ghosts D St → D → D → Type 0
+KeepsSurplus g old new = (c : ℕ) → g.surplus new c ≡ g.surplus old c
+
 -- All is as it was.
 pub record IsUnchanged {D St : Type 0} (g : Ghosts D St) (old new : D) : Type 0 where
   pub layer : g.layer new ≡ g.layer old
@@ -27,6 +31,7 @@ pub record IsUnchanged {D St : Type 0} (g : Ghosts D St) (old new : D) : Type 0 
   pub safely : g.safe old → g.safe new
   pub stilled : g.still old → g.still new
   pub lasting : g.lasts old → g.lasts new
+  pub surplus : g.safe old → KeepsSurplus g old new
   pub room : g.safe old → Takes g (λ _. ⊤) old new
   pub began : (d : D) (call : Call) → g.began d call old → g.began d call new
 
@@ -89,11 +94,22 @@ pub record Looked {D St : Type 0} (g : Ghosts D St) (whole : Type 0) (old new : 
   -- one that was cut off has failed, or left what reads and changes rest on
   pub cut : IsTrue (g.layer new).failed ⊎ IsKnown g old new
   pub lasting : g.lasts old → g.lasts new
+  pub surplus : whole → g.safe old → KeepsSurplus g old new
   pub kept : g.still old → Pairs IsKept (files g old) (files g new) × g.still new
   pub stops : g.safe old → (below : List Layer) → KeepsStops g below GivesNone old new
 
 -- a call that may change: an image that had failed has failed still
 pub record Went {D St : Type 0} (g : Ghosts D St) (ok whole : Type 0) (old new : D) : Type 0 where
+  pub fixed : (g.layer new).fixed ≡ (g.layer old).fixed
+  pub failed : IsTrue (g.layer old).failed → IsTrue (g.layer new).failed
+  pub later : Pairs IsLater (files g old) (files g new)
+  pub faults : ok → Pairs IsFaultless (files g old) (files g new)
+  pub safely : whole → g.safe old → g.safe new
+  pub lasting : g.lasts old → g.lasts new
+  pub surplus : whole → g.safe old → KeepsSurplus g old new
+
+-- The same of one that reads its files anew. What was to be freed, and isn't yet, leaks then.
+pub record WentAnew {D St : Type 0} (g : Ghosts D St) (ok whole : Type 0) (old new : D) : Type 0 where
   pub fixed : (g.layer new).fixed ≡ (g.layer old).fixed
   pub failed : IsTrue (g.layer old).failed → IsTrue (g.layer new).failed
   pub later : Pairs IsLater (files g old) (files g new)

@@ -54,6 +54,8 @@ pub record Fixed : Type 0 where
   -- which kind of image its file has to be, and what each file of that kind means
   pub kind : ℕ
   pub means : List ℕ → Meaning
+  -- how often each cluster of such a file is counted beyond what names it, which is what leaks: 0 in a format that counts none
+  pub leaks : List ℕ → ℕ → ℕ
   -- its file states the size of the disk
   pub exact : Bool
   -- a call that want of memory or a storage's fault cut off marks the image failed, or has left all as it was

@@ -10,7 +10,7 @@ use Rattle.imago_access.specs.Layer.{Layer, IsFree, IsLike, loose}
 use Rattle.imago_access.specs.Chain.{at}
 use Rattle.imago_access.specs.Room.{IsApart, IsUncutAt, Takes}
 use Rattle.imago_access.specs.Files.{ImageCause, IsMild, WasNotCutOff, Unasked, files}
-use Rattle.imago_access.specs.Going.{IsUnchanged, Marks, MarksOver, Went}
+use Rattle.imago_access.specs.Going.{IsUnchanged, KeepsSurplus, Marks, MarksOver, Went}
 use Rattle.imago_access.specs.Changes.{Asked, Prepared, NotPrepared, Wrote, Committed, Cancelled}
 use Rattle.imago_access.specs.Spending.{run_of, IsMine, Spends, IsSpending, commit_refusal, GivenBack, IsForeignTo}
 use Rattle.imago_access.specs.Parts.{IsPartOf, IsUncutPart, announces, PartCause, IsMappedAt, MappedCause}
@@ -88,6 +88,7 @@ pub record Cancels {D St : Type 0} (g : Ghosts D St) (mapping : PreparedDataMapp
   pub failed : (g.layer new).failed ≡ (g.layer old).failed
   pub none : Unasked g old new
   pub lasts : g.lasts old → g.lasts new
+  pub surplus : IsMine g mapping.state (g.layer old) → g.safe old → KeepsSurplus g old new
   pub sees : g.sees old → g.sees new
   pub safe : IsMine g mapping.state (g.layer old) → g.safe old → g.safe new
   pub room : g.safe old → IsMine g mapping.state (g.layer old) → Takes g (λ _. ⊤) old new

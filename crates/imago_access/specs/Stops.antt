@@ -97,6 +97,10 @@ pub record IsMeant (layer : Layer) (f : List ℕ) : Type 0 where
 abbrev pub IsWritten : {D St : Type 0} → Ghosts D St → D → Type 0
 IsWritten g d = IsMeant (g.layer d) (g.image d).bytes
 
+-- Nothing is pending: what each cluster is counted beyond what names it leaks in the file.
+abbrev pub IsCounted : {D St : Type 0} → Ghosts D St → D → Type 0
+IsCounted g d = (c : ℕ) → g.surplus d c ≡ (g.layer d).fixed.leaks (g.image d).bytes c
+
 -- the file is sound, and not shorter than the disk
 pub record IsCovered (layer : Layer) (sound : ℕ → List ℕ → Type 0) (f : List ℕ) : Type 0 where
   pub is_sound : sound layer.fixed.kind f

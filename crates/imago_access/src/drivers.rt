@@ -8,11 +8,11 @@ ghost use Rattle.imago_access.specs.Chain.{at};
 ghost use Rattle.imago_access.specs.Room.{SaysRoom};
 ghost use Rattle.imago_access.specs.Files.{AreRead, OverflowsIn, Pairs, IsKept, IsStorageAt, WasNotCutOff, IsStale, files};
 ghost use Rattle.imago_access.specs.PartCalls.{IsPart, DoesPart, PartRefused, ensures_zero, discards_to_zero, discards_to_any, discards_to_backing};
-ghost use Rattle.imago_access.specs.Going.{AtOnce, RangeAtOnce, KeepsWhatIsFlushed, IsUnchanged, Marks, Looked, LookedUnder, Went};
+ghost use Rattle.imago_access.specs.Going.{AtOnce, RangeAtOnce, KeepsWhatIsFlushed, IsUnchanged, Marks, Looked, LookedUnder, Went, WentAnew};
 ghost use Rattle.imago_access.specs.Mappings.{IsRun, IsOneOf, IsMappedRun, LooksIn, NamesRoomIn, States};
 ghost use Rattle.imago_access.specs.Refusals.{barrier, own_refusal, IsOfStorages};
 ghost use Rattle.imago_access.specs.Changes.{asking};
-ghost use Rattle.imago_access.specs.Stops.{IsWritten, IsCovered, KeepsStops, MakesNone, GivesNone};
+ghost use Rattle.imago_access.specs.Stops.{IsWritten, IsCounted, IsCovered, KeepsStops, MakesNone, GivesNone};
 ghost use Rattle.imago_storage.specs.declared.fault.Fault.{Fault};
 ghost use Rattle.imago_storage.specs.declared.fault.Fault.TheVariants.{Barred};
 ghost use Rattle.imago_access.specs.Failing.{Fails, RefusesLookup, RefusesRead, RefusesFlush, RefusesReload};
@@ -329,7 +329,7 @@ pub trait FormatDriverInstance: Seen {
         ensures refused { PartRefused discards_to_backing Self.Seen offset length result self.old self.new };
 
     /// Hands all that waits in memory to its files, and flushes these. While nothing is prepared, its files alone then mean what the
-    /// layer shows.
+    /// layer shows, and leak what each cluster is counted beyond what names it.
     ///
     /// It refuses with `Fault::Memory` and `Fault::Storage`.
     fn flush(&mut self, alloc: Global) -> Result<(), Fault>
@@ -337,6 +337,7 @@ pub trait FormatDriverInstance: Seen {
         ensures sees { Self.sees self.old → OnOk result ((Self.layer self.new ≡ Self.layer self.old) × Self.sees self.new) }
         ensures still { OnOk result (Self.still self.new) }
         ensures written { Self.safe self.old → IsFree (Self.layer self.old) → OnOk result (IsWritten Self.Seen self.new) }
+        ensures counted { Self.safe self.old → IsFree (Self.layer self.old) → OnOk result (IsCounted Self.Seen self.new) }
         ensures stops { Self.safe self.old → (below : List Layer) → KeepsStops Self.Seen below GivesNone self.old self.new }
 
         // When it ends at once, and what it keeps.
@@ -384,7 +385,7 @@ pub trait FormatDriverInstance: Seen {
 
         // When it ends at once, and what it keeps.
         ensures at_once { AtOnce Self.Seen (barrier (Self.layer self.old)) ⊥ result self.old self.new }
-        ensures went { Went Self.Seen (IsOk result) (IsOk result) self.old self.new }
+        ensures went { WentAnew Self.Seen (IsOk result) (IsOk result) self.old self.new }
 
         // Why it is refused, and what that marks.
         ensures failed { IfErr result (λ e. IsStale e → IsTrue (Self.layer self.new).failed) }

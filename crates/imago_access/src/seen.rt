@@ -35,6 +35,10 @@ pub trait Seen {
     /// What lasts of it over each call, also over one that want of memory or a storage cut off.
     ghost lasts: { Self → Type 0 };
 
+    /// How often each cluster of its file is counted there beyond what names it, and beyond what is pending: what is still to be named, or
+    /// to be freed. Where nothing is pending that is what leaks. A format that counts none says 0.
+    ghost surplus: { Self → ℕ → ℕ };
+
     /// Nothing is allocated for a place that the format could give up. Places past the disk's end may count as vacant.
     ghost vacant: { Self → ℕ → Type 0 };
 

@@ -55,6 +55,7 @@ module _ {D St : Type 0} (g : Ghosts D St) where
     safely = λ w s. keeps.safely s;
     cut = inr (record { seen = λ see. (keeps.layer, keeps.sees see); safely = keeps.safely });
     lasting = keeps.lasting;
+    surplus = λ w. keeps.surplus;
     kept = λ s. (keeps.kept, keeps.stilled s);
     stops = λ s below. let k = keeps.kept.0.0 in
         passes_none (Left below (g.layer old) (g.image old).bytes g.sound (g.layer old).size (g.layer old).size GivesNone) (g.image old) (g.image new) k.shape (k.stop, k.past, k.bytes, k.refusals);
@@ -68,13 +69,14 @@ module _ {D St : Type 0} (g : Ghosts D St) where
     faults = sound;
     safely = λ w s. keeps.safely s;
     lasting = keeps.lasting;
+    surplus = λ w. keeps.surplus;
   }
 
   stops_to : (below : List Layer) (least most : ℕ) (gives : ℕ → Value → Type 0) (d : D) → KeepsStopsTo g below least most gives d d
   stops_to below least most gives d = passes_none (Left below (g.layer d) (g.image d).bytes g.sound least most gives) (g.image d) (g.image d) refl (refl, refl, refl, refl)
 
   pub went_same : (ok whole : Type 0) (d : D) → Went g ok whole d d
-  went_same ok whole d = record { fixed = refl; failed = λ f. f; later = later_all_same (files g d); faults = λ h. faultless_all_same (files g d); safely = λ h s. s; lasting = λ l. l }
+  went_same ok whole d = record { fixed = refl; failed = λ f. f; later = later_all_same (files g d); faults = λ h. faultless_all_same (files g d); safely = λ h s. s; lasting = λ l. l; surplus = λ h s c. refl }
 
   takes_same : (d : D) → Takes g (λ _. ⊤) d d
   takes_same d = record { kept = λ p l h. h; free = λ p s h. h; zeroes = λ p l s h. h }
@@ -88,6 +90,7 @@ module _ {D St : Type 0} (g : Ghosts D St) where
     safely = λ s. s;
     stilled = λ s. s;
     lasting = λ l. l;
+    surplus = λ s c. refl;
     room = λ safe. takes_same d;
     began = λ x call b. b;
   }
@@ -100,6 +103,7 @@ module _ {D St : Type 0} (g : Ghosts D St) where
     safely = λ s. s;
     stilled = λ s. s;
     lasting = λ l. l;
+    surplus = λ s c. refl;
   }
 
   leaves_same : (call : PartCall) (offset n : ℕ) (d : D) → LeavesPart call g offset n d d

@@ -77,6 +77,7 @@ layer_kept extents image image' files files' kept =
         granularity = None;
         kind = 0;
         means = λ f. meaning_of (descriptor_of f) (λ k p. bytes k p i);
+        leaks = λ f c. 0;
         exact = true;
         marks = false;
         states_room = false;

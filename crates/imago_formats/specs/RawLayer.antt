@@ -27,6 +27,7 @@ raw_fixed shape writable = record {
   granularity = Some (max (unit_of shape) shape.zero_align);
   kind = 0;
   means = raw_meaning;
+  leaks = λ f c. 0;
   exact = false;
   marks = false;
   states_room = false;

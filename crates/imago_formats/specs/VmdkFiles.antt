@@ -4,6 +4,7 @@ use Rattle.imago_storage.specs.State.{StorageState}
 use Rattle.imago_storage.specs.declared.fault.Fault.{Fault}
 use Rattle.imago_storage.specs.declared.fault.Fault.TheVariants.{Memory, Storage, MissingData, ReadOnly}
 use Rattle.imago_access.specs.Layer.{Layer}
+use Rattle.imago_access.specs.Going.{KeepsSurplus}
 use Rattle.imago_access.specs.Refusals.{barrier}
 use Rattle.imago_access.specs.Files.{IsKept, Pairs, SomeRose, files, greatest}
 use Rattle.imago_access.specs.declared.seen.Seen.{Ghosts}
@@ -37,3 +38,4 @@ pub record Keeps {D St : Type 0} (g : Ghosts D St) (old new : D) : Type 0 where
   pub safely : g.safe old → g.safe new
   pub stilled : g.still old → g.still new
   pub lasting : g.lasts old → g.lasts new
+  pub surplus : g.safe old → KeepsSurplus g old new

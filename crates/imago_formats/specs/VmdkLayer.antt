@@ -87,6 +87,7 @@ vmdk_fixed extents image files = record {
   granularity = None;
   kind = 0;
   means = λ f. meaning_of (descriptor_of f) (byte_in (image ∷ files));
+  leaks = λ f c. 0;
   exact = true;
   marks = false;
   states_room = false;

@@ -58,6 +58,7 @@ impl<S: Storage> FormatDriverBuilder<S> for RawOpenBuilder<S> {
       number_is = refl;
       size_is = as_long (S.state b.base.image) (S.state d.storage) d.size (ap S.state opens.0) (ap (λ (l : Layer). l.size) opens.1.0);
       meant = record { size = opens.1.1; exactly = never; cell = λ p low. refl };
+      counted = λ c. refl;
       kept = kept_same (S.state b.base.image) (S.state d.storage) (ap S.state opens.0);
       free = refl;
       usable = refl;
@@ -144,6 +145,7 @@ impl<S: Storage> FormatDriverBuilder<S> for VmdkOpenBuilder<S> {
           number_is = refl;
           size_is = as_stated d.disk.extents.items (S.state d.image) (map S.state d.files.items) said;
           meant = written d.disk.extents.items (S.state d.image) (map S.state d.files.items) said;
+          counted = λ c. refl;
           kept = kept;
           free = refl;
           usable = opens.3;

@@ -273,6 +273,8 @@ impl<S: Storage> Seen for Raw<S> {
 
     ghost lasts = { λ r. r.size ≤ length (S.state r.storage).bytes };
 
+    ghost surplus = { λ _ c. 0 };
+
     ghost vacant = { λ d p. ⊤ };
 
     ghost has_room = { λ d p. ⊥ };

@@ -51,6 +51,7 @@ use Rattle.qcow2_image.proofs.CallNeeds.{settles-byte, since-as}
 use Rattle.qcow2_image.proofs.Steps.{memory-is}
 use Rattle.qcow2_image.proofs.SearchStart.{counted-same}
 use Rattle.qcow2_image.proofs.CommitLeaks.{dropped-leaks, spent-leaks}
+use Rattle.qcow2_image.proofs.LeaksByFile.{surplus-kept}
 
 abbrev Answer : Type 0
 Answer = Result Unit (Fault × Option (PreparedDataMapping PreparedMappingState))
@@ -103,6 +104,7 @@ module _ (R : RattleType) (st : Ghosts R.Denot) (sd : mir.Syntax.Dict) (dd : mir
     faults = λ _. ((refl, refl), tt);
     safely = λ _ safe. safe;
     lasting = λ l. l;
+    surplus = λ _ safe c. refl;
   }
 
   module _ (state : PreparedMappingState) (old new : Qcow2 R.Denot st) (own : state.number ≡ old.number) where
@@ -148,6 +150,7 @@ module _ (R : RattleType) (st : Ghosts R.Denot) (sd : mir.Syntax.Dict) (dd : mir
           faults = λ whole. (s.names.faults (subst going.WasNotCutOff (sym is) tt), tt);
           safely = λ whole safe. safe-now st state.claim old new result s safe is;
           lasting = λ l. l;
+          surplus = λ whole safe. surplus-kept st old new (spent-leaks st state.claim old new result s safe is);
         };
         sees = λ none. absurd (cc none);
         began = λ d call begun mine safe.
@@ -173,6 +176,7 @@ module _ (R : RattleType) (st : Ghosts R.Denot) (sd : mir.Syntax.Dict) (dd : mir
           faults = λ mild. (s.names.faults (subst going.WasNotCutOff (sym is) (whole-below {T = Unit} (Err fault) mild)), tt);
           safely = λ whole safe. absurd (cc whole.0);
           lasting = λ l. l;
+          surplus = λ whole safe. absurd (cc whole.0);
         };
         sees = λ none. absurd (cc none);
         began = λ d call begun mine. tt;
@@ -424,6 +428,7 @@ module _ (R : RattleType) (st : Ghosts R.Denot) (sd : mir.Syntax.Dict) (dd : mir
       failed = refl;
       none = (refl, refl);
       lasts = λ l. l;
+      surplus = λ mine safe c. refl;
       sees = λ seen. seen;
       safe = λ mine safe. safe;
       room = λ safe mine. absurd (other (mine-claim mine));
@@ -441,6 +446,7 @@ module _ (R : RattleType) (st : Ghosts R.Denot) (sd : mir.Syntax.Dict) (dd : mir
       failed = failed-same st state.claim old new s;
       none = (state-same st state.claim old new s, refl);
       lasts = λ l. l;
+      surplus = λ mine safe. surplus-kept st old new (dropped-leaks st state.claim old new s safe);
       sees = sees-still st state.claim old new s;
       safe = λ mine. safe-after st state.claim old new s;
       room = λ safe mine. record {

@@ -11,6 +11,7 @@ use Rattle.qcow2_image.specs.contracts.qcow2.Qcow2Seen.TheImpl.{ghosts}
 use Rattle.qcow2_image.specs.declared.qcow2.Qcow2.{Qcow2}
 use Rattle.qcow2_image.proofs.RequestsWithoutChanges.{asked-keeps}
 use Rattle.qcow2_image.proofs.Steps.{layer-same, spared}
+use Rattle.qcow2_image.proofs.LeaksByFile.{leaks-kept, surplus-kept}
 
 -- A request that only reads, and marks nothing: all but the count of faults is as it was. It keeps what one keeps that memory was wanting
 -- for, which marks nothing, either.
@@ -31,6 +32,7 @@ file-read R st sd dd old new whole kept later faults header l1 caches space mode
       safely = all.known.safely;
       stilled = all.stilled;
       lasting = λ l. l;
+      surplus = λ safe. surplus-kept st old new (leaks-kept st {T = Unit} old new wanting keeps);
       room = all.room;
       began = all.began;
     }

@@ -10,8 +10,8 @@ use Rattle.imago_storage.specs.declared.storage.Storage.{Ghosts}
 use Rattle.imago_access.specs.Failing.{Fails, RefusesFlush}
 use Rattle.imago_access.specs.Files.{WasNotCutOff}
 use Rattle.imago_access.specs.Going.{Marks, Went}
-use Rattle.imago_access.specs.Layer.{IsLike}
-use Rattle.imago_access.specs.Stops.{IsWritten}
+use Rattle.imago_access.specs.Layer.{IsFree, IsLike}
+use Rattle.imago_access.specs.Stops.{IsWritten, IsCounted}
 use Rattle.imago_access.specs.declared.seen.Seen.{Ghosts as SeenGhosts}
 use Rattle.qcow2_alloc.specs.Causes.{HasCause}
 use Rattle.qcow2_alloc.specs.Going.{IsNoShorter}
@@ -31,6 +31,8 @@ use Rattle.qcow2_image.proofs.Leaks.{leaks-both}
 use Rattle.qcow2_image.proofs.DiskEffects.{kept-disk, keeps-disk-both, keeps-image-disk}
 use Rattle.qcow2_image.proofs.Anew.{on-ok}
 use Rattle.qcow2_image.proofs.RequestsWithoutChanges.{asked-keeps, meant, ok-whole}
+use Rattle.qcow2_image.proofs.LeaksByFile.{surplus-kept}
+use Rattle.qcow2_image.proofs.Pending.{counted-idle}
 
 -- An image that was safe but for a failure is safe where it didn't fail.
 pub safe-again : {S : Type 0} (g : Ghosts S) (d : Qcow2 S g) → d.failed ≡ false → WasSafe g d → IsSafe g d
@@ -102,14 +104,15 @@ module _ (R : RattleType) (st : Ghosts R.Denot) (sd : mir.Syntax.Dict) (dd : mir
       failed = k.failed;
     }
 
-    pub went-disk : Went sees ok ok old new
-    went-disk = record {
+    pub went-disk : (IsSafe st old → ok → KeepsLeaks st old new) → Went sees ok ok old new
+    went-disk leaks = record {
       fixed = fixed-kept;
       failed = k.failed;
       later = ((k.shape, k.later), tt);
       faults = λ whole. (k.faults whole, tt);
       safely = λ whole safe. k.safely safe whole;
       lasting = λ l. l;
+      surplus = λ whole safe. surplus-kept st old new (leaks safe whole);
     }
 
 -- What a flush leaves of an image of which something waited to be freed.
@@ -134,8 +137,14 @@ module _ (R : RattleType) (st : Ghosts R.Denot) (sd : mir.Syntax.Dict) (dd : mir
   freed-written safe = ok-whole result _ (λ whole.
       meant st new.tables new.mode new.failed new.number (holding_in st new.unspent) (freed.keeps.safely safe whole).seen)
 
+  pub freed-counted : IsSafe st old → IsFree (layer_of st old) → OnOk result (IsCounted driver new)
+  freed-counted safe free = from result freed.emptied (λ ok. freed.keeps.safely safe ok) where
+    from : (r : Result Unit Fault) → OnOk r (waits_in new.tables.space ≡ false) → (WasNotCutOff r → IsSafe st new) → OnOk r (IsCounted driver new)
+    from (Ok done) none safely = counted-idle st new (safely tt).seen.loads none (ap (λ u. claim_held (holding_in st u)) freed.keeps.unspent ∙ free)
+    from (Err fault) none safely = tt
+
   pub freed-went : Went driver (WasNotCutOff result) (WasNotCutOff result) old new
-  freed-went = went-disk R st sd dd old new (WasNotCutOff result) freed.keeps
+  freed-went = went-disk R st sd dd old new (WasNotCutOff result) freed.keeps freed.leaks
 
   pub freed-like : IsLike (layer_of st old) (layer_of st new)
   freed-like = like-kept R st sd dd old new (WasNotCutOff result) freed.keeps

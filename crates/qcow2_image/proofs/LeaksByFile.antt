@@ -5,13 +5,17 @@ use Rattle.imago_storage.specs.declared.storage.Storage.{Ghosts}
 use Rattle.qcow2_types.specs.Bytes.{bytes_of}
 use Rattle.qcow2_types.specs.Counts.{count}
 use Rattle.qcow2_types.specs.References.{refs}
-use Rattle.qcow2_image.specs.Leaking.{KeepsLeaks, counts_in, names_in, pending, reserved_in, waiting_in}
+use Rattle.qcow2_image.specs.Leaking.{KeepsLeaks, counts_in, names_in, pending, reserved_in, surplus_of, waiting_in}
 use Rattle.qcow2_image.specs.Seen.{file_of}
 use Rattle.qcow2_image.specs.Steps.{KeepsImage}
 use Rattle.qcow2_image.specs.Unspent.{holding_in}
 use Rattle.qcow2_image.specs.declared.qcow2.Qcow2.{Qcow2}
 
 module _ {S : Type 0} (g : Ghosts S) where
+  -- Where leaks are kept, each cluster is counted beyond what names it, and what is pending of it, as often as it was.
+  pub surplus-kept : (old new : Qcow2 S g) → KeepsLeaks g old new → (c : ℕ) → surplus_of g new c ≡ surplus_of g old c
+  surplus-kept old new keeps c = let one = keeps c in omega (arith, one)
+
   -- A file that stays as it was leaks no more.
   pub leaks-same : (old new : Qcow2 S g) → file_of g new.tables ≡ file_of g old.tables → new.tables.file.header ≡ old.tables.file.header
       → ((c : ℕ) → pending g new c ≡ pending g old c) → KeepsLeaks g old new

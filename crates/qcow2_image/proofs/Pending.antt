@@ -1,18 +1,20 @@
 -- When nothing of an image is pending, and what calls leave of its leaks together.
-use Rattle.std.proofs.Common.{◌≡◌, ℕ, ◌+◌, refl, arith, ap, sym, ◌∙◌, Bool, true, false, List, [], ◌∷◌, length, Option, Some, None}
+use Rattle.std.proofs.Common.{◌≡◌, ℕ, ◌+◌, ◌-◌, refl, arith, ap, sym, ◌∙◌, Bool, true, false, List, [], ◌∷◌, length, Option, Some, None}
 use Rattle.std.proofs.lemmas.Bool.{ne_eqb}
-use Rattle.std.specs.Prelude.{not, ◌==◌}
+use Rattle.std.specs.Prelude.{not, ◌==◌, Ok}
 use Rattle.imago_storage.specs.State.{StorageState}
 use Rattle.imago_storage.specs.declared.storage.Storage.{Ghosts}
 use Rattle.imago_access.specs.Layer.{IsFree}
+use Rattle.qcow2_types.specs.Header.{header_of}
 use Rattle.qcow2_types.specs.Pending.{FreeEntry}
 use Rattle.qcow2_alloc.specs.FreeList.{listed}
 use Rattle.qcow2_clusters.specs.declared.space.Space.{Space}
 use Rattle.qcow2_image.specs.Allocating.{waits_in}
 use Rattle.qcow2_image.specs.Holding.{Holding, claim_held}
-use Rattle.qcow2_image.specs.Leaking.{KeepsLeaks, counts_in, names_in, pending, reserved_in, waiting_in}
+use Rattle.qcow2_image.specs.Leaking.{KeepsLeaks, counts_in, names_in, pending, reserved_in, surplus_of, waiting_in}
 use Rattle.qcow2_image.specs.Opening.{IsOpenedAs}
-use Rattle.qcow2_image.specs.Seen.{layer_of}
+use Rattle.qcow2_image.specs.ImageLayer.{qcow2_leaks, surplus_in}
+use Rattle.qcow2_image.specs.Seen.{file_of, layer_of}
 use Rattle.qcow2_image.specs.Unspent.{holding_in}
 use Rattle.qcow2_image.specs.declared.qcow2.Qcow2.{Qcow2}
 use Rattle.qcow2_image.proofs.ClusterSteps.{idle-waits}
@@ -50,3 +52,12 @@ module _ {S : Type 0} (g : Ghosts S) where
   pub leaks-alike : (old new : Qcow2 S g) → KeepsLeaks g old new → ((c : ℕ) → pending g old c ≡ 0) → ((c : ℕ) → pending g new c ≡ 0)
       → (c : ℕ) → counts_in g new c + names_in g old c ≡ counts_in g old c + names_in g new c
   leaks-alike old new keeps none none' c = let all = keeps c in let was = none c in let is = none' c in omega (arith, all, was, is)
+
+  -- Where nothing is, its file leaks what is counted beyond names.
+  pub counted-idle : (d : Qcow2 S g) → header_of false (file_of g d.tables) ≡ Ok d.tables.file.header → waits_in d.tables.space ≡ false
+      → IsFree (layer_of g d) → (c : ℕ) → surplus_of g d c ≡ qcow2_leaks (g.state d.tables.file.image).bytes c
+  counted-idle d loads none free c =
+      let idle = none-pending d none free c in
+      let by : surplus_in (file_of g d.tables) (header_of false (file_of g d.tables)) c ≡ counts_in g d c - names_in g d c =
+      ap (λ r. surplus_in (file_of g d.tables) r c) loads in
+      omega (arith, idle, by)

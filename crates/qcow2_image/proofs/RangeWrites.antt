@@ -67,6 +67,7 @@ use Rattle.qcow2_image.proofs.Leaks.{noted-reserved}
 use Rattle.qcow2_image.proofs.WritePlaces.{IsWrittenIn, held-beside, held-range, held-still, noted-claim, noted-homes, unshown-in, written-at, written-in}
 use Rattle.qcow2_image.proofs.WritesInPlace.{IsWrittenAt, written-beside, rewritten-kept, rewritten-consistent, rewritten-entries, rewritten-others, rewritten-range, kept-l1-words, kept-l2-words, kept-l1-sound}
 use Rattle.qcow2_image.proofs.SearchStart.{counted-still}
+use Rattle.qcow2_image.proofs.LeaksByFile.{surplus-kept}
 
 -- What a call leaves of each stop, of a storage of which nothing but the count of faults was another before.
 pub passes-kept : (P : List ℕ → Type 0) (s t u : StorageState) → KeptStorage s t → Passes P t u → Passes P s u
@@ -673,6 +674,7 @@ module _ (R : RattleType) (st : Ghosts R.Denot) (sd : mir.Syntax.Dict) (dd : mir
       faults = λ whole. (faults-written result w.put.answer whole, tt);
       safely = λ whole. safely-written result w.put.answer w.notes w.failed whole;
       lasting = λ l. l;
+      surplus = λ whole safe. surplus-kept st old new (leaks-of result w.put.answer w.notes w.failed safe whole);
     };
     began = began-written result w.put.answer w.notes w.failed;
   }

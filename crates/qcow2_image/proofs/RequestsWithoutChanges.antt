@@ -12,7 +12,7 @@ use Rattle.imago_storage.specs.Steps.{Call}
 use Rattle.imago_access.proofs.Marking.{plain_mild}
 use Rattle.imago_access.specs.Files.{WasNotCutOff, IsMild, ImageCause, files}
 use Rattle.imago_access.specs.PartCalls.{PartCall, PartRefused}
-use Rattle.imago_access.specs.Going.{Marks, Went}
+use Rattle.imago_access.specs.Going.{Marks, WentAnew}
 use Rattle.imago_access.specs.Layer.{Layer, Meaning}
 use Rattle.imago_access.specs.Parts.{DeclinableCause}
 use Rattle.imago_access.specs.Stops.{IsMeant}
@@ -184,7 +184,7 @@ module _ (R : RattleType) (st : Ghosts R.Denot) (sd : mir.Syntax.Dict) (dd : mir
       })
       (mode i) (number i)
 
-  pub anew-went : Went sees (IsOk result) (IsOk result) old new
+  pub anew-went : WentAnew sees (IsOk result) (IsOk result) old new
   anew-went = record {
     fixed = fixed-anew;
     failed = from result failed;

@@ -1,17 +1,18 @@
 -- Files that are counted as often beyond what names them leak the same clusters, by whatever headers.
-use Rattle.std.proofs.Common.{◌≡◌, ℕ, zero, suc, ◌+◌, ◌-◌, ◌*◌, ◌<◌, ◌≤◌, add-suc, arith, refl, ap, sym, ◌∙◌, inl, inr, [], ◌∷◌, ◌++◌}
-use Rattle.std.specs.Prelude.{Bool, if◌then◌else◌}
+use Rattle.std.proofs.Common.{◌≡◌, ℕ, zero, suc, ◌+◌, ◌-◌, ◌*◌, ◌<◌, ◌≤◌, add-suc, arith, refl, ap, sym, ◌∙◌, inl, inr, [], ◌∷◌, ◌++◌, List, true, false}
+use Rattle.std.specs.Prelude.{Bool, Ok, if◌then◌else◌}
 use Rattle.std.proofs.lemmas.Bool.{cases_lt, lt-ltb, le-ltb}
 use Rattle.std.proofs.lemmas.List.{append-nil}
 use Rattle.imago_storage.specs.declared.storage.Storage.{Ghosts}
-use Rattle.qcow2_types.specs.Bytes.{Bytes}
-use Rattle.qcow2_types.specs.Consistency.{leak_at, leaks, leaks_below}
+use Rattle.qcow2_types.specs.Bytes.{Bytes, bytes_of}
+use Rattle.qcow2_types.specs.Consistency.{IsConsistent, leak_at, leaks, leaks_below}
 use Rattle.qcow2_types.specs.Counts.{count, counters_of_block}
-use Rattle.qcow2_types.specs.Header.{Fields, refcount_table_entries}
+use Rattle.qcow2_types.specs.Header.{Fields, Header, header_of, refcount_table_entries}
 use Rattle.qcow2_types.specs.References.{refs}
-use Rattle.qcow2_types.proofs.Counting.Consistent.{consistent-shaped}
+use Rattle.qcow2_types.proofs.Counting.Consistent.{consistent-shaped, header-reading}
 use Rattle.qcow2_types.proofs.Counting.Counters.{some-counters}
 use Rattle.qcow2_types.proofs.Counting.Leaks.{count-beyond, no-leak}
+use Rattle.qcow2_image.specs.ImageLayer.{qcow2_leaks, surplus_in}
 use Rattle.qcow2_image.specs.Leaking.{KeepsLeaks, leaks_of, pending}
 use Rattle.qcow2_image.specs.Rooms.{IsSafe}
 use Rattle.qcow2_image.specs.Seen.{file_of}
@@ -27,16 +28,15 @@ skipped f h n (suc k) none =
     let here : leak_at f h (n + k) ≡ [] = none (n + k) (omega arith) in
     ap (leaks_below f h) more ∙ (ap (λ r. leaks_below f h (n + k) ++ r) here ∙ (append-nil (leaks_below f h (n + k)) ∙ skipped f h n k none))
 
-module _ (f g : Bytes) (h h' : Fields) (same : (c : ℕ) → count g h' c + refs f h c ≡ count f h c + refs g h' c) where
+module _ (f g : Bytes) (h h' : Fields) (same : (c : ℕ) → count g h' c - refs g h' c ≡ count f h c - refs f h c) where
   leak-same : (c : ℕ) → leak_at g h' c ≡ leak_at f h c
   leak-same c =
-      let is : count g h' c + refs f h c ≡ count f h c + refs g h' c = same c in
+      let is : count g h' c - refs g h' c ≡ count f h c - refs f h c = same c in
       elim (cases_lt (refs f h c) (count f h c)) [
         | inl more ↦
             let less : refs g h' c < count g h' c = omega arith in
-            let by : count g h' c - refs g h' c ≡ count f h c - refs f h c = omega arith in
             ap (λ (b : Bool). if b then (c, count g h' c - refs g h' c) ∷ [] else []) (lt-ltb _ _ less)
-            ∙ (ap (λ (n : ℕ). (c, n) ∷ []) by ∙ sym (ap (λ (b : Bool). if b then (c, count f h c - refs f h c) ∷ [] else []) (lt-ltb _ _ more)))
+            ∙ (ap (λ (n : ℕ). (c, n) ∷ []) is ∙ sym (ap (λ (b : Bool). if b then (c, count f h c - refs f h c) ∷ [] else []) (lt-ltb _ _ more)))
         | inr few ↦
             let none : count g h' c ≤ refs g h' c = omega arith in
             ap (λ (b : Bool). if b then (c, count g h' c - refs g h' c) ∷ [] else []) (le-ltb _ _ none)
@@ -72,6 +72,16 @@ pub leaks-listed : {S : Type 0} (g : Ghosts S) (old new : Qcow2 S g) → IsSafe 
     → ((c : ℕ) → pending g old c ≡ 0) → ((c : ℕ) → pending g new c ≡ 0) → leaks_of g new ≡ leaks_of g old
 leaks-listed g old new safe safe' keeps none none' =
     same-leaks (file_of g old.tables) (file_of g new.tables) old.tables.file.header.fields new.tables.file.header.fields
-    (leaks-alike g old new keeps none none')
+    (λ c. let all = leaks-alike g old new keeps none none' c in omega (arith, all))
     (some-counters old.tables.file.header.fields (consistent-shaped (file_of g old.tables) old.tables.file.header safe.consistent))
     (some-counters new.tables.file.header.fields (consistent-shaped (file_of g new.tables) new.tables.file.header safe'.consistent))
+
+-- So do consistent files.
+pub files-alike : (one other : List ℕ) (H K : Header) → IsConsistent (bytes_of one) H → IsConsistent (bytes_of other) K
+    → ((c : ℕ) → qcow2_leaks other c ≡ qcow2_leaks one c) → leaks (bytes_of other) K.fields ≡ leaks (bytes_of one) H.fields
+files-alike one other H K was is same =
+    let by = λ (bytes : List ℕ) (L : Header) (loads : header_of true (bytes_of bytes) ≡ Ok L) (c : ℕ).
+    ap (λ r. surplus_in (bytes_of bytes) r c) (header-reading (bytes_of bytes) L loads) in
+    same-leaks (bytes_of one) (bytes_of other) H.fields K.fields
+    (λ c. sym (by other K is.readable.loads c) ∙ (same c ∙ by one H was.readable.loads c))
+    (some-counters H.fields (consistent-shaped (bytes_of one) H was)) (some-counters K.fields (consistent-shaped (bytes_of other) K is))

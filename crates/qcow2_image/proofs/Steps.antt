@@ -35,7 +35,7 @@ use Rattle.qcow2_image.specs.Unspent.{holding_in}
 use Rattle.qcow2_image.specs.Steps.{KeepsTables, KeepsImage, failed_by, failed_behind}
 use Rattle.qcow2_image.proofs.CallNeeds.{since-as}
 use Rattle.qcow2_image.proofs.SearchStart.{counted-same}
-use Rattle.qcow2_image.proofs.LeaksByFile.{leaks-kept}
+use Rattle.qcow2_image.proofs.LeaksByFile.{leaks-kept, surplus-kept}
 
 -- The layer is what its parts make it.
 pub layer-by : (s s' : StorageState) (m m' : Bytes) (h h' : Fields) (b b' : OpenMode) (n n' : ℕ) (f f' : Bool) (k k' : Option Holding) → s'.shape ≡ s.shape → s'.bytes ≡ s.bytes → m' ≡ m → h' ≡ h → b' ≡ b → n' ≡ n → f' ≡ f → k' ≡ k
@@ -289,6 +289,7 @@ module _ (R : RattleType) (st : Ghosts R.Denot) (sd : mir.Syntax.Dict) (dd : mir
       | inr same ↦ inr (known (k.failed ∙ same))
     ];
     lasting = λ l. l;
+    surplus = λ whole safe. surplus-kept st old new (leaks-kept st {T = T} old new result k);
     kept = λ still. (((k.tables.kept, k.tables.later.faults), tt), new.tables.clean);
     stops = λ safe below. passes_none (Left below (layer_of st old) s.bytes is_sound (layer_of st old).size (layer_of st old).size GivesNone) s s' k.tables.kept.shape (k.tables.kept.stop, k.tables.kept.past, k.tables.kept.bytes, k.tables.kept.refusals);
   }

@@ -1,6 +1,6 @@
 -- A qcow2 image as a layer of a chain: what its words and bytes say of each place.
 use Rattle.std.proofs.Common.{inl, inr, refl}
-use Rattle.std.specs.Prelude.{◌≡◌, ◌⊎◌, ℕ, ◌+◌, ◌*◌, ◌/◌, ◌%◌, ◌^◌, Bool, true, false, Option, Some, None, List, Result, Ok, Err, if◌then◌else◌, ltb, ◌&&◌, codes, ◌++◌}
+use Rattle.std.specs.Prelude.{◌≡◌, ◌⊎◌, ℕ, ◌+◌, ◌-◌, ◌*◌, ◌/◌, ◌%◌, ◌^◌, Bool, true, false, Option, Some, None, List, Result, Ok, Err, if◌then◌else◌, ltb, ◌&&◌, codes, ◌++◌}
 use Rattle.imago_storage.specs.State.{Shape, StorageState}
 use Rattle.imago_storage.specs.Disk.{byte, barred, damaged_place}
 use Rattle.imago_storage.specs.declared.fault.Fault.{Fault}
@@ -9,7 +9,9 @@ use Rattle.imago_access.specs.declared.format.Format.TheVariants as format
 use Rattle.imago_access.specs.declared.mapping.ShallowMapping.{ShallowMapping}
 use Rattle.imago_access.specs.declared.mapping.ShallowMapping.TheVariants as shallow
 use Rattle.qcow2_types.specs.Bytes.{Bytes, bytes_of}
+use Rattle.qcow2_types.specs.Counts.{count}
 use Rattle.qcow2_types.specs.Header.{Fields, Header, header_of, cluster_size}
+use Rattle.qcow2_types.specs.References.{refs}
 use Rattle.qcow2_types.specs.Words.{Mapping, data_at, zeroes, packed, damaged}
 use Rattle.qcow2_types.specs.Words as words
 use Rattle.qcow2_types.specs.Entries.{entry}
@@ -41,6 +43,14 @@ meaning_of blank file (Err fault) = record { size = 0; cell = λ p. own damaged_
 abbrev pub qcow2_meaning : Cell → List ℕ → Meaning
 qcow2_meaning blank bytes = meaning_of blank (bytes_of bytes) (header_of false (bytes_of bytes))
 
+-- how often each cluster of a file is counted beyond what names it, by its header
+abbrev pub surplus_in : Bytes → Result Header Fault → ℕ → ℕ
+surplus_in file (Ok H) c = count file H.fields c - refs file H.fields c
+surplus_in file (Err fault) c = 0
+
+abbrev pub qcow2_leaks : List ℕ → ℕ → ℕ
+qcow2_leaks bytes = surplus_in (bytes_of bytes) (header_of false (bytes_of bytes))
+
 -- the alignment of the ranges that it can zero by itself
 abbrev pub granularity_of : Fields → Option ℕ
 granularity_of h = if ltb 2 h.version then Some (cluster_size h) else None
@@ -60,6 +70,7 @@ qcow2_fixed shape h mode number = record {
   granularity = granularity_of h;
   kind = 1;
   means = qcow2_meaning (blank_of mode.backing);
+  leaks = qcow2_leaks;
   exact = true;
   marks = true;
   states_room = true;

@@ -1,5 +1,5 @@
 -- What images leak: how often their clusters are counted beyond what names them, and beyond what is pending of them.
-use Rattle.std.specs.Prelude.{◌≡◌, ℕ, ◌+◌, Bool, true, false, List, Option, Some, None, Result, Ok, Err}
+use Rattle.std.specs.Prelude.{◌≡◌, ℕ, ◌+◌, ◌-◌, Bool, true, false, List, Option, Some, None, Result, Ok, Err}
 use Rattle.imago_storage.specs.declared.fault.Fault.{Fault}
 use Rattle.imago_storage.specs.declared.storage.Storage.{Ghosts}
 use Rattle.qcow2_types.specs.Consistency.{leaks}
@@ -38,6 +38,10 @@ counts_in g d c = count (file_of g d.tables) d.tables.file.header.fields c
 
 abbrev pub names_in : {S : Type 0} (g : Ghosts S) → Qcow2 S g → ℕ → ℕ
 names_in g d c = refs (file_of g d.tables) d.tables.file.header.fields c
+
+-- how often it is counted there beyond what names it, and beyond what is pending of it
+abbrev pub surplus_of : {S : Type 0} (g : Ghosts S) → Qcow2 S g → ℕ → ℕ
+surplus_of g d c = counts_in g d c - (names_in g d c + pending g d c)
 
 -- what leaks in the file, as a checker tells it
 abbrev pub leaks_of : {S : Type 0} (g : Ghosts S) → Qcow2 S g → List (ℕ × ℕ)

@@ -8,14 +8,14 @@ ghost use Rattle.imago_storage.specs.declared.fault.Fault.TheVariants.{Limit};
 ghost use Rattle.imago_access.specs.Changes.{asking};
 ghost use Rattle.imago_access.specs.Failing.{Fails, RefusesFlush, RefusesLookup, RefusesRead, RefusesReload};
 ghost use Rattle.imago_access.specs.Files.{AreRead, IsKept, IsMild, IsStale, OverflowsIn, Pairs, WasNotCutOff, files};
-ghost use Rattle.imago_access.specs.Going.{AtOnce, IsUnchanged, KeepsWhatIsFlushed, Looked, LookedUnder, Marks, RangeAtOnce, Went};
+ghost use Rattle.imago_access.specs.Going.{AtOnce, IsUnchanged, KeepsWhatIsFlushed, Looked, LookedUnder, Marks, RangeAtOnce, Went, WentAnew};
 ghost use Rattle.imago_access.specs.Layer.{IsFree, IsLike, Layer};
 ghost use Rattle.imago_access.specs.Mappings.{IsMappedRun, IsOneOf, IsRun, LooksIn, NamesRoomIn, States};
 ghost use Rattle.imago_access.specs.PartCalls.{DoesPart, IsPart, PartRefused, discards_to_any, discards_to_backing, discards_to_zero, ensures_zero};
 ghost use Rattle.imago_access.specs.PreparingCalls.{Cancels, Commits, CommitRefused, IsHeldBy, Prepares, WritesMapped, WritingRefused, nowhere};
 ghost use Rattle.imago_access.specs.Refusals.{barrier, own_refusal};
 ghost use Rattle.imago_access.specs.ResizeCalls.{GrowthRefused, Grows, IsUngrown, Resizes, ShrinkRefused, Shrinks};
-ghost use Rattle.imago_access.specs.Stops.{GivesNone, IsWritten, KeepsStops, MakesNone};
+ghost use Rattle.imago_access.specs.Stops.{GivesNone, IsCounted, IsWritten, KeepsStops, MakesNone};
 ghost use Rattle.qcow2_types.specs.Bytes.{bytes_of};
 ghost use Rattle.qcow2_types.specs.Header.{cluster_size};
 ghost use Rattle.qcow2_alloc.specs.Going.{IsNoShorter};
@@ -445,6 +445,7 @@ impl<S: Storage> FormatDriverInstance for Qcow2<S> {
             d.sees self.old → OnOk result ((d.layer self.new ≡ d.layer self.old) × d.sees self.new) }
         ensures still { OnOk result (⟦<Qcow2<S> as Seen>⟧.still self.new) }
         ensures written { let d = ⟦<Qcow2<S> as Seen>⟧ in d.safe self.old → IsFree (d.layer self.old) → OnOk result (IsWritten d self.new) }
+        ensures counted { let d = ⟦<Qcow2<S> as Seen>⟧ in d.safe self.old → IsFree (d.layer self.old) → OnOk result (IsCounted d self.new) }
         ensures stops { let d = ⟦<Qcow2<S> as Seen>⟧ in
             d.safe self.old → (below : List Layer) → KeepsStops d below GivesNone self.old self.new }
         ensures at_once { let d = ⟦<Qcow2<S> as Seen>⟧ in AtOnce d (barrier (d.layer self.old)) ⊥ result self.old self.new }
@@ -501,7 +502,7 @@ impl<S: Storage> FormatDriverInstance for Qcow2<S> {
         ensures still { OnOk result (⟦<Qcow2<S> as Seen>⟧.still self.new) }
         ensures free { IsFree (⟦<Qcow2<S> as Seen>⟧.layer self.new) }
         ensures at_once { let d = ⟦<Qcow2<S> as Seen>⟧ in AtOnce d (barrier (d.layer self.old)) ⊥ result self.old self.new }
-        ensures went { Went ⟦<Qcow2<S> as Seen>⟧ (IsOk result) (IsOk result) self.old self.new }
+        ensures went { WentAnew ⟦<Qcow2<S> as Seen>⟧ (IsOk result) (IsOk result) self.old self.new }
         ensures failed { IfErr result (λ e. IsStale e → IsTrue (⟦<Qcow2<S> as Seen>⟧.layer self.new).failed) }
         ensures marks { IfErr result (Marks ⟦<Qcow2<S> as Seen>⟧ self.old self.new) }
         ensures cause { IfErr result (RefusesReload ⟦<Qcow2<S> as Seen>⟧ self.old self.new) }

@@ -5,10 +5,11 @@ ghost use Rattle.std.specs.Prelude.{◌≡◌, ◌<◌, ◌+◌, ℕ, List, fals
 ghost use Rattle.imago_storage.specs.Disk.{Value};
 ghost use Rattle.imago_access.specs.Layer.{Cell, IsFree, through};
 ghost use Rattle.qcow2_types.specs.Bytes.{Bytes, bytes_of};
+ghost use Rattle.qcow2_types.specs.Consistency.{IsConsistent, leaks};
 ghost use Rattle.qcow2_types.specs.Disk.{in_qcow2, size_in_header};
 ghost use Rattle.qcow2_types.specs.Header.{Header, has_external_data, header_of};
 ghost use Rattle.qcow2_image.specs.Allocating.{waits_in};
-ghost use Rattle.qcow2_image.specs.ImageLayer.{qcow2_meaning};
+ghost use Rattle.qcow2_image.specs.ImageLayer.{qcow2_leaks, qcow2_meaning};
 ghost use Rattle.qcow2_image.specs.Leaking.{KeepsLeaks, counts_in, leaks_of, names_in, pending};
 ghost use Rattle.qcow2_image.specs.Opening.{IsOpenedAs};
 ghost use Rattle.qcow2_image.specs.Rooms.{IsSafe};
@@ -39,4 +40,11 @@ pub fn leaks_add_up<S: Storage>()
     ensures opened { (before writable backing number tables blocks d : _)
         → IsOpenedAs S.Storage before writable backing number tables blocks d → (c : ℕ) → pending S.Storage d c ≡ 0 }
     ensures none { (d : _) → waits_in d.tables.space ≡ false → IsFree (layer_of S.Storage d) → (c : ℕ) → pending S.Storage d c ≡ 0 }
+{}
+
+/// Consistent files in which each cluster is counted beyond what names it as often leak the same clusters, as a checker tells it. That is
+/// what a layer's file leaks, behind a flush with nothing prepared (`IsCounted`).
+pub fn consistent_files_leak_alike()
+    ensures { (one other : List ℕ) (H K : Header) → IsConsistent (bytes_of one) H → IsConsistent (bytes_of other) K
+        → ((c : ℕ) → qcow2_leaks other c ≡ qcow2_leaks one c) → leaks (bytes_of other) K.fields ≡ leaks (bytes_of one) H.fields }
 {}

@@ -13,6 +13,7 @@ ghost use Rattle.qcow2_alloc.specs.Caches.{cached_in};
 ghost use Rattle.qcow2_alloc.specs.Safety.{AreTablesClean, AreBlocksClean};
 ghost use Rattle.imago_access.specs.Layer.{IsFree};
 ghost use Rattle.qcow2_image.specs.ImageLayer.{qcow2_text};
+ghost use Rattle.qcow2_image.specs.Leaking.{surplus_of};
 ghost use Rattle.qcow2_image.specs.Rooms.{IsVacant, HasRoom, IsZeroed, IsStated, IsSafe, Sees, is_sound};
 ghost use Rattle.qcow2_image.specs.Writing.{HasBegun, WhyUnwritten};
 
@@ -95,6 +96,8 @@ impl<S: Storage> Seen for Qcow2<S> {
     ghost still = { λ d. AreTablesClean (cached_in d.tables.caches) × AreBlocksClean (cached_in d.tables.caches) };
 
     ghost lasts = { λ _. ⊤ };
+
+    ghost surplus = { λ d. surplus_of S.Storage d };
 
     ghost vacant = { λ d p. IsVacant (memory_of S.Storage d.tables) d.tables.file.header.fields p };
 

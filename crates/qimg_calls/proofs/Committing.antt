@@ -49,7 +49,7 @@ module _ {D St : Type 0} (g : Ghosts D St) (safe_runs : (d : D) → g.safe d →
 
     -- done
     pub commit-leads : Commits g mapping.state (Ok tt) old.0 new.0 → (IsReady g old → IsIntactChain g new) → (IsReady g old → ChainCommits g mapping.state old new) → Leads g ⊤ call old new
-    commit-leads does intact step = step-leads g old new ⊤ ⊤ call safe_runs does.went (looked ⊤) (λ w ready. tt) (λ w ready. intact ready)
+    commit-leads does intact step = step-leads g old new ⊤ ⊤ call safe_runs does.went (looked ⊤) (λ w ready. tt) (λ w ready. does.went.surplus (refl, kept.mine) ready.intact.is_safe) (λ w ready. intact ready)
         (λ w ready. committed-between (map g.layer old.1) (below_of g.layer old) _ _ (chain_disk g.layer old) (chain_disk g.layer new) (step ready)) commit-stops
 
     -- refused: given back, or spent
@@ -67,7 +67,7 @@ module _ {D St : Type 0} (g : Ghosts D St) (safe_runs : (d : D) → g.safe d →
           units = λ intact may was. tt;
           marks = λ spending. spent.1;
           moves = λ intact. (cause intact, λ mild. absurd (never intact mild));
-          leads = step-leads g old new (IsMild fault) (IsMild fault) call safe_runs does.went (looked (IsMild fault)) (λ mild ready. mild) (λ mild ready. absurd (never ready.intact mild)) (λ mild ready. absurd (never ready.intact mild)) commit-stops;
+          leads = step-leads g old new (IsMild fault) (IsMild fault) call safe_runs does.went (looked (IsMild fault)) (λ mild ready. mild) (λ mild ready. absurd (never ready.intact mild)) (λ mild ready. absurd (never ready.intact mild)) (λ mild ready. absurd (never ready.intact mild)) commit-stops;
           kept = λ k. record { mine = tt; free = λ none. spent-free g mapping.state (g.layer old.0) (g.layer new.0) (g.safe old.0 → IsMild fault → ⊥) kept.mine spent.0 spent.3 };
           same = λ no. absurd (cc no);
         }
@@ -82,7 +82,7 @@ module _ {D St : Type 0} (g : Ghosts D St) (safe_runs : (d : D) → g.safe d →
           units = λ intact may was. tt;
           marks = λ spending. absurd (not-spending g.tag mapping.state (g.layer old.0) fault back.1 spending);
           moves = λ intact. (cause intact, λ mild. (stays, ap Some back.0));
-          leads = step-leads g old new (IsMild fault) (IsMild fault) call safe_runs does.went (looked (IsMild fault)) (λ mild ready. mild) (λ mild ready. unchanged-intact back.2 ready.intact)
+          leads = step-leads g old new (IsMild fault) (IsMild fault) call safe_runs does.went (looked (IsMild fault)) (λ mild ready. mild) (λ mild ready. back.2.surplus ready.intact.is_safe) (λ mild ready. unchanged-intact back.2 ready.intact)
               (λ mild ready. stays-between (Begun (map g.layer old.1) (chain_disk g.layer old) call) (chain_disk g.layer old) (chain_disk g.layer new) stays) commit-stops;
           kept = λ k. record { mine = rw (back.0, back.2.layer) kept.mine; free = λ none. rw (back.2.layer) (kept.free (rw (back.0) at none)) };
           same = λ no. absurd (cc no);
@@ -99,6 +99,7 @@ module _ {D St : Type 0} (g : Ghosts D St) (safe_runs : (d : D) → g.safe d →
         fixed = cancels.fixed;
         later = subst (IsLater (g.image old.0)) (sym same) (is_later_same (g.image old.0));
         calm = λ w ready. rw (same) (refl, refl);
+        surplus = λ w ready. cancels.surplus kept.mine ready.intact.is_safe;
         under = λ still. rw (below) (kept_all_same (files_of g old.1), still);
         below = λ w ready. rw (below) refl;
         ready = λ w ready.

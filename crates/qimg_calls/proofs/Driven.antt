@@ -1,5 +1,5 @@
 -- What a list of calls does to a chain, with the mapping cancelled that is kept at its end.
-use Rattle.std.proofs.Common.{◌≡◌, ℕ, List, refl, sym, subst}
+use Rattle.std.proofs.Common.{◌≡◌, ◌∙◌, ℕ, List, refl, sym, subst}
 use Rattle.std.specs.Prelude.{Bool, Some, None, Option, map}
 use Rattle.imago_storage.specs.Disk.{Disk}
 use Rattle.imago_storage.specs.Calls.{IsFaultless}
@@ -44,6 +44,7 @@ module _ {D St : Type 0} (g : Ghosts D St) (safe_sees : (d : D) → g.safe d →
         ends = λ every. rw ((ran.ends every).0) refl;
         later = ran.later;
         calm = ran.calm;
+        surplus = ran.surplus;
         ready = λ every. (ran.ends every).1;
         stands = λ every. (ran.ends every).2;
       }
@@ -60,6 +61,7 @@ module _ {D St : Type 0} (g : Ghosts D St) (safe_sees : (d : D) → g.safe d →
         ends = λ every. rw ((ran.ends every).0) (cancelled d new m makes (ran.ends every).1, same);
         later = subst (IsLater (g.image ran.last.now.drivers.0)) (sym same) ran.later;
         calm = λ every. subst (IsFaultless (g.image old.0)) (sym same) (ran.calm every);
+        surplus = λ every n. makes.leads.surplus tt (ran.ends every).1 n ∙ ran.surplus every n;
         ready = λ every. makes.leads.ready tt (ran.ends every).1;
         stands = λ every exact tells keeps room.
             let next = stands-next g safe_sees safe_sound calls.Cancel told.Done (holding d (Some m)) (holding new None) ran.last.since makes held (ran.ends every).1 tt (ran.ends every).2 exact tells keeps room in

@@ -15,7 +15,7 @@ use Rattle.imago_access.specs.Spending.{IsMine}
 use Rattle.imago_access.specs.Layers.{chain}
 use Rattle.imago_access.specs.Chain.{at, Each}
 use Rattle.imago_access.specs.Files.{Pairs, WasNotCutOff}
-use Rattle.imago_access.specs.Going.{Looked, LookedUnder, Went}
+use Rattle.imago_access.specs.Going.{Looked, LookedUnder, Went, KeepsSurplus}
 use Rattle.imago_access.specs.Parts.{PlainCause}
 use Rattle.imago_access.specs.Refusals.{barrier}
 use Rattle.imago_access.specs.Running.{RanChain, IsBetween, IsIntactChain, below_ghosts, chain_disk}
@@ -81,6 +81,7 @@ module _ {D St : Type 0} (g : Ghosts D St) (old new : D × List D) (whole ok : T
         fixed = ran.went.fixed;
         later = ran.went.later.0;
         calm = λ w ready. (ran.went.faults (done w ready)).0;
+        surplus = λ w ready. ran.went.surplus (done w ready, ready.intact.is_seen) ready.intact.is_safe;
         under = λ still. ran.looked.kept still;
         below = same;
         ready = λ w ready.
@@ -106,6 +107,7 @@ module _ {D St : Type 0} (g : Ghosts D St) (old new : D × List D) (whole ok : T
         fixed = looked.0.like.fixed;
         later = looked.0.later.0;
         calm = λ w ready. (looked.0.faults (done w)).0;
+        surplus = λ w ready. looked.0.surplus (done w) ready.intact.is_safe;
         under = λ still. chain_kept g ok old.1 new.1 still looked.1;
         below = same;
         ready = λ w ready. record {
@@ -128,16 +130,18 @@ module _ {D St : Type 0} (g : Ghosts D St) (old new : D × List D) (whole ok : T
   -- a call whose values its step tells
   pub step-leads : {w : Type 0} (safe_runs : (d : D) → g.safe d → (g.layer d).failed ≡ false) → Went g ok w old.0 new.0 → LookedUnder (below_ghosts g) ok old.1 new.1
       → (whole → IsReady g old → ok)
+      → (whole → IsReady g old → KeepsSurplus g old.0 new.0)
       → (whole → IsReady g old → IsIntactChain g new)
       → (whole → IsReady g old → ValuesBetween (Begun (map g.layer old.1) (chain_disk g.layer old) call) (chain_disk g.layer old) (chain_disk g.layer new))
       → (IsReady g old → KeepsStopsTo g (map g.layer old.1) 0 (most_size (chain_disk g.layer old) call) (Begun (map g.layer old.1) (chain_disk g.layer old) call) old.0 new.0)
       → Leads g whole call old new
-  step-leads safe_runs went looked done intact values stops =
+  step-leads safe_runs went looked done surplus intact values stops =
       let same : whole → IsReady g old → map g.layer new.1 ≡ map g.layer old.1 = λ w ready. (looked.stays (done w ready) ready.intact.is_seen).0 in
       record {
         fixed = went.fixed;
         later = went.later.0;
         calm = λ w ready. (went.faults (done w ready)).0;
+        surplus = surplus;
         under = λ still. looked.kept still;
         below = same;
         ready = λ w ready.

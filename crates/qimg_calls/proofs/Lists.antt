@@ -17,6 +17,7 @@ use Rattle.imago_access.specs.Running.{chain_disk, IsIntactChain}
 use Rattle.imago_access.specs.Stops.{IsCovered, IsWritten, Left}
 use Rattle.imago_access.proofs.FilePairs.{is_later_same, is_later_both, kept_all_same, kept_all_both}
 use Rattle.imago_access.proofs.Stopping.{here}
+use Rattle.imago_access.specs.Going.{KeepsSurplus}
 use Rattle.qimg_calls.specs.declared.call.Call.{Call}
 use Rattle.qimg_calls.specs.declared.call.Call.TheVariants as calls
 use Rattle.qimg_calls.specs.declared.call.Answer.{Answer}
@@ -85,7 +86,7 @@ module _ {D St : Type 0} (g : Ghosts D St) where
   -- a flush with nothing prepared that is done leaves a file that means the disk
   made-flush : (call : Call) (answer : Answer) (old new : Holding D St) → Makes g call answer old new → IsIntactChain g old.drivers → call ≡ calls.Flush → answer ≡ told.Done → IsFree (g.layer old.drivers.0)
       → IsWritten g new.drivers.0
-  made-flush call answer old new makes intact is_flush is_done none = ((rw (is_flush, is_done) at makes).moves intact).0.3.1 none
+  made-flush call answer old new makes intact is_flush is_done none = (((rw (is_flush, is_done) at makes).moves intact).0.3.1 none).0
 
   -- what all calls keep, whatever they are answered
   pub record Going (old new : Holding D St) : Type 0 where
@@ -215,6 +216,7 @@ module _ {D St : Type 0} (g : Ghosts D St) where
       fixed = makes.leads.fixed;
       kept = makes.kept is_kept;
       calm = λ on. makes.leads.calm on ready;
+      surplus = λ on. makes.leads.surplus on ready;
       ready = λ on. makes.leads.ready on ready;
     }
 
@@ -225,6 +227,7 @@ module _ {D St : Type 0} (g : Ghosts D St) where
       pub from : IsLater (g.image old.drivers.0) (g.image last.now.drivers.0)
       pub later : IsLater (g.image last.now.drivers.0) (g.image new.drivers.0)
       pub calm : AllGoOn answers → IsFaultless (g.image old.drivers.0) (g.image new.drivers.0)
+      pub surplus : AllGoOn answers → KeepsSurplus g old.drivers.0 new.drivers.0
       pub ends : AllGoOn answers → (last.now ≡ new) × IsReady g new.drivers × StandsSince g last.since new.drivers
 
     ran-none : (old : Holding D St) (since : Since) → IsReady g old.drivers → StandsSince g since old.drivers → Ran [] [] old old since
@@ -234,6 +237,7 @@ module _ {D St : Type 0} (g : Ghosts D St) where
       from = is_later_same (g.image old.drivers.0);
       later = is_later_same (g.image old.drivers.0);
       calm = λ _. (refl, refl);
+      surplus = λ _ c. refl;
       ends = λ _. (refl, ready, stands);
     }
 
@@ -255,6 +259,7 @@ module _ {D St : Type 0} (g : Ghosts D St) where
                 from = subst (λ (h : Holding D St). IsLater (g.image h.drivers.0) (g.image rest.last.now.drivers.0)) (is.1.1) rest.from;
                 later = rest.later;
                 calm = λ every. subst (λ (h : Holding D St). IsFaultless (g.image h.drivers.0) (g.image new.drivers.0)) (is.1.1) (rest.calm every.1);
+                surplus = λ every. subst (λ (h : Holding D St). KeepsSurplus g h.drivers.0 new.drivers.0) (is.1.1) (rest.surplus every.1);
                 ends = λ every. rest.ends every.1;
               }
           | inr is ↦
@@ -270,6 +275,7 @@ module _ {D St : Type 0} (g : Ghosts D St) where
                       from = is_later_both (g.image old.drivers.0) (g.image mid.drivers.0) (g.image rest.last.now.drivers.0) makes.leads.later rest.from;
                       later = rest.later;
                       calm = λ every. calm-both (g.image old.drivers.0) (g.image mid.drivers.0) (g.image new.drivers.0) (makes.leads.calm every.0 ready) (rest.calm every.1);
+                      surplus = λ every n. rest.surplus every.1 n ∙ makes.leads.surplus every.0 ready n;
                       ends = λ every. rest.ends every.1;
                     }
                 | inr off ↦ record {
@@ -278,6 +284,7 @@ module _ {D St : Type 0} (g : Ghosts D St) where
                   from = makes.leads.later;
                   later = (going-all list answers mid new all.2).later;
                   calm = λ every. absurd (off every.0);
+                  surplus = λ every. absurd (off every.0);
                   ends = λ every. absurd (off every.0);
                 }
               ]

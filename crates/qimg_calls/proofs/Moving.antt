@@ -9,7 +9,7 @@ use Rattle.imago_access.specs.ChainCalls.{ChainSteps, ChainStays, IfMild}
 use Rattle.imago_access.specs.Layer.{IsFree}
 use Rattle.imago_access.specs.Parts.{PlainCause}
 use Rattle.imago_access.specs.Refusals.{barrier}
-use Rattle.imago_access.specs.Stops.{IsWritten}
+use Rattle.imago_access.specs.Stops.{IsCounted, IsWritten}
 use Rattle.imago_access.specs.Files.{WasNotCutOff}
 use Rattle.qimg_calls.specs.declared.call.Call.{Call}
 use Rattle.qimg_calls.specs.declared.call.Answer.TheVariants as told
@@ -68,9 +68,10 @@ refused-stays g old new olds news (Ok unit) why = tt
 refused-stays g old new olds news (Err fault) why = λ mild usable. absurd (cc (whole-ok {T = Unit} (g.layer old.0) olds news (Err fault) mild usable why))
 
 pub flush-names : {D St : Type 0} (g : Ghosts D St) (old new : D × List D) (result : Result Unit Fault) → OnOk result (TopStays g old new)
-    → (IsFree (g.layer old.0) → OnOk result (IsWritten g new.0)) → OnOk result (TopStays g old new × (IsFree (g.layer old.0) → IsWritten g new.0))
-flush-names g old new (Ok unit) same written = (same, written)
-flush-names g old new (Err fault) same written = tt
+    → (IsFree (g.layer old.0) → OnOk result (IsWritten g new.0)) → (IsFree (g.layer old.0) → OnOk result (IsCounted g new.0))
+    → OnOk result (TopStays g old new × (IsFree (g.layer old.0) → IsWritten g new.0 × IsCounted g new.0))
+flush-names g old new (Ok unit) same written counted = (same, λ free. (written free, counted free))
+flush-names g old new (Err fault) same written counted = tt
 
 -- what is true whatever was answered is true of a success
 pub on-ok : {P : Type 0} (result : Result Unit Fault) → P → OnOk result P

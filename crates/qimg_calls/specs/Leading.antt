@@ -9,6 +9,7 @@ use Rattle.imago_access.specs.Chain.{at, Each}
 use Rattle.imago_access.specs.Files.{Pairs, IsKept as IsKeptFile, IsLater, files_of}
 use Rattle.imago_access.specs.Running.{chain_disk}
 use Rattle.imago_access.specs.Stops.{KeepsStopsTo}
+use Rattle.imago_access.specs.Going.{KeepsSurplus}
 use Rattle.qimg_calls.specs.Since.{Begun, most_size}
 use Rattle.qimg_calls.specs.Held.{IsReady}
 
@@ -22,6 +23,7 @@ pub record Leads {D St : Type 0} (g : Ghosts D St) (whole : Type 0) (call : Call
   pub fixed : (g.layer new.0).fixed ≡ (g.layer old.0).fixed
   pub later : IsLater (g.image old.0) (g.image new.0)
   pub calm : whole → IsReady g old → IsFaultless (g.image old.0) (g.image new.0)
+  pub surplus : whole → IsReady g old → KeepsSurplus g old.0 new.0
   -- no file below changes
   pub under : Each g.still old.1 → Pairs IsKeptFile (files_of g old.1) (files_of g new.1) × Each g.still new.1
   pub below : whole → IsReady g old → map g.layer new.1 ≡ map g.layer old.1

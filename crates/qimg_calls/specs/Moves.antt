@@ -19,7 +19,7 @@ use Rattle.imago_access.specs.PreparingCalls.{nowhere}
 use Rattle.imago_access.specs.Refusals.{ReadCause, DeepLookCause, barrier}
 use Rattle.imago_access.specs.Running.{IsIntactChain}
 use Rattle.imago_access.specs.Spending.{commit_refusal}
-use Rattle.imago_access.specs.Stops.{IsWritten}
+use Rattle.imago_access.specs.Stops.{IsCounted, IsWritten}
 use Rattle.qimg_calls.specs.declared.call.Call.{Call}
 use Rattle.qimg_calls.specs.declared.call.Call.TheVariants as calls
 use Rattle.qimg_calls.specs.declared.call.Answer.{Answer}
@@ -39,7 +39,8 @@ pub record NamesOneThere {D St : Type 0} (g : Ghosts D St) (offset asked : ℕ) 
 
 -- Which places an answer names: of storages that there are, what their bytes are and where the run can be written, and by the top layer
 -- none of those that it has no room for. A lookup's zero is explicit exactly where the top layer states it. A look, a flush and a sync
--- leave the top as it was. A flush with nothing prepared is done where the top's file by itself means the disk, and a sync writes nothing.
+-- leave the top as it was. A flush with nothing prepared is done where the top's file by itself means the disk, and leaks what each cluster
+-- is counted beyond what names it, and a sync writes nothing.
 abbrev pub Names : {D St : Type 0} → Ghosts D St → Call → Answer → D × List D → D × List D → Type 0
 Names g (calls.Read offset n) answer old new = TopStays g old new
 Names g (calls.GetMapping offset asked) (told.Mapped mapping n) old new =
@@ -59,7 +60,7 @@ Names g (calls.EnsureDataMapping offset asked overwrite) (told.Mapped mapping n)
 Names g (calls.WriteMapped guest place bytes) told.Done old new =
     IsMappedFor (g.layer old.0) guest place (length bytes.items) × ((g.layer new.0).home ≡ (g.layer old.0).home)
 Names g calls.CommitDataMapping told.Done old new = KeepsHomes (g.layer old.0) (g.layer new.0)
-Names g calls.Flush told.Done old new = TopStays g old new × (IsFree (g.layer old.0) → IsWritten g new.0)
+Names g calls.Flush told.Done old new = TopStays g old new × (IsFree (g.layer old.0) → IsWritten g new.0 × IsCounted g new.0)
 Names g calls.Sync told.Done old new = TopStays g old new × Pairs IsKept (files g old.0) (files g new.0)
 Names g call answer old new = ⊤
 

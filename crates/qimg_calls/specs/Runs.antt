@@ -8,6 +8,7 @@ use Rattle.imago_access.specs.declared.seen.Seen.{Ghosts}
 use Rattle.imago_access.specs.Files.{Pairs, IsKept as IsKeptFile, IsLater, files_of}
 use Rattle.imago_access.specs.ChainCalls.{ChainCancels, WontDecline}
 use Rattle.imago_access.specs.Running.{chain_disk}
+use Rattle.imago_access.specs.Going.{KeepsSurplus}
 use Rattle.qimg_calls.specs.declared.call.Call.{Call}
 use Rattle.qimg_calls.specs.declared.call.Call.TheVariants as calls
 use Rattle.qimg_calls.specs.declared.call.Answer.{Answer}
@@ -68,6 +69,8 @@ pub record Made {D St : Type 0} (g : Ghosts D St) (call : Call) (answer : Answer
   pub fixed : (g.layer new.now.drivers.0).fixed ≡ (g.layer old.now.drivers.0).fixed
   pub kept : IsKept g new.now
   pub calm : GoesOn answer → IsFaultless (g.image old.now.drivers.0) (g.image new.now.drivers.0)
+  -- nothing comes to leak
+  pub surplus : GoesOn answer → KeepsSurplus g old.now.drivers.0 new.now.drivers.0
   pub ready : GoesOn answer → IsReady g new.now.drivers
 
 -- One call of a list: out of place it isn't made, and all is as it was.
@@ -110,6 +113,7 @@ pub record Driven {D St : Type 0} (g : Ghosts D St) (since : Since) (list : List
   pub later : IsLater (g.image last.now.drivers.0) (g.image new.0)
   -- what the next list rests on
   pub calm : AllGoOn answers → IsFaultless (g.image old.0) (g.image new.0)
+  pub surplus : AllGoOn answers → KeepsSurplus g old.0 new.0
   pub ready : AllGoOn answers → IsReady g new
   pub stands : AllGoOn answers → StandsSince g last.since new
 

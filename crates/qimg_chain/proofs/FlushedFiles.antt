@@ -7,8 +7,9 @@ use Rattle.imago_storage.specs.State.{StorageState}
 use Rattle.imago_storage.specs.declared.fault.Fault.TheVariants.{BadArgument}
 use Rattle.imago_access.specs.Chain.{Each, at, disk_of}
 use Rattle.imago_access.specs.Files.{IsKept, Pairs, files_of}
+use Rattle.imago_access.specs.Going.{KeepsSurplus}
 use Rattle.imago_access.specs.Layer.{Fixed, Layer, IsFree, through, unmapped}
-use Rattle.imago_access.specs.Stops.{IsMeant, IsWritten}
+use Rattle.imago_access.specs.Stops.{IsCounted, IsMeant, IsWritten}
 use Rattle.imago_access.specs.declared.seen.Seen.{Ghosts}
 use Rattle.imago_access.proofs.FilePairs.{kept_all_both, kept_all_same}
 use Rattle.qimg_calls.specs.Calls.{Either, GoesOn, is_out_of_place}
@@ -72,9 +73,10 @@ module _ {D St : Type 0} (g : Ghosts D St) (names : D → ℕ → List ℕ) wher
 
   -- ---- What a list of calls keeps.
 
-  -- What never changes of the top, the layers below, and their files.
+  -- What never changes of the top, what its clusters are counted beyond names, the layers below, and their files.
   record Keeps (opened : D × List D) (m : Moment D St) : Type 0 where
     fixed : (g.layer m.now.drivers.0).fixed ≡ (g.layer opened.0).fixed
+    surplus : KeepsSurplus g opened.0 m.now.drivers.0
     below : map g.layer m.now.drivers.1 ≡ map g.layer opened.1
     files : Pairs IsKept (files_of g opened.1) (files_of g m.now.drivers.1)
 
@@ -82,6 +84,7 @@ module _ {D St : Type 0} (g : Ghosts D St) (names : D → ℕ → List ℕ) wher
       → Keeps opened old → Keeps opened new
   keeps-made opened call answer old new on made keeps = record {
     fixed = made.fixed ∙ keeps.fixed;
+    surplus = λ c. made.surplus on c ∙ keeps.surplus c;
     below = made.below on ∙ keeps.below;
     files = kept_all_both (files_of g opened.1) (files_of g old.now.drivers.1) (files_of g new.now.drivers.1) keeps.files made.files;
   }
@@ -101,7 +104,7 @@ module _ {D St : Type 0} (g : Ghosts D St) (names : D → ℕ → List ℕ) wher
 
   module _ (finds : (d : D) → g.safe d → FindsByNames g names d) (opened : D × List D)
       (places : AreInPlace (map g.layer (opened.0 ∷ opened.1)))
-      (shows : (p : ℕ) → at (map g.layer opened.1) p ≡ value_of (map (driver_bytes g names) opened.1) p) where
+      (shows : (p : ℕ) → at (map g.layer opened.1) p ≡ value_of (map (driver_bytes g names) opened.1) p) (counted : IsCounted g opened.0) where
     means-behind : (old new : Moment D St) → Keeps opened old → Made g calls.Flush told.Done old new → state_of old.now.kept ≡ None
         → FilesMeanDisk g names opened new.now.drivers
     means-behind old new keeps made none =
@@ -109,7 +112,8 @@ module _ {D St : Type 0} (g : Ghosts D St) (names : D → ℕ → List ℕ) wher
         let kept = keeps-made opened calls.Flush told.Done old new tt made keeps in
         let stays : g.layer now.0 ≡ g.layer old.now.drivers.0 = made.moves.0.3.0 in
         let free : IsFree (g.layer now.0) = made.kept.free (ap state_of made.moves.1 ∙ none) in
-        let written : IsWritten g now.0 = made.moves.0.3.1 (subst IsFree stays free) in
+        let flushed = made.moves.0.3.1 (subst IsFree stays free) in
+        let written : IsWritten g now.0 = flushed.0 in
         let same : (p : ℕ) → at (map g.layer now.1) p ≡ value_of (map (driver_bytes g names) opened.1) p =
         λ p. ap (λ layers. at layers p) kept.below ∙ shows p in
         let backed : (p : ℕ) → ((g.layer now.0).fixed.blank ≡ unmapped) ⊎ (at (map g.layer now.1) p ≡ byte 0) =
@@ -120,6 +124,7 @@ module _ {D St : Type 0} (g : Ghosts D St) (names : D → ℕ → List ℕ) wher
               (map (driver_bytes g names) opened.1) written (finds now.0 (made.ready tt).intact.is_safe) same backed;
           below = kept.files;
           fixed = kept.fixed;
+          leaks = λ c. sym (flushed.1 c) ∙ (kept.surplus c ∙ counted c);
         }
 
     flushes : (list : List Call) (answers : List Answer) (old last : Moment D St) (place : ℕ) → Keeps opened old
@@ -153,6 +158,11 @@ module _ {D St : Type 0} (g : Ghosts D St) (names : D → ℕ → List ℕ) wher
           means = later.means;
         }
 
+  opened-counted : {S : Type 0} (state : S → StorageState) (writable : Bool) (number : ℕ) (files : List (ChainFile S)) (c : D × List D)
+      → IsChainOf g names state writable number files c → IsCounted g c.0
+  opened-counted state writable number [] c is = absurd is.layers
+  opened-counted state writable number (file ∷ files) c is = is.layers.0.opened.counted
+
   -- Each flush in a list of calls over a chain that was opened so.
   pub each-flush : {S : Type 0} (state : S → StorageState) (writable : Bool) (number : ℕ) (files : List (ChainFile S)) (since : Since)
       (list : List Call) (answers : List Answer) (opened : D × List D) (last : Moment D St) → ((d : D) → g.safe d → FindsByNames g names d)
@@ -160,6 +170,7 @@ module _ {D St : Type 0} (g : Ghosts D St) (names : D → ℕ → List ℕ) wher
       → EachFlushMeans g names opened list answers (moment (holding opened None) since) last
   each-flush state writable number files since list answers opened last finds is run place is_flush is_done on =
       let start = moment (holding opened None) since in
-      let keeps : Keeps opened start = record { fixed = refl; below = refl; files = kept_all_same (files_of g opened.1) } in
-      flushes finds opened is.places (below-shown state writable number files opened is) list answers start last place keeps run is_flush
+      let keeps : Keeps opened start = record { fixed = refl; surplus = λ c. refl; below = refl; files = kept_all_same (files_of g opened.1) } in
+      flushes finds opened is.places (below-shown state writable number files opened is)
+      (opened-counted state writable number files opened is) list answers start last place keeps run is_flush
       is_done on

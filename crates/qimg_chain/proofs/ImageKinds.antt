@@ -102,6 +102,7 @@ module _ (R : RattleType) (st : Ghosts R.Denot) (sd : mir.Syntax.Dict) (dd : mir
         number_is = refl;
         size_is = as_stated d.disk.extents.items (st.state d.image) files said;
         meant = written d.disk.extents.items (st.state d.image) files said;
+        counted = λ c. refl;
         kept = kept;
         free = refl;
         usable = usable;

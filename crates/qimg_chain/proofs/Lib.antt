@@ -9,6 +9,7 @@ mod FilesTaken
 mod FirstCauses
 mod FitFiles
 mod FlushedFiles
+mod FlushedLeaks
 mod FurtherTaken
 mod HandedIn
 mod ImageKinds

@@ -11,7 +11,7 @@ use Rattle.imago_access.specs.declared.format.Format.{Format}
 use Rattle.imago_access.specs.Building.{IsOpened}
 use Rattle.imago_access.specs.Layer.{Layer}
 use Rattle.imago_access.specs.FileReads.{FilesRead}
-use Rattle.imago_access.specs.Going.{AtOnce, IsKnown, IsSpared, IsUnchanged, Looked, Marks, MarksOver, Went}
+use Rattle.imago_access.specs.Going.{AtOnce, IsKnown, IsSpared, IsUnchanged, Looked, Marks, MarksOver, Went, WentAnew}
 use Rattle.imago_access.specs.Room.{LeavesRoom}
 use Rattle.imago_access.specs.Stops.{KeepsStopsTo, Left, GivesNone}
 use Rattle.imago_access.proofs.Stopping.{passes_weaker}
@@ -26,6 +26,7 @@ through f h g = record {
   safe = λ d. h.safe (f d);
   still = λ d. h.still (f d);
   lasts = λ d. h.lasts (f d);
+  surplus = λ d. h.surplus (f d);
   vacant = λ d. h.vacant (f d);
   has_room = λ d. h.has_room (f d);
   zeroed = λ d. h.zeroed (f d);
@@ -83,6 +84,7 @@ module _ {D E St Su : Type 0} {f : D → E} {h : Ghosts E Su} {g : Ghosts D St} 
     safely = u.safely;
     stilled = u.stilled;
     lasting = u.lasting;
+    surplus = u.surplus;
     room = λ safe. leaves _ _ (u.room safe);
     began = on u.began;
   }
@@ -138,12 +140,16 @@ module _ {D E St Su : Type 0} {f : D → E} {h : Ghosts E Su} {g : Ghosts D St} 
     safely = l.safely;
     cut = elim (l.cut) [ inl failed ↦ inl failed | inr k ↦ inr (known k) ];
     lasting = l.lasting;
+    surplus = l.surplus;
     kept = l.kept;
     stops = λ safe below. stops below (h.layer (f a)).size (h.layer (f a)).size GivesNone (l.stops safe below);
   }
 
   pub went : (ok whole : Type 0) → Went (through f h g) ok whole a b → Went h ok whole (f a) (f b)
-  went ok whole w = record { fixed = w.fixed; failed = w.failed; later = w.later; faults = w.faults; safely = w.safely; lasting = w.lasting }
+  went ok whole w = record { fixed = w.fixed; failed = w.failed; later = w.later; faults = w.faults; safely = w.safely; lasting = w.lasting; surplus = w.surplus }
+
+  pub anew : (ok whole : Type 0) → WentAnew (through f h g) ok whole a b → WentAnew h ok whole (f a) (f b)
+  anew ok whole w = record { fixed = w.fixed; failed = w.failed; later = w.later; faults = w.faults; safely = w.safely; lasting = w.lasting }
 
   pub read : (whole : Type 0) → FilesRead (through f h g) whole a b → FilesRead h whole (f a) (f b)
   read whole r = record {
@@ -154,6 +160,7 @@ module _ {D E St Su : Type 0} {f : D → E} {h : Ghosts E Su} {g : Ghosts D St} 
     safely = r.safely;
     stilled = r.stilled;
     lasting = r.lasting;
+    surplus = r.surplus;
     room = λ safe. leaves _ _ (r.room safe);
     began = on r.began;
   }
@@ -167,6 +174,7 @@ opened kind format writable number before d o = record {
   number_is = o.number_is;
   size_is = o.size_is;
   meant = record { size = o.meant.size; exactly = o.meant.exactly; cell = o.meant.cell };
+  counted = o.counted;
   kept = o.kept;
   free = o.free;
   usable = o.usable;

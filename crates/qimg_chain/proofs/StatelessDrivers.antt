@@ -53,6 +53,7 @@ module _ {E : Type 0} (h : Ghosts E PreparedMappingState) (d : E) where
     failed = refl;
     none = (refl, refl);
     lasts = λ l. l;
+    surplus = λ mine s c. refl;
     sees = λ s. s;
     safe = λ mine s. s;
     room = λ safe mine. record { kept = λ p l r. r; free = λ p l r. r; zeroes = λ p l s r. r };

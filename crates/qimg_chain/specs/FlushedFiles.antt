@@ -6,8 +6,11 @@ use Rattle.imago_access.specs.Chain.{Each}
 use Rattle.imago_access.specs.Files.{IsKept, Pairs, files_of}
 use Rattle.imago_access.specs.Layers.{chain}
 use Rattle.imago_access.specs.Running.{chain_disk}
-use Rattle.imago_access.specs.declared.format.Format.TheVariants.{Vmdk}
+use Rattle.imago_access.specs.declared.format.Format.TheVariants.{Qcow2, Vmdk}
 use Rattle.imago_access.specs.declared.seen.Seen.{Ghosts}
+use Rattle.qcow2_types.specs.Bytes.{bytes_of}
+use Rattle.qcow2_types.specs.Consistency.{IsConsistent, leaks}
+use Rattle.qcow2_types.specs.Header.{Header}
 use Rattle.qimg_calls.specs.Held.{state_of}
 use Rattle.qimg_calls.specs.Runs.{AllGoOn, Made, Moment, Run}
 use Rattle.qimg_calls.specs.declared.call.Answer.{Answer}
@@ -36,11 +39,13 @@ pub record ShowDisk (states_size : Bool) (disk : Disk) (files : List FileBytes) 
   pub value : (p : ℕ) → p < disk.size → disk.value p ≡ value_of files p
   pub exactly : IsTrue states_size → IsDiskOf disk files
 
--- A chain's files mean its disk by themselves. Since it was opened no file below has changed, nor what never changes of the top.
+-- A chain's files mean its disk by themselves. Since it was opened no file below has changed, nor what never changes of the top, nor how
+-- often each cluster of the top's file is counted beyond what names it, which is what leaks.
 pub record FilesMeanDisk {D St : Type 0} (g : Ghosts D St) (names : D → ℕ → List ℕ) (opened now : D × List D) : Type 0 where
   pub means : ShowDisk (g.layer now.0).fixed.exact (chain_disk g.layer now) (files_now g names opened now)
   pub below : Pairs IsKept (files_of g opened.1) (files_of g now.1)
   pub fixed : (g.layer now.0).fixed ≡ (g.layer opened.0).fixed
+  pub leaks : (c : ℕ) → (g.layer now.0).fixed.leaks (g.image now.0).bytes c ≡ (g.layer opened.0).fixed.leaks (g.image opened.0).bytes c
 
 -- the file of a layer with other bytes
 abbrev pub with_image : FileBytes → List ℕ → FileBytes
@@ -59,6 +64,13 @@ abbrev pub HandedMeanToo : {S D St : Type 0} → Ghosts D St → (D → ℕ → 
 HandedMeanToo {S = S} {D = D} g names state = (writable : Bool) (number : ℕ) (file : ChainFile S) (below : List (ChainFile S))
     (opened now : D × List D) → IsChainOf g names state writable number (file ∷ below) opened → FilesMeanDisk g names opened now
     → HandedMeanDisk g names state file below now
+
+-- Where they do, a qcow2 top that is consistent leaks what it did as the chain was opened, as a checker tells it.
+abbrev pub LeaksWhatItDid : {D St : Type 0} → Ghosts D St → (D → ℕ → List ℕ) → Type 0
+LeaksWhatItDid {D} g names = (opened now : D × List D) (H K : Header) → FilesMeanDisk g names opened now
+    → (g.layer opened.0).fixed.format ≡ Qcow2 → IsConsistent (bytes_of (g.image opened.0).bytes) H
+    → IsConsistent (bytes_of (g.image now.0).bytes) K
+    → leaks (bytes_of (g.image now.0).bytes) K.fields ≡ leaks (bytes_of (g.image opened.0).bytes) H.fields
 
 -- The call at a place of a list is a flush that was done, between two moments. Behind it the files mean the disk, if nothing was prepared.
 pub record FlushesAt {D St : Type 0} (g : Ghosts D St) (names : D → ℕ → List ℕ) (opened : D × List D) (list : List Call)

@@ -24,7 +24,7 @@ ghost use Rattle.qimg_core.specs.declared.plain.ChainFile.{ChainFile};
 ghost use Rattle.qimg_chain.specs.Arguments.{Asked, AskFor};
 ghost use Rattle.qimg_chain.specs.Chains.{IsFit, OfTop};
 ghost use Rattle.qimg_chain.specs.FileMeanings.{IsDiskOf, files_bytes};
-ghost use Rattle.qimg_chain.specs.FlushedFiles.{EachFlushMeans, HandedMeanToo, IsChainOf};
+ghost use Rattle.qimg_chain.specs.FlushedFiles.{EachFlushMeans, HandedMeanToo, IsChainOf, LeaksWhatItDid};
 ghost use Rattle.qimg_chain.specs.Headline.{RunFrom, ToOpen};
 ghost use Rattle.qimg_chain.specs.PlainReads.{IsPlainlyRead};
 ghost use Rattle.qimg_chain.specs.Refusals.{FirstCause, FormChain};
@@ -105,6 +105,11 @@ pub fn files_mean_the_disk_behind_a_flush<S: Storage, D: NamesFiles>()
 /// top is taken with its further files by the names by which it asks for them.
 pub fn files_handed_in_mean_the_disk_too<S: Storage>()
     ensures { HandedMeanToo ⟦<ImageDriver<S> as Seen>⟧ ⟦<ImageDriver<S> as NamesFiles>⟧.names S.state }
+{}
+
+/// Where the files of a chain of images mean its disk so, a qcow2 top that is consistent leaks what it did as the chain was opened.
+pub fn a_qcow2_top_leaks_what_it_did<S: Storage>()
+    ensures { LeaksWhatItDid ⟦<ImageDriver<S> as Seen>⟧ ⟦<ImageDriver<S> as NamesFiles>⟧.names }
 {}
 
 /// Over a chain that tells its stops each file that a stop leaves in a list of calls, none of them cut off, is one that its call may leave

@@ -6,9 +6,9 @@ ghost use Rattle.imago_access.specs.Layer.{IsFree, IsLike};
 ghost use Rattle.imago_access.specs.Chain.{Each};
 ghost use Rattle.imago_access.specs.Layers.{chain, layers};
 ghost use Rattle.imago_access.specs.Files.{Pairs, IsKept, files_of, files};
-ghost use Rattle.imago_access.specs.Going.{IsUnchanged, Went, Marks, MarksSome};
+ghost use Rattle.imago_access.specs.Going.{IsUnchanged, WentAnew, Marks, MarksSome};
 ghost use Rattle.imago_access.specs.Refusals.{barrier, IsUnusable};
-ghost use Rattle.imago_access.specs.Stops.{IsWritten, GivesNone};
+ghost use Rattle.imago_access.specs.Stops.{IsCounted, IsWritten, GivesNone};
 ghost use Rattle.imago_access.specs.Running.{IsIntactChain, RanChain};
 ghost use Rattle.imago_access.specs.ChainCalls.{ChainSteps, AllUnchanged, IsCarriedOut};
 ghost use Rattle.imago_access.specs.Failing.{Fails, RefusesFlush};
@@ -28,6 +28,7 @@ impl<D: FormatDriverInstance> FormatAccess<D> {
         // What it does.
         ensures ok { IsCarriedOut D.Seen flush result self.old self.new }
         ensures written { IsIntactChain D.Seen self.old → IsFree (D.layer self.old.0) → OnOk result (IsWritten D.Seen self.new.0) }
+        ensures counted { IsIntactChain D.Seen self.old → IsFree (D.layer self.old.0) → OnOk result (IsCounted D.Seen self.new.0) }
 
         // When it ends at once.
         ensures unusable { (f : Fault) → barrier (D.layer self.old.0) ≡ Some f → IsErrOf result f }
@@ -96,7 +97,7 @@ impl<D: FormatDriverInstance> FormatAccess<D> {
         ensures sees { KeepsSight D.Seen result (chain self.old) (chain self.new) }
         ensures kept { Pairs IsKept (files_of D.Seen (chain self.old)) (files_of D.Seen (chain self.new)) }
         ensures still { OnOk result (Each D.still (chain self.new)) }
-        ensures went { Pairs (Went D.Seen (IsOk result) (IsOk result)) (chain self.old) (chain self.new) }
+        ensures went { Pairs (WentAnew D.Seen (IsOk result) (IsOk result)) (chain self.old) (chain self.new) }
         ensures free { Each (λ d. IsFree (D.layer d)) (chain self.new) }
 
         // Why it is refused, and what that marks.
@@ -122,7 +123,7 @@ impl<D: FormatDriverInstance> FormatAccess<D> {
         ensures unusable { (f : Fault) → barrier (D.layer driver.old) ≡ Some f → IsErrOf result f }
         ensures unchanged { IsUnusable (D.layer driver.old)
             → AllUnchanged D.Seen (driver.old, layers below.old) (driver.new, layers below.new) }
-        ensures went { Pairs (Went D.Seen (IsOk result) (IsOk result)) (driver.old ∷ layers below.old) (driver.new ∷ layers below.new) }
+        ensures went { Pairs (WentAnew D.Seen (IsOk result) (IsOk result)) (driver.old ∷ layers below.old) (driver.new ∷ layers below.new) }
         ensures free { Each (λ d. IsFree (D.layer d)) (driver.new ∷ layers below.new) }
         ensures downward { IfErr result (EndsReloads D.Seen (driver.old ∷ layers below.old) (driver.new ∷ layers below.new)) }
         ensures marks { IfErr result (MarksSome D.Seen (driver.old ∷ layers below.old) (driver.new ∷ layers below.new)) }
@@ -143,7 +144,7 @@ impl<D: FormatDriverInstance> FormatAccess<D> {
         ensures sees { KeepsSight D.Seen result (layers below.old) (layers below.new) }
         ensures kept { Pairs IsKept (files_of D.Seen (layers below.old)) (files_of D.Seen (layers below.new)) }
         ensures still { OnOk result (Each D.still (layers below.new)) }
-        ensures went { Pairs (Went D.Seen (IsOk result) (IsOk result)) (layers below.old) (layers below.new) }
+        ensures went { Pairs (WentAnew D.Seen (IsOk result) (IsOk result)) (layers below.old) (layers below.new) }
         ensures free { Each (λ d. IsFree (D.layer d)) (layers below.new) }
         ensures downward { IfErr result (EndsReloads D.Seen (layers below.old) (layers below.new)) }
         ensures marks { IfErr result (MarksSome D.Seen (layers below.old) (layers below.new)) }

@@ -5,7 +5,7 @@ ghost use Rattle.imago_storage.specs.Steps.{Call, write};
 ghost use Rattle.imago_access.specs.Layer.{loose, IsFree, IsLike};
 ghost use Rattle.imago_access.specs.Room.{Takes};
 ghost use Rattle.imago_access.specs.Files.{WasNotCutOff, IsMild, ImageCause};
-ghost use Rattle.imago_access.specs.Going.{IsUnchanged, Went};
+ghost use Rattle.imago_access.specs.Going.{IsUnchanged, KeepsSurplus, Went};
 ghost use Rattle.imago_access.specs.Spending.{IsMine};
 ghost use Rattle.imago_access.specs.Refusals.{barrier};
 ghost use Rattle.imago_access.specs.Stops.{GivesBytes};
@@ -33,6 +33,7 @@ pub(crate) fn abandon<D: FormatDriverInstance>(
     ensures failed { (D.layer driver.new).failed ≡ (D.layer driver.old).failed }
     ensures room { D.safe driver.old → Takes D.Seen (λ _. ⊤) driver.old driver.new }
     ensures lasts { D.lasts driver.old → D.lasts driver.new }
+    ensures surplus { D.safe driver.old → KeepsSurplus D.Seen driver.old driver.new }
     ensures began { (d : D) (call : Call) → D.began d call driver.old → D.began d call driver.new }
     ensures none { (D.image driver.new ≡ D.image driver.old) × (D.extras driver.new ≡ D.extras driver.old) }
     ensures unchanged { mapping.state ≡ None → IsUnchanged D.Seen driver.old driver.new }

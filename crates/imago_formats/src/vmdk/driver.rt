@@ -271,6 +271,8 @@ impl<S: Storage> Seen for Vmdk<S> {
 
     ghost lasts = { λ _. ⊤ };
 
+    ghost surplus = { λ _ c. 0 };
+
     ghost vacant = { λ d p. ⊤ };
 
     ghost has_room = { λ d p. ⊥ };

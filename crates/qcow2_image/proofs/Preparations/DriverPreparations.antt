@@ -50,6 +50,7 @@ use Rattle.qcow2_image.proofs.Preparations.FreshRuns.{fresh-held, fresh-near, fr
 use Rattle.qcow2_image.proofs.CallNeeds.{needs-shown, since-as}
 use Rattle.qcow2_image.proofs.Preparations.RunPreparations.{part-nowhere, words-none}
 use Rattle.qcow2_image.proofs.Steps.{marks-kept}
+use Rattle.qcow2_image.proofs.LeaksByFile.{surplus-kept}
 
 module _ (R : RattleType) (st : Ghosts R.Denot) (sd : mir.Syntax.Dict) (dd : mir.Syntax.Dict) (old middle : Qcow2 R.Denot st) where
   abbrev sees : SeenGhosts (Qcow2 R.Denot st) PreparedMappingState
@@ -195,6 +196,7 @@ module _ (R : RattleType) (st : Ghosts R.Denot) (sd : mir.Syntax.Dict) (dd : mir
           faults = λ whole. (k.faults whole, tt);
           safely = λ whole safe. k.safely safe whole.0;
           lasting = λ l. l;
+          surplus = λ whole safe. surplus-kept st old middle (leaks safe whole.0);
         };
         began = λ d call begun part whole. λ safe.
             let now = begun safe in
@@ -328,6 +330,7 @@ module _ (R : RattleType) (st : Ghosts R.Denot) (sd : mir.Syntax.Dict) (dd : mir
           faults = λ whole. (k.faults tt, tt);
           safely = λ whole safe. safe-held safe;
           lasting = λ l. l;
+          surplus = λ whole safe. surplus-kept st old held (leaks-held safe);
         };
         began = λ d call begun part whole. λ safe.
             let now = begun safe in (

@@ -126,6 +126,7 @@ module _ (R : RattleType) (st : Ghosts R.Denot) (sd : mir.Syntax.Dict) (dd : mir
         faults = λ w. looked.faults (from-ok w);
         safely = λ w. looked.safely (from-whole w);
         lasting = looked.lasting;
+        surplus = λ w. looked.surplus (from-whole w);
       }
 
   module _ {B : Type 0} (u : GhostsBelow B) (x : B) (asked : Asked) where

@@ -98,6 +98,12 @@ impl<S: Storage> Seen for ImageDriver<S> {
       | variant.Qcow2 d ↦ ⟦<Qcow2<S> as Seen>⟧.lasts d
     ] };
 
+    ghost surplus = { elim [
+      | variant.Raw d ↦ ⟦<Raw<S> as Seen>⟧.surplus d
+      | variant.Vmdk d ↦ ⟦<Vmdk<S> as Seen>⟧.surplus d
+      | variant.Qcow2 d ↦ ⟦<Qcow2<S> as Seen>⟧.surplus d
+    ] };
+
     ghost vacant = { elim [
       | variant.Raw d ↦ ⟦<Raw<S> as Seen>⟧.vacant d
       | variant.Vmdk d ↦ ⟦<Vmdk<S> as Seen>⟧.vacant d

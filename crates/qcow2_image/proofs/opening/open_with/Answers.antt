@@ -2,6 +2,8 @@ use Rattle.std.proofs.Common.{refl, sym, inl, None}
 use Rattle.std.specs.Prelude.{false}
 use Rattle.qcow2_image.specs.declared.qcow2.Qcow2.{Qcow2}
 use Rattle.qcow2_image.proofs.StateAfterOpening.{opened-kept, opened-meant, opened-still, opened-safe}
+use Rattle.qcow2_image.proofs.ClusterSteps.{idle-waits}
+use Rattle.qcow2_image.proofs.Pending.{counted-idle}
 use Rattle.qcow2_image.proofs.opening.open_with.Goals as goal
 
 pub returns-clause-seen : goal.returns-clause-seen
@@ -25,6 +27,7 @@ returns-clause-seen g c =
       number_is = refl;
       size_is = let meant = opened-meant g.S.Storage before c.args.writable l2 rb d c.in_ok-tables.ensures.ok in sym (meant.exactly refl);
       meant = opened-meant g.S.Storage before c.args.writable l2 rb d c.in_ok-tables.ensures.ok;
+      counted = counted-idle g.S.Storage d c.in_ok-tables.ensures.ok.seen.loads (idle-waits d.tables.space c.in_ok-tables.ensures.ok.space.idle) refl;
       kept = opened-kept g.S.Storage before c.args.writable l2 rb d c.in_ok-tables.ensures.ok;
       free = refl;
       usable = refl;

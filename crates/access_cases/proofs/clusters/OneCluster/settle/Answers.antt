@@ -1,4 +1,4 @@
-use Rattle.std.proofs.Common.{◌∙◌, inl}
+use Rattle.std.proofs.Common.{◌∙◌, inl, refl}
 use Rattle.imago_storage.proofs.Composing.{keeps_on}
 use Rattle.access_cases.proofs.FileWrites.{write_passes, settled_left, settled_fixed, settled_fits}
 use Rattle.access_cases.proofs.PreparedRuns.{free_past, room_by}
@@ -24,6 +24,7 @@ returns-in-Ok-write-clause-went g c =
             settled_fits _ d.size old new r.written.items _ c.write.ensures.unit.positive fits.1.all (c.deref-2.ensures.value ∙ (rw c.deref.ensures.value at c.in-Ok.ensures)) done;
       };
       lasting = λ l. l;
+      surplus = λ w s c. refl;
     }
 
 pub returns-in-Ok-write-clause-room : goal.returns-in-Ok-write-clause-room

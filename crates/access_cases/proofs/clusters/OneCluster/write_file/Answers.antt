@@ -44,6 +44,7 @@ returns-in-Ok-clause-writes g c =
           fits = let fits = rw c.requires.mapped at safe.fits in rw c.requires.mapped (omega (arith, fits, done.size c.requires.some));
         };
         lasting = λ l. l;
+        surplus = λ w s c. refl;
       };
       began = λ x call begun. tt;
     }
@@ -78,6 +79,7 @@ returns-in-Err-clause-writes g c =
           fits = let fits = rw c.requires.mapped at safe.fits in rw c.requires.mapped (omega (arith, fits, unwritten_long old new at bytes e refused));
         };
         lasting = λ l. l;
+        surplus = λ w s c. refl;
       };
       began = λ x call begun. tt;
     })

@@ -17,6 +17,7 @@ returns-then-run-state g c =
         failed = refl;
         none = (refl, refl);
         lasts = λ l. l;
+        surplus = λ mine s c. refl;
         sees = λ s. s;
         safe = λ mine safe. record { runs = safe.runs; keeps = safe.keeps; fits = let fits = rw prepared at safe.fits in fits.0 };
         room = λ safe mine. record { kept = λ p there room. absurd (room_by d.content _ d.size p prepared room); free = λ p there bare. inr tt; zeroes = λ p there there' bare. inr tt };

@@ -74,6 +74,7 @@ returns-clause-does g c =
         faults = λ whole. ((refl, refl), tt);
         safely = λ whole safe. record { runs = safe.runs; keeps = safe.keeps; fits = let fits = rw c.in-Unmapped.is at safe.fits in (fits, run_fits d.size start n d.backed _ written inside alone) };
         lasting = λ l. l;
+        surplus = λ w s c. refl;
       };
       began = λ x call begun part whole. tt;
       refused = record { failed = tt; marks = tt; cause = λ safe sees x call begun part same. tt };

@@ -28,6 +28,7 @@ returns-in-Err-clause-looked g c =
         })
       ];
       lasting = λ l. l;
+      surplus = λ w s c. refl;
       kept = λ still. (((kept, c.read.ensures.later.faults), tt), tt);
       stops = λ safe below. passes_none _ old new kept.shape (kept.stop, kept.past, kept.bytes, kept.refusals);
     })

@@ -44,6 +44,7 @@ returns-else-not-takes-clause-writes g c =
           );
         };
         lasting = λ l. l;
+        surplus = λ w s c. refl;
       };
       began = λ x call begun. tt;
     }

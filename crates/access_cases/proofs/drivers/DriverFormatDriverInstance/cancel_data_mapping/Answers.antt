@@ -15,6 +15,7 @@ returns-in-Words g c = let h = c.cancel_data_mapping.ensures.cancels in rw (c.in
     failed = h.failed;
     none = h.none;
     lasts = h.lasts;
+    surplus = h.surplus;
     sees = h.sees;
     safe = h.safe;
     room = λ safe mine. let left = h.room safe mine in record { kept = left.kept; free = left.free; zeroes = left.zeroes };

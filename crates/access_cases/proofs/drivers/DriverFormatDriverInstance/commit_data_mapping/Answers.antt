@@ -11,7 +11,7 @@ returns-in-Words-clause-commits g c = let h = c.commit_data_mapping.ensures.comm
   size = h.size;
   room = λ safe mine. on_ok_weaker c.commit_data_mapping.result _ _ (λ left. record { kept = left.kept; free = left.free; zeroes = left.zeroes }) (h.room safe mine);
   stops = h.stops;
-  went = record { fixed = h.went.fixed; failed = h.went.failed; later = h.went.later; faults = h.went.faults; safely = h.went.safely; lasting = h.went.lasting };
+  went = record { fixed = h.went.fixed; failed = h.went.failed; later = h.went.later; faults = h.went.faults; safely = h.went.safely; lasting = h.went.lasting; surplus = h.went.surplus };
   sees = h.sees;
   began = λ x call begun mine. on_ok_weaker c.commit_data_mapping.result _ _ (λ done. begun) (h.ok);
 })

@@ -12,7 +12,7 @@ returns-in-Words-clause-does g c = let h = c.prepare_data_mapping-in-Words.ensur
   near = h.near;
   room = λ safe sees whole. let left = h.room safe sees whole in record { kept = left.kept; free = left.free; zeroes = left.zeroes };
   stops = h.stops;
-  went = record { fixed = h.went.fixed; failed = h.went.failed; later = h.went.later; faults = h.went.faults; safely = h.went.safely; lasting = h.went.lasting };
+  went = record { fixed = h.went.fixed; failed = h.went.failed; later = h.went.later; faults = h.went.faults; safely = h.went.safely; lasting = h.went.lasting; surplus = h.went.surplus };
   began = λ x call begun part whole. begun;
   refused = run_refused_as Words _ _ refl _ _ (λ x call begun. begun) _ _ _ _ _ (words_causes c.in-Words.words) h.refused;
 })
@@ -25,7 +25,7 @@ returns-in-Err-clause-does g c = let h = rw c.in-Err.is at c.prepare_data_mappin
   near = h.near;
   room = λ safe sees whole. let left = h.room safe sees whole in record { kept = left.kept; free = left.free; zeroes = left.zeroes };
   stops = h.stops;
-  went = record { fixed = h.went.fixed; failed = h.went.failed; later = h.went.later; faults = h.went.faults; safely = h.went.safely; lasting = h.went.lasting };
+  went = record { fixed = h.went.fixed; failed = h.went.failed; later = h.went.later; faults = h.went.faults; safely = h.went.safely; lasting = h.went.lasting; surplus = h.went.surplus };
   began = λ x call begun part whole. begun;
   refused = run_refused_err Raw _ _ refl _ _ (λ x call begun. begun) _ _ _ _ _ (raw_causes c.in-Raw.raw) h.refused;
 })
@@ -41,7 +41,7 @@ returns-in-Ok-clause-does g c =
       near = h.near;
       room = λ safe sees whole. let left = h.room safe sees whole in record { kept = left.kept; free = left.free; zeroes = left.zeroes };
       stops = h.stops;
-      went = record { fixed = h.went.fixed; failed = h.went.failed; later = h.went.later; faults = h.went.faults; safely = h.went.safely; lasting = h.went.lasting };
+      went = record { fixed = h.went.fixed; failed = h.went.failed; later = h.went.later; faults = h.went.faults; safely = h.went.safely; lasting = h.went.lasting; surplus = h.went.surplus };
       began = λ x call begun part whole. begun;
       refused = record { failed = tt; marks = tt; cause = λ safe sees x call begun part same. tt };
     })

@@ -23,6 +23,7 @@ returns-then-file-eq0-clause-read g c =
       };
       stilled = λ s. s;
       lasting = λ l. l;
+      surplus = λ s c. refl;
       room = λ safe. record { kept = λ p there has. has; free = λ p there is. is; zeroes = λ p there there' is. is };
       began = λ x call begun. begun;
     }

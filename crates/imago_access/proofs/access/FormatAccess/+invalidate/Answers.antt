@@ -10,7 +10,7 @@ use Rattle.imago_access.proofs.FilePairs.{pairs_append, kept_all_same}
 use Rattle.imago_access.proofs.ReadCauses.{invalidate_top, invalidate_below}
 use Rattle.imago_access.proofs.Untouched.{all_went_same}
 use Rattle.imago_access.proofs.Marking.{ends_reload, marked_top}
-use Rattle.imago_access.specs.Going.{MarksSome, Went}
+use Rattle.imago_access.specs.Going.{MarksSome, WentAnew}
 use Rattle.imago_access.proofs.access.FormatAccess.+invalidate.Goals as goal
 
 pub invalidate_part-returns-clause-kept : goal.invalidate_part-returns-clause-kept
@@ -58,7 +58,7 @@ invalidate_part-returns-in_err-invalidate_cache-clause-kept g t c = let d = g.D.
 
 pub invalidate_part-returns-in_err-invalidate_cache-clause-went : goal.invalidate_part-returns-in_err-invalidate_cache-clause-went
 invalidate_part-returns-in_err-invalidate_cache-clause-went g t c = let d = g.D.Seen in let ds = layers c.args.below.now in
-    subst (λ r. Pairs (Went d (IsOk r) (IsOk r)) (c.args.driver.now ∷ ds) (c.invalidate_cache.new.self ∷ ds)) (sym (handed_on _ _ c.from_residual.ensures.1))
+    subst (λ r. Pairs (WentAnew d (IsOk r) (IsOk r)) (c.args.driver.now ∷ ds) (c.invalidate_cache.new.self ∷ ds)) (sym (handed_on _ _ c.from_residual.ensures.1))
     (c.in_err-invalidate_cache.ensures.went, all_went_same d (false ≡ true) ds)
 
 pub invalidate_part-returns-in_err-invalidate_cache-clause-cause : goal.invalidate_part-returns-in_err-invalidate_cache-clause-cause

@@ -106,7 +106,7 @@ returns-in-Err-write_mapped-clause-does g c = record {
       let mine = mine_on d m.state (d.layer a1) (d.layer a2) like c.in-Ok.ensures.mine.0 in
       ran_both d b (IsMild c.in-Err-write_mapped.fault) GivesNone (GivesBytes c.args.offset (take n bytes)) (GivesBytes c.args.offset bytes) a0 a1 a3 x0 x1 x1 (λ p v none. absurd none) (gives_prefix c.args.offset n bytes most) first
       (ran_given_up d b m.state (IsMild c.in-Err-write_mapped.fault) (GivesBytes c.args.offset (take n bytes)) a1 a2 a3 x1 g.met.D.FormatDriverInstance.free_loose like c.in-Err-write_mapped.ensures.writes.went mine (λ none. like.unspent ∙ c.in-Ok.ensures.mine.1 none)
-      (λ mild safe. c.in-Err-write_mapped.ensures.writes.err safe mild) c.abandon.ensures.ok c.abandon.ensures.safe c.abandon.ensures.lasts c.abandon.ensures.none.0 c.abandon.ensures.none.1 c.in-Err-write_mapped.ensures.writes.stops);
+      (λ mild safe. c.in-Err-write_mapped.ensures.writes.err safe mild) c.abandon.ensures.ok c.abandon.ensures.safe c.abandon.ensures.lasts c.abandon.ensures.surplus c.abandon.ensures.none.0 c.abandon.ensures.none.1 c.in-Err-write_mapped.ensures.writes.stops);
   room = λ i mild. let d = g.D.Seen in
       let a0 = c.args.driver.now in let a1 = c.prepare_data_mapping.new.self in let a2 = c.write_mapped.new.self in let a3 = c.abandon.new.driver in
       let safe1 : d.safe a1 = c.in-Ok.ensures.does.went.safely (tt, i.is_seen) i.is_safe in

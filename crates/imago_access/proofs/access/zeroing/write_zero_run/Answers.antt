@@ -120,7 +120,7 @@ returns-in-Err-write_mapped_zeroes-clause-does g c = record {
       (bytes_zero c.args.offset asked c.args.offset zeroes (zeroes_zero n zeroes refl) (omega arith) (omega (arith, long, run))) first
       (ran_abandoned d b m.state (IsMild c.in-Err-write_mapped_zeroes.fault) (GivesBytes c.args.offset zeroes) a1 a2 a3 x1 g.met.D.FormatDriverInstance.free_loose
       (mine_on d m.state (d.layer a1) (d.layer a2) like c.in-Ok.ensures.mine.0) (λ none. like.unspent ∙ c.in-Ok.ensures.mine.1 none)
-      c.abandon.ensures.ok c.abandon.ensures.safe c.abandon.ensures.lasts c.abandon.ensures.none.0 c.abandon.ensures.none.1
+      c.abandon.ensures.ok c.abandon.ensures.safe c.abandon.ensures.lasts c.abandon.ensures.surplus c.abandon.ensures.none.0 c.abandon.ensures.none.1
       (ran_seen_over d b (IsMild c.in-Err-write_mapped_zeroes.fault) (GivesBytes c.args.offset zeroes) a1 a2 x1 (c.in-Err-write_mapped_zeroes.ensures.ran (b.under x1))));
   room = λ i mild. let d = g.D.Seen in
       let a0 = c.args.driver.now in let a1 = c.prepare_data_mapping.new.self in let a2 = c.write_mapped_zeroes.new.driver in let a3 = c.abandon.new.driver in

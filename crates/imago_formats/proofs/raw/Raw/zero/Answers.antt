@@ -1,5 +1,5 @@
 use Rattle.imago_access.specs.Stops.{GivesZero}
-use Rattle.std.proofs.Common.{rules, ap}
+use Rattle.std.proofs.Common.{rules, ap, refl}
 use Rattle.std.proofs.Math.Nat.{le_trans}
 use Rattle.std.specs.Prelude.{replicate}
 use Rattle.imago_storage.specs.State.{Shape}
@@ -32,6 +32,7 @@ returns-in_err-zero_range-clause-does g c =
         faults = λ mild. (same_faultless old new (unwritten_same old new c.args.offset zeroes c.in_err-zero_range.field-0.0 refused mild), tt);
         safely = λ mild safe. (keeps_on old new shape safe.0, le_trans safe.1 long);
         lasting = λ lasts. le_trans lasts long;
+        surplus = λ whole safe c. refl;
       };
       began = λ d whole began part same. tt;
       stops = λ safe below told. written_stops c.zero_range.result old new c.args.offset zeroes c.zero_range.ensures.ok c.zero_range.ensures.err below r.size r.writable (GivesZero c.args.offset c.args.length) safe.1 c.zero_range.ensures.stops c.zero_range.ensures.as_long (λ f mixed p lt. mixed_zeroes old.bytes c.args.offset c.args.length f mixed p);

@@ -1,4 +1,4 @@
-use Rattle.std.proofs.Common.{rules, ℕ, ◌≤◌, ap, subst, sym}
+use Rattle.std.proofs.Common.{rules, ℕ, ◌≤◌, ap, refl, subst, sym}
 use Rattle.imago_storage.specs.State.{Shape}
 use Rattle.imago_storage.proofs.Composing.{keeps_on}
 use Rattle.imago_formats.specs.RawLayer.{raw_fixed}
@@ -43,6 +43,7 @@ returns-in-Err-clause-does g c =
         faults = λ mild. (same_faultless old new (ungiven_same old new c.args.offset c.args.length c.in-Err.fault refused mild), tt);
         safely = λ mild safe. (keeps_on old new shape safe.0, subst (λ (n : ℕ). r.size ≤ n) (sym (ungiven_long old new c.args.offset c.args.length c.in-Err.fault refused)) safe.1);
         lasting = λ lasts. subst (λ (n : ℕ). r.size ≤ n) (sym (ungiven_long old new c.args.offset c.args.length c.in-Err.fault refused)) lasts;
+        surplus = λ whole safe c. refl;
       };
       began = λ d whole began part same. tt;
       stops = λ safe below told. search rules;

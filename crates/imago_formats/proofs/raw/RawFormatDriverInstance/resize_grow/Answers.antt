@@ -1,4 +1,4 @@
-use Rattle.std.proofs.Common.{rules}
+use Rattle.std.proofs.Common.{rules, refl}
 use Rattle.std.specs.Prelude.{⊤}
 use Rattle.imago_access.specs.Files.{WasNotCutOff}
 use Rattle.imago_storage.proofs.Composing.{keeps_on}
@@ -36,5 +36,6 @@ returns-in_err-grow_to-clause-grows g c =
         faults = λ mild. (ungrown_faultless old new r.size c.in_err-grow_to.field-0.0 refused mild, tt);
         safely = λ mild safe. (keeps_on old new c.grow_to.ensures.shape safe.0, rw c.in_err-grow_to.ensures.kept (refused.long safe.1));
         lasting = λ lasts. rw c.in_err-grow_to.ensures.kept (refused.long lasts);
+        surplus = λ whole safe c. refl;
       };
     })

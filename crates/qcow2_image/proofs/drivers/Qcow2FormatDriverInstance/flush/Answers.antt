@@ -1,12 +1,14 @@
 use Rattle.std.proofs.Common.{ap, sym, subst, ◌∙◌}
 use Rattle.imago_access.specs.Files.{WasNotCutOff}
 use Rattle.qcow2_image.specs.Allocating.{waits_in}
+use Rattle.qcow2_image.specs.Holding.{claim_held}
 use Rattle.qcow2_image.specs.declared.qcow2.Qcow2.{Qcow2}
 use Rattle.qcow2_image.specs.Steps.{KeepsImage, failed_behind, failed_by}
 use Rattle.qcow2_image.specs.Unspent.{holding_in}
 use Rattle.qcow2_image.proofs.ClusterSteps.{idle-waits}
-use Rattle.qcow2_image.proofs.ImageFlushes.{freed-cause, freed-failed, freed-like, freed-marks, freed-sees, freed-went, freed-written}
+use Rattle.qcow2_image.proofs.ImageFlushes.{freed-cause, freed-counted, freed-failed, freed-like, freed-marks, freed-sees, freed-went, freed-written}
 use Rattle.qcow2_image.proofs.Anew.{on-ok}
+use Rattle.qcow2_image.proofs.Pending.{counted-idle}
 use Rattle.qcow2_image.proofs.Leaks.{leaks-asked}
 use Rattle.qcow2_image.proofs.Lengths.{asked-long}
 use Rattle.qcow2_image.proofs.RequestsWithoutChanges.{asked-keeps, counted-faultless, meant, ok-whole}
@@ -67,6 +69,26 @@ returns-clause-written g c =
     (ap (λ (x : Qcow2 g.row.S.Denot g.S.Storage). x.failed) is ∙ ap (λ r. failed_behind failed_by r q.failed) (sym same)) in
     λ safe free. ok-whole c.settle.result _ (λ whole. meant g.S.Storage d.tables d.mode d.failed d.number (holding_in g.S.Storage d.unspent) (keeps.tables.seen safe.seen))
 
+pub returns-clause-counted : goal.returns-clause-counted
+returns-clause-counted g c =
+    let q = c.args.self.now in
+    let d = c.settle.new.self in
+    let is = c.settle.ensures.marks in
+    let same = c.settle.ensures.same in
+    let s = g.S.Storage.state q.tables.file.image in
+    let t = g.S.Storage.state c.flush-answer.new.self in
+    let keeps : KeepsImage {T = Unit} g.S.Storage q c.settle.result d =
+    asked-keeps g.S.Storage q d t c.settle.result c.flush-answer.ensures.kept c.flush-answer.ensures.later
+    (λ whole. let ok = subst WasNotCutOff same whole in counted-faultless s t c.flush-answer.result c.flush-answer.ensures.kept c.flush-answer.ensures.faults ok)
+    (ap (λ (x : Qcow2 g.row.S.Denot g.S.Storage). g.S.Storage.state x.tables.file.image) is) (ap (λ (x : Qcow2 g.row.S.Denot g.S.Storage). x.tables.file.header) is)
+    (ap (λ (x : Qcow2 g.row.S.Denot g.S.Storage). x.tables.l1) is) (ap (λ (x : Qcow2 g.row.S.Denot g.S.Storage). x.tables.caches) is)
+    (ap (λ (x : Qcow2 g.row.S.Denot g.S.Storage). x.tables.space) is) (ap (λ (x : Qcow2 g.row.S.Denot g.S.Storage). x.mode) is)
+    (ap (λ (x : Qcow2 g.row.S.Denot g.S.Storage). x.number) is) (ap (λ (x : Qcow2 g.row.S.Denot g.S.Storage). x.unspent) is)
+    (ap (λ (x : Qcow2 g.row.S.Denot g.S.Storage). x.failed) is ∙ ap (λ r. failed_behind failed_by r q.failed) (sym same)) in
+    λ safe free. ok-whole c.settle.result _ (λ whole. counted-idle g.S.Storage d (keeps.tables.seen safe.seen).loads
+    (ap (λ (x : Qcow2 g.row.S.Denot g.S.Storage). waits_in x.tables.space) is ∙ (sym c.has_waiting.ensures ∙ c.if-has_waiting.false))
+    (ap (λ (x : Qcow2 g.row.S.Denot g.S.Storage). claim_held (holding_in g.S.Storage x.unspent)) is ∙ free))
+
 pub returns-clause-marks : goal.returns-clause-marks
 returns-clause-marks g c =
     let q = c.args.self.now in
@@ -97,6 +119,10 @@ returns-then-has_waiting-clause-sees g c =
 pub returns-then-has_waiting-clause-written : goal.returns-then-has_waiting-clause-written
 returns-then-has_waiting-clause-written g c =
     λ safe free. freed-written g.row.S g.S.Storage g.S.Storage-dict g.S.Destruct-dict c.args.self.now c.flush_freed.new.self c.flush_freed.result c.flush_freed.ensures c.if-self.false (sym c.has_waiting.ensures ∙ c.if-has_waiting.true) safe
+
+pub returns-then-has_waiting-clause-counted : goal.returns-then-has_waiting-clause-counted
+returns-then-has_waiting-clause-counted g c =
+    λ safe free. freed-counted g.row.S g.S.Storage g.S.Storage-dict g.S.Destruct-dict c.args.self.now c.flush_freed.new.self c.flush_freed.result c.flush_freed.ensures c.if-self.false (sym c.has_waiting.ensures ∙ c.if-has_waiting.true) safe free
 
 pub returns-then-has_waiting-clause-like : goal.returns-then-has_waiting-clause-like
 returns-then-has_waiting-clause-like g c =

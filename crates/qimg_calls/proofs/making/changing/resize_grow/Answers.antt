@@ -33,7 +33,7 @@ returns g c =
       moves = λ intact. told-moves d (calls.ResizeGrow c.args.size c.args.mode) r (holding old None) (holding new None) refl
           (e.ok intact) (nothing-named r) (e.cause intact) (e.err intact);
       leads = step-leads d old new (GoesOn (done_or_refused r)) (WasNotCutOff r) call g.met.D.FormatDriverInstance.safe_runs e.went e.below
-          (λ on ready. not-cut r on) (λ on ready. e.intact (not-cut r on) ready.intact)
+          (λ on ready. not-cut r on) (λ on ready. e.went.surplus (not-cut r on, ready.intact.is_seen) ready.intact.is_safe) (λ on ready. e.intact (not-cut r on) ready.intact)
           (λ on ready. grown-between (below_of d.layer old) (map d.layer old.1) (chain_disk d.layer old) (chain_disk d.layer new) c.args.size (fill_of c.args.mode) r on (e.ok ready.intact) (e.err ready.intact))
           (λ ready. fewer-stops d (map d.layer old.1) (d.layer old.0).size (max (d.layer old.0).size c.args.size) (max (d.layer old.0).size c.args.size) (GivesPast (d.layer old.0).size) (GivesPast (d.layer old.0).size) old.0 new.0
           (omega arith) (λ p v gave. gave) (e.stops ready.intact));

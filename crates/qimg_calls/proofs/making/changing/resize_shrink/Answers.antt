@@ -33,7 +33,7 @@ returns g c =
           (e.ok intact) (nothing-named r) (e.cause intact) (e.err intact);
       leads = step-leads d old new (GoesOn (done_or_refused r)) (WasNotCutOff r) (shrink c.args.size) g.met.D.FormatDriverInstance.safe_runs e.went
           (subst (LookedUnder (below_ghosts d) (WasNotCutOff r) old.1) (sym e.below) (looked_under_same (below_ghosts d) (WasNotCutOff r) old.1))
-          (λ on ready. not-cut r on) (λ on ready. e.intact (not-cut r on) ready.intact)
+          (λ on ready. not-cut r on) (λ on ready. e.went.surplus (not-cut r on) ready.intact.is_safe) (λ on ready. e.intact (not-cut r on) ready.intact)
           (λ on ready. shrunk-between (below_of d.layer old) (map d.layer old.1) (chain_disk d.layer old) (chain_disk d.layer new) c.args.size r on (e.ok ready.intact) (e.err ready.intact))
           (λ ready. fewer-stops d (map d.layer old.1) c.args.size (d.layer old.0).size (d.layer old.0).size (GivesBelowPast (map d.layer old.1) c.args.size) (GivesBelowPast (map d.layer old.1) c.args.size) old.0 new.0
           (omega arith) (λ p v gave. gave) (e.stops ready.intact));

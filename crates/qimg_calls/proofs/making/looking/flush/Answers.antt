@@ -27,7 +27,7 @@ returns g c kept is =
       room = λ intact on. tt;
       units = λ intact may was. tt;
       marks = told-marks (Marks d old.0 new.0) r e.marks;
-      moves = λ intact. told-moves d calls.Flush r (holding old kept) (holding new kept) refl (e.ok intact) (flush-names d old new r (e.same intact) (e.written intact)) (e.cause intact.is_safe)
+      moves = λ intact. told-moves d calls.Flush r (holding old kept) (holding new kept) refl (e.ok intact) (flush-names d old new r (e.same intact) (e.written intact) (e.counted intact)) (e.cause intact.is_safe)
           (refused-stays d old new (files d old.0) (files d new.0) r (e.cause intact.is_safe));
       leads = ran-leads d old new (GoesOn (done_or_refused r)) (IsOk r) flush m.safe_runs GivesNone e.ran
           (λ on ready. whole-ok (d.layer old.0) (files d old.0) (files d new.0) r (not-cut r on) ready.usable.0 (e.cause ready.intact.is_safe)) (λ p v none. absurd none) (omega arith);

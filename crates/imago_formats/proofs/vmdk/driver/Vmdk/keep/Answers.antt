@@ -1,4 +1,4 @@
-use Rattle.std.proofs.Common.{◌∷◌, arith}
+use Rattle.std.proofs.Common.{◌∷◌, arith, refl}
 use Rattle.std.specs.Prelude.{map}
 use Rattle.imago_access.proofs.FilePairs.{faultless_all_same}
 use Rattle.imago_formats.proofs.Quiet.{at_once_handed, at_once_runs, keeps_same}
@@ -16,6 +16,7 @@ returns-clause-keeps g c =
       safely = λ safe. (kept.keeps safe.0, kept.sees safe.1, kept.said safe.2);
       stilled = λ s. s;
       lasting = λ l. l;
+      surplus = λ safe c. refl;
     }
 
 pub returns-in_err-ready-clause-keeps : goal.returns-in_err-ready-clause-keeps

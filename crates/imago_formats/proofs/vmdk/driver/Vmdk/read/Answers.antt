@@ -1,4 +1,4 @@
-use Rattle.std.proofs.Common.{arith}
+use Rattle.std.proofs.Common.{arith, refl}
 use Rattle.imago_formats.proofs.VmdkSteps.{kept_back}
 use Rattle.imago_formats.proofs.vmdk.driver.Vmdk.read.Goals as goal
 
@@ -13,4 +13,5 @@ returns-clause-keeps g c =
       safely = λ safe. (kept.keeps safe.0, kept.sees safe.1, kept.said safe.2);
       stilled = λ s. s;
       lasting = λ l. l;
+      surplus = λ safe c. refl;
     }

@@ -1,6 +1,7 @@
 use Rattle.std.proofs.Common.{rules, ◌∷◌}
 use Rattle.std.specs.Prelude.{map}
 use Rattle.std.proofs.lemmas.Result.{IfErr-weaker}
+use Rattle.imago_access.proofs.Running.{went_anew}
 use Rattle.imago_formats.proofs.Quiet.{plain_fresh, plain_reload, quiet_went, unmarked}
 use Rattle.imago_formats.proofs.VmdkSteps.{ok_whole, on_ok}
 use Rattle.imago_formats.specs.VmdkLayer.{vmdk_layer}
@@ -14,7 +15,8 @@ returns-clause-kept g c = c.keep.ensures.keeps.kept
 
 pub returns-clause-went : goal.returns-clause-went
 returns-clause-went g c =
-    quiet_went _ _ _ c.args.self.now c.keep.new.self c.keep.ensures.keeps (λ ok. c.keep.ensures.whole (ok_whole c.keep.result ok))
+    went_anew _ _ _ c.args.self.now c.keep.new.self
+    (quiet_went _ _ _ c.args.self.now c.keep.new.self c.keep.ensures.keeps (λ ok. c.keep.ensures.whole (ok_whole c.keep.result ok)))
 
 pub returns-clause-failed : goal.returns-clause-failed
 returns-clause-failed g c =

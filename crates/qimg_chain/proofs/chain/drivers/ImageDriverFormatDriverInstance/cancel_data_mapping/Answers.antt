@@ -35,6 +35,7 @@ returns-in-Qcow2 g c =
         failed = h.failed;
         none = h.none;
         lasts = h.lasts;
+        surplus = h.surplus;
         sees = h.sees;
         safe = h.safe;
         room = λ safe mine. leaves kind a b _ _ (h.room safe mine);

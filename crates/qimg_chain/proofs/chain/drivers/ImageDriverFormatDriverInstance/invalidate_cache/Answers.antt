@@ -1,5 +1,5 @@
 use Rattle.qimg_chain.proofs.ImageKinds.{raw_kind, vmdk_kind, qcow2_kind}
-use Rattle.qimg_chain.proofs.SeenThrough.{at_once, marks, went}
+use Rattle.qimg_chain.proofs.SeenThrough.{anew, at_once, marks}
 use Rattle.qimg_chain.proofs.chain.drivers.ImageDriverFormatDriverInstance.invalidate_cache.Goals as goal
 
 pub returns-in-Raw-clause-at_once : goal.returns-in-Raw-clause-at_once
@@ -9,7 +9,7 @@ returns-in-Raw-clause-at_once g c =
 
 pub returns-in-Raw-clause-went : goal.returns-in-Raw-clause-went
 returns-in-Raw-clause-went g c =
-    rw (c.in-Raw.is) (went (raw_kind g.row.S g.S.Storage g.S.Storage-dict g.S.Destruct-dict)
+    rw (c.in-Raw.is) (anew (raw_kind g.row.S g.S.Storage g.S.Storage-dict g.S.Destruct-dict)
     c.in-Raw.raw c.invalidate_cache.new.self _ _ c.invalidate_cache.ensures.went)
 
 pub returns-in-Raw-clause-marks : goal.returns-in-Raw-clause-marks
@@ -24,7 +24,7 @@ returns-in-Vmdk-clause-at_once g c =
 
 pub returns-in-Vmdk-clause-went : goal.returns-in-Vmdk-clause-went
 returns-in-Vmdk-clause-went g c =
-    rw (c.in-Vmdk.is) (went (vmdk_kind g.row.S g.S.Storage g.S.Storage-dict g.S.Destruct-dict)
+    rw (c.in-Vmdk.is) (anew (vmdk_kind g.row.S g.S.Storage g.S.Storage-dict g.S.Destruct-dict)
     c.in-Vmdk.vmdk c.invalidate_cache-in-Vmdk.new.self _ _ c.invalidate_cache-in-Vmdk.ensures.went)
 
 pub returns-in-Vmdk-clause-marks : goal.returns-in-Vmdk-clause-marks
@@ -39,7 +39,7 @@ returns-in-Qcow2-clause-at_once g c =
 
 pub returns-in-Qcow2-clause-went : goal.returns-in-Qcow2-clause-went
 returns-in-Qcow2-clause-went g c =
-    rw (c.in-Qcow2.is) (went (qcow2_kind g.row.S g.S.Storage g.S.Storage-dict g.S.Destruct-dict)
+    rw (c.in-Qcow2.is) (anew (qcow2_kind g.row.S g.S.Storage g.S.Storage-dict g.S.Destruct-dict)
     c.in-Qcow2.qcow2 c.invalidate_cache-in-Qcow2.new.self _ _ c.invalidate_cache-in-Qcow2.ensures.went)
 
 pub returns-in-Qcow2-clause-marks : goal.returns-in-Qcow2-clause-marks
