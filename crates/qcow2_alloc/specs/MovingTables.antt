@@ -73,6 +73,7 @@ pub record IsGrownCopy (h : Fields) (table : TableValue) (run : Run) (n : ℕ) (
   pub layout : copy.layout ≡ layout_of h
   pub long : length copy.words ≡ n * words_of_cluster h
   pub longer : length table.words ≤ length copy.words
+  pub few : length copy.words ≤ 2 ^ 20
   pub placed : copy.cluster ≡ Some (run.first + lacking table (counters_of_block h) run.first run.len)
   pub sane : (i : ℕ) → i < length copy.words → IsTrue (block_word_sound h.cluster_bits (slice_index copy.words i))
   pub fit : AreFit copy.words

@@ -2,28 +2,12 @@
 //! (`qcow2_alloc_clusters`) and imago (`allocate_clusters`). What waits to be freed is imago's `clusters_to_free`, and the mark qemu's
 //! `free_cluster_index`, imago's `first_free_cluster`.
 ghost use Rattle.std.specs.Prelude.{◌≡◌, ◌≤◌, ◌<◌, ◌-◌, ◌%◌, ◌^◌, ◌+◌, ℕ, true, Ok, Err, OnOk, OnErr, IfOk, IfErr, Some, None, slice_index, length, min, [], Result, MatchOption};
-ghost use Rattle.imago_storage.specs.declared.fault.Fault.{Fault};
-ghost use Rattle.qcow2_metadata.specs.Blocks.{Block, with_counter};
-ghost use Rattle.qcow2_alloc.specs.Allocators.{table_of, mark_of, named_block, UsesBlock, Lowers, LowersCluster, LoadsAllocator};
-ghost use Rattle.std.specs.List.{remove};
-ghost use Rattle.qcow2_alloc.specs.declared.cache.CacheDependency.TheVariants.{RbDependsOnL2};
-ghost use Rattle.qcow2_alloc.specs.Caches.{cached_in, order_of, HasRoomOf, cached_file};
-ghost use Rattle.qcow2_alloc.specs.Dropping.{Dropped, StaysSafe};
-ghost use Rattle.qcow2_alloc.specs.Safety.{AreBlocksClean};
-ghost use Rattle.qcow2_alloc.specs.FreeList.{entry_at, shortened};
-ghost use Rattle.qcow2_alloc.specs.Freeing.{Frees, MayFree, data_in, IsRest, IsRestInTurn, OrdersFreeing};
-ghost use Rattle.qcow2_types.specs.Header.{has_external_data};
-ghost use Rattle.qcow2_alloc.specs.Finding.{BlockFound};
-ghost use Rattle.qcow2_alloc.specs.HandingOut.{AllocatesClusters, AllocatesClusterAt, GrowsReftable, held_at, held_by};
-ghost use Rattle.qcow2_alloc.specs.ReadyingRuns.{Spares};
-ghost use Rattle.qcow2_alloc.specs.Quiet.{metadata_in};
-ghost use Rattle.qcow2_alloc.specs.State.{seen};
 
 use crate::cache::MetadataCaches;
 use crate::clusters_to_free::ClustersToFreeList;
 use crate::file::{ImageFile, is_in_reach};
 use imago_storage::{Fault, Storage};
-use qcow2_metadata::{RefBlock, RefTable, Table};
+use qcow2_metadata::{RefTable, Table};
 use qcow2_types::{ClusterCount, ClustersToFreeEntry, HostCluster, PendingClusters};
 use std::alloc::Global;
 
@@ -41,9 +25,25 @@ pub struct Allocator {
     alloc: Global,
     pub(crate) reftable: RefTable,
     pub(crate) first_free_cluster: HostCluster,
+    ghost few: { length reftable.words ≤ 2 ^ 20 },
 }
 
 impl Allocator {
+    ghost use Rattle.imago_storage.specs.declared.fault.Fault.{Fault};
+    ghost use Rattle.qcow2_alloc.specs.Allocators.{table_of, mark_of, named_block, LowersCluster, LoadsAllocator};
+    ghost use Rattle.std.specs.List.{remove};
+    ghost use Rattle.qcow2_alloc.specs.declared.cache.CacheDependency.TheVariants.{RbDependsOnL2};
+    ghost use Rattle.qcow2_alloc.specs.Caches.{cached_in, order_of, HasRoomOf, cached_file};
+    ghost use Rattle.qcow2_alloc.specs.Dropping.{Dropped, StaysSafe};
+    ghost use Rattle.qcow2_alloc.specs.Safety.{AreBlocksClean};
+    ghost use Rattle.qcow2_alloc.specs.FreeList.{entry_at, shortened};
+    ghost use Rattle.qcow2_alloc.specs.Freeing.{Frees, MayFree, data_in, IsRest, IsRestInTurn, OrdersFreeing};
+    ghost use Rattle.qcow2_types.specs.Header.{has_external_data};
+    ghost use Rattle.qcow2_alloc.specs.HandingOut.{AllocatesClusters, AllocatesClusterAt, GrowsReftable, held_at, held_by};
+    ghost use Rattle.qcow2_alloc.specs.ReadyingRuns.{Spares};
+    ghost use Rattle.qcow2_alloc.specs.Quiet.{metadata_in};
+    ghost use Rattle.qcow2_alloc.specs.State.{seen};
+
     /// The allocator of an image: its refcount table is loaded, and the search for free clusters begins at cluster 0.
     ///
     /// It refuses with `Fault::DamagedTable` where the table doesn't begin with a cluster that words can name, and then asks nothing of the
@@ -70,6 +70,7 @@ impl Allocator {
         ensures table { table_of result ≡ table }
         ensures mark { mark_of result ≡ first_free }
     {
+        prove!(table.entries() <= RefTable::MAX_ENTRIES);
         Allocator {
             alloc,
             reftable: table,
@@ -112,7 +113,7 @@ impl Allocator {
         let Some(rb_cluster) = self.block_cluster(rt_index) else {
             return Err(Fault::DamagedTable);
         };
-        lower_in(caches, file, rb_cluster, rb_index)?;
+        counting::lower_in(caches, file, rb_cluster, rb_index)?;
         if cluster < self.first_free_cluster {
             self.first_free_cluster = cluster;
         }
@@ -434,28 +435,4 @@ fn drop_entries(list: &mut ClustersToFreeList)
         let last = list.len() - 1;
         let _parts = list.remove(last).into_parts();
     }
-}
-
-// Lowers a counter of a block by 1.
-fn lower_counter(block: &mut RefBlock, index: usize) -> Result<(), Fault>
-    ensures { Lowers index block.old result block.new }
-{
-    if index >= block.entries() {
-        return Err(Fault::DamagedTable);
-    }
-    let _value = block.lock_write().decrement(index)?;
-    Ok(())
-}
-
-// Lowers a counter of the block in a cluster by 1.
-fn lower_in<S: Storage>(
-    caches: &mut MetadataCaches<S>,
-    file: &mut ImageFile<S>,
-    rb_cluster: HostCluster,
-    index: usize,
-) -> Result<(), Fault>
-    ensures { UsesBlock S.state rb_cluster (Lowers index) (cached_file caches.old file.old) result (cached_file caches.new file.new) }
-{
-    let block = caches.rb_get_or_insert(file, rb_cluster)?;
-    lower_counter(block, index)
 }

@@ -49,6 +49,7 @@ module _ (h : Fields) (table : TableValue) (run : Run) (grown placed copy : Tabl
         layout = layout-is;
         long = sym clusters-fill;
         longer = let le = for.longer in let same = long-is in omega (arith, le, same);
+        few = is.long;
         placed = names.placed ∙ ap (λ (t : TableValue). t.cluster) there;
         sane = λ i lt. subst (λ (l : Layout). IsTrue (block_word_sound l.cluster_bits (slice_index copy.words i))) layout-is (is.sound i lt);
         fit = is.fit;

@@ -1,9 +1,9 @@
-//! Free clusters are counted. For qemu and imago their refcounts go from 0 to 1.
+//! Free clusters are counted, and counters are lowered. For qemu and imago the refcounts of free clusters go from 0 to 1.
 ghost use Rattle.std.specs.Prelude.{◌≤◌, ◌+◌, ◌^◌, List};
 ghost use Rattle.qcow2_metadata.specs.Blocks.{Block};
 ghost use Rattle.qcow2_types.specs.Pending.{FreeEntry};
 ghost use Rattle.qcow2_alloc.specs.Allocating.{Raises, RaisesCluster, CountsRun, CountsNamed};
-ghost use Rattle.qcow2_alloc.specs.Allocators.{table_of, UsesBlock};
+ghost use Rattle.qcow2_alloc.specs.Allocators.{table_of, UsesBlock, Lowers};
 ghost use Rattle.qcow2_alloc.specs.Caches.{cached_file};
 ghost use Rattle.qcow2_alloc.specs.State.{lent};
 
@@ -100,4 +100,28 @@ fn raise_in<S: Storage>(
 {
     let block = caches.rb_get_or_insert(file, rb_cluster)?;
     raise_counter(block, index)
+}
+
+// Lowers a counter of a block by 1.
+fn lower_counter(block: &mut RefBlock, index: usize) -> Result<(), Fault>
+    ensures { Lowers index block.old result block.new }
+{
+    if index >= block.entries() {
+        return Err(Fault::DamagedTable);
+    }
+    let _value = block.lock_write().decrement(index)?;
+    Ok(())
+}
+
+// Lowers a counter of the block in a cluster by 1.
+pub(super) fn lower_in<S: Storage>(
+    caches: &mut MetadataCaches<S>,
+    file: &mut ImageFile<S>,
+    rb_cluster: HostCluster,
+    index: usize,
+) -> Result<(), Fault>
+    ensures { UsesBlock S.state rb_cluster (Lowers index) (cached_file caches.old file.old) result (cached_file caches.new file.new) }
+{
+    let block = caches.rb_get_or_insert(file, rb_cluster)?;
+    lower_counter(block, index)
 }

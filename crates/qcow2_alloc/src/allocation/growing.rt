@@ -55,7 +55,6 @@ impl Allocator {
         ensures enough { IfOk result (λ room. room.len
             ≡ clusters + lacking (table_of self.now) (counters_of_block file.old.header.fields) room.first room.len) }
     {
-        let _words = self.reftable.entries();
         let rb_bits = file.header.rb_bits();
         let first = self.find_run(file, caches, from, clusters)?;
         let mut room = Run {

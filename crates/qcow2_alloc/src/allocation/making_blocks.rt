@@ -89,8 +89,6 @@ impl Allocator {
         ensures first { result ≡ index * counters_of_block header.now.fields }
         ensures own { result / counters_of_block header.now.fields ≡ index }
     {
-        // There are few words.
-        let _entries = self.reftable.entries();
         HostCluster::from_ref_indices(index, 0, header.rb_bits())
     }
 

@@ -71,6 +71,7 @@ impl Allocator {
         mut table: RefTable,
     ) -> Result<(), Fault>
         requires placed { IsPlacedTable table }
+        requires few { length table.words ≤ 2 ^ 20 }
         requires bits { table.layout.cluster_bits ≡ file.old.header.fields.cluster_bits }
         requires old_placed { IsPlacedTable (table_of self.old) }
         requires old_bits { (table_of self.old).layout.cluster_bits ≡ file.old.header.fields.cluster_bits }

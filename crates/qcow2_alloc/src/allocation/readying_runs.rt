@@ -128,7 +128,6 @@ impl Allocator {
         ensures readies { ReadiesBlocks S.state (mark_of self.old)
             (last + (count / counters_of_block file.old.header.fields + 2)) first last (seen self.old caches.old file.old list.old) result
             (seen self.new caches.new file.new list.new) }
-        ensures short { length (table_of self.old).words ≤ 2 ^ 20 }
         ensures mark { mark_of self.new ≡ mark_of self.old }
         ensures held { list.new.held ≡ list.old.held }
     {

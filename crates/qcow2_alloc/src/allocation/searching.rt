@@ -101,8 +101,6 @@ impl Allocator {
         ensures { ExtendsRun S.state (table_of self.now) count run (cached_file caches.old file.old) result
             (cached_file caches.new file.new) }
     {
-        // It has at most 2^20 words.
-        let _words = self.reftable.entries();
         let entries = file.header.rb_entries();
         let (rt_index, rb_index) = run.next().rt_rb_indices(file.header.rb_bits());
         match self.block_cluster(rt_index) {
@@ -126,8 +124,6 @@ impl Allocator {
         ensures { LooksForFree S.state (table_of self.now) from
             (end * counters_of_block file.old.header.fields) (cached_file caches.old file.old) result (cached_file caches.new file.new) }
     {
-        // It has at most 2^20 words.
-        let _words = self.reftable.entries();
         let rb_bits = file.header.rb_bits();
         let mut next = from;
         while next.rt_index(rb_bits) < end {
@@ -151,8 +147,6 @@ impl Allocator {
             ((from / counters_of_block file.old.header.fields + 1) * counters_of_block file.old.header.fields)
             (cached_file caches.old file.old) result (cached_file caches.new file.new) }
     {
-        // It has at most 2^20 words.
-        let _words = self.reftable.entries();
         let rb_bits = file.header.rb_bits();
         let (rt_index, rb_index) = from.rt_rb_indices(rb_bits);
         let Some(rb_cluster) = self.block_cluster(rt_index) else {

@@ -65,7 +65,7 @@ from_ref_indices-requires-clause-fits g c =
     let lt = inside g d c.in-Some-2.index (c.in_ok-index.was ∙ ap (λ (o : Option ℕ). Ok o) c.in-Some-2.is) in
     let start = base g d in
     let bits = c.rb_bits-rb_bits.ensures in
-    let few = few-clusters (c.args.from / k g d) (k g d) (length (table_of c.args.self.now).words) c.rb_bits-rb_bits.result c.requires c.entries-words.ensures.table.long bits.entries bits.bounds.1 in
+    let few = few-clusters (c.args.from / k g d) (k g d) (length (table_of c.args.self.now).words) c.rb_bits-rb_bits.result c.requires c.args.self.now.few bits.entries bits.bounds.1 in
     omega (arith, lt, start, few)
 
 pub returns-in-Some-2 : goal.returns-in-Some-2

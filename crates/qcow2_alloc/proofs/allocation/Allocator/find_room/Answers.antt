@@ -62,7 +62,7 @@ lacking_for-requires-in-loop-needed-clause-fits g c =
     let now = c.in_ok-room.room in
     let searched = rooms-then g.S.Storage.state table c.args.from c.args.clusters c.args.caches.now c.args.file.now l.room l.caches l.file l.invariant.0 (wide c.rb_bits-rb_bits.result k bits.entries bits.bounds.0) now c.grow_room.new.caches c.grow_room.new.file
     (omega (arith, c.len.ensures, c.loop-needed-test.true, l.invariant.1)) c.in_ok-room.ensures in
-    let far = near (length table.words) c.rb_bits-rb_bits.result k bits.entries bits.bounds.1 c.entries-words.ensures.table.long in
+    let far = near (length table.words) c.rb_bits-rb_bits.result k bits.entries bits.bounds.1 c.args.self.now.few in
     omega (arith, searched.within, searched.few, c.requires.few, far)
 
 pub overflow_add-needed-in-loop-needed : goal.overflow_add-needed-in-loop-needed

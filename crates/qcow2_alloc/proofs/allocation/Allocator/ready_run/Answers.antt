@@ -75,7 +75,7 @@ pub loop-first-smaller : goal.loop-first-smaller
 loop-first-smaller g c =
     let l = c.loop-first in
     let made = c.in_ok-ready_blocks.ensures in
-    turns-fewer (table_of l.self) (table_of c.ready_blocks.new.self) made.short (made.readies.further c.in_default.is)
+    turns-fewer (table_of l.self) (table_of c.ready_blocks.new.self) l.self.few (made.readies.further c.in_default.is)
 
 pub loop-first-preserved : goal.loop-first-preserved
 loop-first-preserved g c =

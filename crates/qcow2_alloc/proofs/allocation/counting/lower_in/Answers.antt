@@ -1,6 +1,6 @@
 use Rattle.qcow2_alloc.specs.Allocators.{Lowers}
 use Rattle.qcow2_alloc.proofs.Caching.EntryLoans.{block-used}
-use Rattle.qcow2_alloc.proofs.allocation.lower_in.Goals as goal
+use Rattle.qcow2_alloc.proofs.allocation.counting.lower_in.Goals as goal
 
 pub returns : goal.returns
 returns g c =
