@@ -14,7 +14,7 @@ use Rattle.qcow2_types.specs.Pending.{FreeEntry}
 use Rattle.qcow2_types.specs.Switched.{with_refcount_table}
 use Rattle.qcow2_types.specs.TableBytes.{AreFit, table_bytes}
 use Rattle.qcow2_types.specs.Words.{block_offset, block_word_sound}
-use Rattle.qcow2_metadata.specs.Tables.{IsEnough, IsGrownLength, TableValue, IsPlacedTable, padded, table_place}
+use Rattle.qcow2_metadata.specs.Tables.{IsEnough, IsGrownLength, IsTable, TableValue, IsPlacedTable, block_words, padded, table_place}
 use Rattle.qcow2_metadata.specs.Places.{IsInReach}
 use Rattle.qcow2_alloc.specs.declared.allocation.searching.Run.{Run}
 use Rattle.qcow2_alloc.specs.declared.cache.CacheDependency.TheVariants.{L2DependsOnRb}
@@ -66,6 +66,7 @@ pub record NamesNewBlocks (h : Fields) (was : TableValue) (run : Run) (old new :
   pub news : (i : ℕ) → lacks was (counters_of_block h) run.first run.len i ≡ true
       → block_offset (slice_index new.words i) ≡ (run.first + rank (lacks was (counters_of_block h) run.first run.len) i) * cluster_size h
   pub olds : (i : ℕ) → lacks was (counters_of_block h) run.first run.len i ≡ false → slice_index new.words i ≡ slice_index old.words i
+  pub table : IsTable block_words old → old.layout.cluster_bits ≡ h.cluster_bits → IsTable block_words new
 
 -- A copy of the refcount table, grown to n clusters, is to stand in a run behind the blocks that are lacking for it. Its words name these,
 -- and what the old ones name.

@@ -1,6 +1,6 @@
 -- The words of a grown refcount table come to name new blocks, one behind the other.
 use Rattle.std.proofs.Common.{◌≡◌, ◌≢◌, ℕ, suc, ◌+◌, ◌-◌, ◌*◌, ◌/◌, ◌^◌, ◌<◌, ◌≤◌, refl, arith, ap, sym, subst, ◌∙◌, Bool, true, false, inl, inr, length, Some}
-use Rattle.std.specs.Prelude.{slice_index, ◌==◌, ◌&&◌, nat_le, nat_lt}
+use Rattle.std.specs.Prelude.{IsTrue, slice_index, ◌==◌, ◌&&◌, nat_le, nat_lt}
 use Rattle.std.proofs.lemmas.Bool.{cases_eq, cases_lt}
 use Rattle.std.proofs.lemmas.Bool.Decides.{nat_tests}
 use Rattle.std.proofs.lemmas.List.{length-set, get_or-set_same, get_or-set_other}
@@ -8,10 +8,10 @@ use Rattle.std.proofs.lemmas.Nat.{pow_pos}
 use Rattle.std.proofs.Math.Nat.{mul-le-mul, mul-le-mul_right}
 use Rattle.qcow2_types.specs.Counts.{counters_of_block}
 use Rattle.qcow2_types.specs.Header.{Fields, cluster_size}
-use Rattle.qcow2_types.specs.Words.{block_offset}
+use Rattle.qcow2_types.specs.Words.{Layout, block_offset, block_word_sound}
 use Rattle.qcow2_metadata.specs.Places.{IsInReach}
-use Rattle.qcow2_metadata.specs.Tables.{TableValue, IsNamable, with_word}
-use Rattle.qcow2_metadata.proofs.TableSteps.{block_named}
+use Rattle.qcow2_metadata.specs.Tables.{TableValue, IsNamable, IsTable, block_words, with_word}
+use Rattle.qcow2_metadata.proofs.TableSteps.{block_named, block_word_named, entered}
 use Rattle.qcow2_alloc.specs.declared.allocation.searching.Run.{Run}
 use Rattle.qcow2_alloc.specs.Growing.{lacks, lacking}
 use Rattle.qcow2_alloc.specs.MakingRoom.{rank}
@@ -34,6 +34,7 @@ module _ (h : Fields) (was : TableValue) (run : Run) where
     pub long : length new.words ≡ length old.words
     pub news : (i : ℕ) → i < end → lack i ≡ true → block_offset (slice_index new.words i) ≡ (run.first + rank lack i) * cluster_size h
     pub olds : (i : ℕ) → lack i ≡ false → slice_index new.words i ≡ slice_index old.words i
+    pub table : IsTable block_words old → old.layout.cluster_bits ≡ h.cluster_bits → IsTable block_words new
 
   -- One that is lacking stands behind those before it.
   pub rank-before : (i end : ℕ) → i < end → lack i ≡ true → rank lack i + 1 ≤ rank lack end
@@ -50,6 +51,7 @@ module _ (h : Fields) (was : TableValue) (run : Run) where
     long = refl;
     news = λ i lt is. let some = rank-before i end lt is in absurd (omega (arith, some, none));
     olds = λ i is. refl;
+    table = λ is bits. is;
   }
 
   pub named-over : (index : ℕ) (old new : TableValue) → rank lack (suc index) ≡ rank lack index → NamesBefore index old new → NamesBefore (index + 1) old new
@@ -66,6 +68,7 @@ module _ (h : Fields) (was : TableValue) (run : Run) where
           absurd (omega (arith, more, at))
     ]) is;
     olds = before.olds;
+    table = before.table;
   }
 
   pub named-then : (index place : ℕ) (old mid new : TableValue) → 9 ≤ h.cluster_bits → lack index ≡ true → index < length mid.words → place ≡ run.first + rank lack index → IsInReach h.cluster_bits place
@@ -80,6 +83,9 @@ module _ (h : Fields) (was : TableValue) (run : Run) where
       | inr away ↦ ap block_offset (get_or-set_other mid.words index i (place * 2 ^ h.cluster_bits) 0 away) ∙ before.news i (omega (arith, lt, away)) is'
     ];
     olds = λ i off. get_or-set_other mid.words index i (place * 2 ^ h.cluster_bits) 0 (λ same. absurd (let both : true ≡ false = sym is ∙ ap lack (sym same) ∙ off in cc both)) ∙ before.olds i off;
+    table = λ is bits. entered block_words mid.layout mid.words index (place * 2 ^ h.cluster_bits) mid.cluster mid.cluster mid.modified true (before.table is bits)
+        (subst (λ b. IsTrue (block_word_sound b (place * 2 ^ h.cluster_bits))) (sym (ap (λ (l : Layout). l.cluster_bits) before.layout ∙ bits)) (block_word_named h.cluster_bits (Some place) low reach))
+        (omega (arith, reach));
   })
 
   -- At the end all are.
@@ -90,6 +96,7 @@ module _ (h : Fields) (was : TableValue) (run : Run) where
     long = before.long;
     news = λ i is. before.news i (all i is) is;
     olds = before.olds;
+    table = before.table;
   }
 
 -- An index is lacking that has no block and counts a cluster of the run,

@@ -25,7 +25,7 @@ whole-fill h l low whole =
     ap (λ x. x % 2 ^ h.cluster_bits) same ∙ mul-mod_left (l / words_of_cluster h) (2 ^ h.cluster_bits)
 
 module _ (h : Fields) (table : TableValue) (run : Run) (grown placed copy : TableValue) (for : IsCopyFor h table run grown) (low : 9 ≤ h.cluster_bits) (there : placed ≡ record grown { cluster = Some (run.first + lacking table (counters_of_block h) run.first run.len); modified = true })
-    (names : NamesNewBlocks h table run placed copy) (is : IsTable block_words copy) where
+    (names : NamesNewBlocks h table run placed copy) (was : IsTable block_words grown) where
   long-is : length copy.words ≡ length grown.words
   long-is = names.long ∙ ap (λ (t : TableValue). length t.words) there
 
@@ -40,6 +40,12 @@ module _ (h : Fields) (table : TableValue) (run : Run) (grown placed copy : Tabl
 
   old-word : (i : ℕ) → slice_index placed.words i ≡ slice_index table.words i
   old-word i = ap (λ (t : TableValue). slice_index t.words i) there ∙ ap (λ (t : TableValue). slice_index t.words i) for.copied ∙ padded_at table.words (length grown.words) i
+
+  -- Its words are those of a table, as those of the grown copy were.
+  is : IsTable block_words copy
+  is =
+      names.table (subst (λ (t : TableValue). IsTable block_words t) (sym there) (record { low = was.low; high = was.high; long = was.long; sound = was.sound; fit = was.fit }))
+      (ap (λ (t : TableValue). t.layout.cluster_bits) there ∙ ap (λ (t : TableValue). t.layout.cluster_bits) for.copied)
 
   pub copy-planned : run.first ≢ 0 → CanName table h.cluster_bits (run.first + (run.len - 1)) → IsInReach h.cluster_bits (run.first + (run.len - 1)) → run.first + run.len ≤ length grown.words * counters_of_block h
       → IsPlan h table run copy × (length copy.words ≡ length grown.words)

@@ -235,8 +235,6 @@ impl Allocator {
         }
         copy.set_cluster(HostCluster(first + self.lacking_for(room, rb_bits)));
         self.name_new_blocks(copy, header, room)?;
-        // Each of its words is sound.
-        let _words = copy.entries();
         Ok(())
     }
 }

@@ -27,5 +27,5 @@ returns-clause-ok c =
     let blocks : c.lacking_for.result ≡ lacking t k run.first run.len = c.lacking_for.ensures ∙ ap (λ n. lacking t n run.first run.len) entries in
     let place : c.first-2.inside.0 + c.lacking_for.result ≡ run.first + lacking t k run.first run.len = omega (arith, first, blocks) in
     copy-planned h t run c.args.copy.now c.set_cluster.new.self c.name_new_blocks.new.table c.requires.copy c.cluster_bits.ensures.shaped.low
-    (c.set_cluster.ensures ∙ ap (λ (d : ℕ). record c.args.copy.now { cluster = Some d; modified = true }) place) c.in_ok-name_new_blocks.ensures.ok c.entries-words.ensures.table
+    (c.set_cluster.ensures ∙ ap (λ (d : ℕ). record c.args.copy.now { cluster = Some d; modified = true }) place) c.in_ok-name_new_blocks.ensures.ok c.entries.ensures.table
     (λ none. some (omega (arith, first, none))) can.0 can.1 (omega (arith, last, below, end, words, more, enough))
