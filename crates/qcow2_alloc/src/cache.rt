@@ -49,8 +49,7 @@ impl<S: Storage> AsyncLruCacheBackend for L2CacheBackend<S> {
         }
         let entries = device.header.l2_entries();
         let table = L2Table::load(self.alloc, &mut device.image, &device.header, key, entries)?;
-        // Its words are those of a table.
-        let _entries = table.entries();
+        prove!(table.cluster_bits() >= 9);
         Ok(table)
     }
 
@@ -106,8 +105,7 @@ impl<S: Storage> AsyncLruCacheBackend for RefBlockCacheBackend<S> {
             return Err(Fault::DamagedTable);
         }
         let block = RefBlock::load(self.alloc, &mut device.image, &device.header, key)?;
-        // Its counters fit their width.
-        let _entries = block.entries();
+        prove!(block.entries() > 0);
         Ok(block)
     }
 
