@@ -3,7 +3,8 @@
 ghost use Rattle.std.specs.Prelude.{IsTrue, IsErr, ◌↔◌, List, ◌≡◌, ◌<◌, ◌+◌, ◌-◌, ◌^◌, ℕ, [], IfOk, OnOk, IfErr, length, ◌∷◌, true, Ok, Err, None, IfSome, IsSome, Result, Some, Option};
 ghost use Rattle.std.specs.Option.{option_map, option_copied};
 ghost use Rattle.std.specs.NonZero.{non_zero_usize_get};
-ghost use Rattle.std.specs.Map.{lookup, set_value, remove_entry};
+ghost use Rattle.std.specs.List.{IsDistinct};
+ghost use Rattle.std.specs.Map.{keys_of, lookup, set_value, remove_entry};
 ghost use Rattle.imago_storage.specs.declared.fault.Fault.{Fault};
 ghost use Rattle.imago_storage.specs.declared.fault.Fault.TheVariants.{Memory};
 ghost use Rattle.qcow2_alloc.specs.Cache as spec;
@@ -345,11 +346,11 @@ impl<K: Copy + Eq + Hash, V: Drop, B: AsyncLruCacheBackend<Key = K, Value = V>> 
 
     // Flushes the least recently used value in place; its entry goes first.
     fn flush_last(&mut self, device: &mut B::Device) -> Result<(), Fault>
-        requires { 0 < length self.old.slots.entries }
+        requires some { 0 < length self.old.slots.entries }
+        requires distinct { IsDistinct K.eq (keys_of self.old.slots.entries) }
         ensures flushed { FlushedLast B.flushes device.old self.old.slots.entries result device.new self.new.slots.entries }
         ensures others { self.new ≡ with_entries self.old self.new.slots.entries }
     {
-        let _len = self.slots.len();
         let key = match self.slots.peek_lru() {
             Some((key, _)) => *key,
             None => return Ok(()),
@@ -379,11 +380,11 @@ impl<K: Copy + Eq + Hash, V: Drop, B: AsyncLruCacheBackend<Key = K, Value = V>> 
 
     // Drops the least recently used value without flushing it, or keeps it where it is pinned: then its entry goes first.
     fn drop_last(&mut self)
-        requires { 0 < length self.old.slots.entries }
+        requires some { 0 < length self.old.slots.entries }
+        requires distinct { IsDistinct K.eq (keys_of self.old.slots.entries) }
         ensures dropped { DroppedLast self.old.slots.entries self.new.slots.entries }
         ensures others { self.new ≡ with_entries self.old self.new.slots.entries }
     {
-        let _len = self.slots.len();
         let (key, pinned) = match self.slots.peek_lru() {
             Some((key, slot)) => (*key, slot.pins > 0),
             None => unreachable!(),

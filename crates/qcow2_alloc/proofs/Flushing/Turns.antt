@@ -1,14 +1,15 @@
 -- One turn of the entries, flushed from the last to the first.
 use Rattle.std.proofs.Common.{◌≡◌, ℕ, ◌-◌, ◌<◌, Bool, true, false, List, [], ◌∷◌, ◌++◌, Some, None, Option, Result, Ok, Err, length, arith, refl, ap, sym, subst, ◌∙◌}
-use Rattle.std.specs.Prelude.{slice_get, take, nat_lt, map}
+use Rattle.std.specs.Prelude.{slice_get, take, nat_lt, map, cond}
 use Rattle.std.proofs.Math.Seq.{take-append_seam}
 use Rattle.std.proofs.lemmas.List.Elements.{filter-append}
 use Rattle.std.specs.Option.{option_map_or}
 use Rattle.std.specs.Cmp.{IsEquivalence}
 use Rattle.std.specs.List.{AllByRecursion, IsDistinct}
 use Rattle.std.specs.Map.{keys_of, lookup, lookup_entry, remove_entry, set_value}
-use Rattle.std.proofs.lemmas.List.{append_assoc, length-append}
+use Rattle.std.proofs.lemmas.List.{append_assoc, append-nil, length-append}
 use Rattle.lru.specs.LruCache.{promoted}
+use Rattle.lru.proofs.Splits.{Differs, distinct_differs, distinct_with, distinct_without}
 use Rattle.imago_storage.specs.declared.fault.Fault.{Fault}
 use Rattle.qcow2_alloc.specs.declared.async_lru_cache.Slot.{Slot}
 use Rattle.qcow2_alloc.specs.Cache.{hit, with_value, latest, FlushedLast, FlushedEach, DroppedLast, kept_pinned}
@@ -73,6 +74,29 @@ module _ {K V D : Type 0} (eq : K → K → Bool) (laws : IsEquivalence eq) (flu
     split = split;
     entries = rw free (ap (λ (l : List (K × Slot V)). take (length l - 1) l) split ∙ front_taken);
   }
+
+-- The last of entries with distinct keys goes first, with its own key, and these are distinct still.
+module _ {K V : Type 0} (eq : K → K → Bool) (laws : IsEquivalence eq) where
+  abbrev key : K × Slot V → K
+  key e = e.0
+
+  abbrev AreDistinct : List (K × Slot V) → Type 0
+  AreDistinct es = IsDistinct eq (keys_of es)
+
+  rotated : (front : List (K × Slot V)) (last : K × Slot V) → AreDistinct (front ++ last ∷ []) → AreDistinct (last ∷ front)
+  rotated front last distinct =
+      let all = append-nil front in
+      distinct_with key eq laws.symm [] last front (subst (Differs key eq last) all (distinct_differs key eq laws.symm front last [] distinct)) (subst AreDistinct all (distinct_without key eq front last [] distinct))
+
+  pub flushed-distinct : {D : Type 0} (flushes : D → K → V → Result Unit Fault → D → V → Type 0) (before after : D) (es es' : List (K × Slot V)) (result : Result Unit Fault) → FlushedLast flushes before es result after es' → AreDistinct es → AreDistinct es'
+  flushed-distinct flushes before after es es' result f distinct = subst AreDistinct (sym f.entries) (rotated f.front f.last (subst AreDistinct f.split distinct))
+
+  pub dropped-distinct : (es es' : List (K × Slot V)) → DroppedLast es es' → AreDistinct es → AreDistinct es'
+  dropped-distinct es es' d distinct = subst AreDistinct (sym d.entries) (by (nat_lt 0 d.last.1.pins))
+    where
+      by : (pinned : Bool) → AreDistinct (cond pinned (d.last ∷ []) [] ++ d.front)
+      by true = rotated d.front d.last (subst AreDistinct d.split distinct)
+      by false = subst AreDistinct (append-nil d.front) (distinct_without key eq d.front d.last [] (subst AreDistinct d.split distinct))
 
 -- what is left of the turn, and what was done
 pub record Turning {K V D : Type 0} (flushes : D → K → V → Result Unit Fault → D → V → Type 0) (before : D) (es : List (K × Slot V)) (left : ℕ) (outcome : Option Fault) (after : D) (es' : List (K × Slot V)) : Type 0 where
