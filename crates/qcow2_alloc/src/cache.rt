@@ -445,12 +445,10 @@ impl<S: Storage> MetadataCaches<S> {
         ensures value { IfOk result (λ table. (mid : MetadataCaches S) × TableFound S.state cluster self.old file.old (Ok tt) mid file.new
             × (option_map (λ s. s.value) (lookup (nat_eq cluster) (cached_in mid).tables) ≡ Some table.now)) }
     {
-        match self.l2_ready(file, cluster) {
-            Ok(()) => match self.l2.get_mut(cluster) {
-                Some(table) => Ok(table),
-                None => unreachable!(),
-            },
-            Err(fault) => Err(fault),
+        self.l2_ready(file, cluster)?;
+        match self.l2.get_mut(cluster) {
+            Some(table) => Ok(table),
+            None => unreachable!(),
         }
     }
 
@@ -501,12 +499,10 @@ impl<S: Storage> MetadataCaches<S> {
         ensures value { IfOk result (λ block. (mid : MetadataCaches S) × BlockFound S.state cluster self.old file.old (Ok tt) mid file.new
             × (option_map (λ s. s.value) (lookup (nat_eq cluster) (cached_in mid).blocks) ≡ Some block.now)) }
     {
-        match self.rb_ready(file, cluster) {
-            Ok(()) => match self.rb.get_mut(cluster) {
-                Some(block) => Ok(block),
-                None => unreachable!(),
-            },
-            Err(fault) => Err(fault),
+        self.rb_ready(file, cluster)?;
+        match self.rb.get_mut(cluster) {
+            Some(block) => Ok(block),
+            None => unreachable!(),
         }
     }
 
