@@ -14,16 +14,16 @@ use Rattle.qcow2_alloc.specs.Growing.{lacking, needed_for, GrowsRoom, IsRoom, Is
 use Rattle.qcow2_alloc.specs.SearchingClusters.{counts_in, IsSafeWith, Looked, LooksForRun}
 use Rattle.qcow2_alloc.proofs.Growth.FirstRooms.{room-first, room-found, lacking-longer, needed-few}
 use Rattle.qcow2_alloc.proofs.Searching.SearchSequences.{looked-answer, looked-refused, looked-then, safe-still, counts-still}
-use Rattle.qcow2_alloc.specs.Caches.{cached_file}
+use Rattle.qcow2_alloc.specs.Caches.{CachedFile, cached_file}
 
 -- How far it has come.
-pub record RoomSearched {S : Type 0} (state : S → StorageState) (table : TableValue) (from n : ℕ) (old : MetadataCaches S) (before : ImageFile S) (run : Run) (new : MetadataCaches S) (after : ImageFile S) : Type 0 where
-  pub looked : Looked state {T = Unit {0}} table (cached_file old before) (Ok tt) (cached_file new after)
-  pub within : run.first ≤ length table.words * counters_of_block before.header.fields
+pub record RoomSearched {S : Type 0} (state : S → StorageState) (table : TableValue) (from n : ℕ) (old : CachedFile S) (run : Run) (new : CachedFile S) : Type 0 where
+  pub looked : Looked state {T = Unit {0}} table old (Ok tt) new
+  pub within : run.first ≤ length table.words * counters_of_block old.file.header.fields
   pub long : n ≤ run.len
-  pub short : run.len ≤ needed_for table (counters_of_block before.header.fields) n run
+  pub short : run.len ≤ needed_for table (counters_of_block old.file.header.fields) n run
   pub few : run.len ≤ 2 * n + 4
-  pub so_far : IsSafeWith state table old before → IsRoomSoFar table (counters_of_block before.header.fields) (counts_in state old before) from n run
+  pub so_far : IsSafeWith state table old.caches old.file → IsRoomSoFar table (counters_of_block old.file.header.fields) (counts_in state old.caches old.file) from n run
 
 -- A room is one where clusters are counted as often, and a search for one has come as far.
 room-same : (table : TableValue) (k : ℕ) (counts counts' : ℕ → ℕ) (n z t : ℕ) → ((c : ℕ) → counts' c ≡ counts c) → IsRoom table k counts n z t → IsRoom table k counts' n z t
@@ -46,7 +46,7 @@ module _ {S : Type 0} (state : S → StorageState) (table : TableValue) (from n 
 
   -- It begins with the first run,
   pub rooms-first : from ≤ length table.words * counters_of_block before.header.fields → (z : ℕ) (new : MetadataCaches S) (after : ImageFile S) → LooksForRun state table from n (cached_file old before) (Ok z) (cached_file new after)
-      → RoomSearched state table from n old before (record { first = z; len = n }) new after
+      → RoomSearched state table from n (cached_file old before) (record { first = z; len = n }) (cached_file new after)
   rooms-first near z new after looks = record {
     looked = looked-answer state table old before z tt new after looks.looked;
     within = let le = looks.near.1 in omega (arith, near, le);
@@ -56,7 +56,7 @@ module _ {S : Type 0} (state : S → StorageState) (table : TableValue) (from n 
     so_far = λ sound. room-first table k (counts_in state old before) from n from z (omega arith) (λ y t above below. absurd (omega (arith, above, below))) (looks.found sound);
   }
 
-  module _ (run : Run) (mid : MetadataCaches S) (between : ImageFile S) (searched : RoomSearched state table from n old before run mid between) where
+  module _ (run : Run) (mid : MetadataCaches S) (between : ImageFile S) (searched : RoomSearched state table from n (cached_file old before) run (cached_file mid between)) where
     abbrev needed : ℕ
     needed = needed_for table k n run
 
@@ -97,7 +97,7 @@ module _ {S : Type 0} (state : S → StorageState) (table : TableValue) (from n 
       longer : now.len ≡ needed_for table (counters_of_block between.header.fields) n run → now.len ≡ needed
       longer is = is ∙ ap (λ m. needed_for table m n run) same-k
 
-      pub rooms-then : RoomSearched state table from n old before now new after
+      pub rooms-then : RoomSearched state table from n (cached_file old before) now (cached_file new after)
       rooms-then = elim grows.further [
         | inl here ↦ record {
           looked = looked;

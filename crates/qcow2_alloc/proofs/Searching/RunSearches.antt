@@ -14,7 +14,7 @@ use Rattle.qcow2_alloc.specs.declared.allocation.searching.Run.{Run}
 use Rattle.qcow2_alloc.specs.declared.cache.MetadataCaches.{MetadataCaches}
 use Rattle.qcow2_alloc.specs.declared.file.ImageFile.{ImageFile}
 use Rattle.qcow2_alloc.specs.Allocators.{named_block, UsesBlock}
-use Rattle.qcow2_alloc.specs.Caches.{cached_file}
+use Rattle.qcow2_alloc.specs.Caches.{CachedFile, cached_file}
 use Rattle.qcow2_alloc.specs.Scanning.{next_of, IsRunSoFar, ScansSome, Reads, ExtendsRun}
 use Rattle.qcow2_alloc.specs.SearchingClusters.{counts_in, IsSafeWith, Looked, LooksForRun}
 use Rattle.qcow2_alloc.proofs.Searching.SearchSequences.{IsRead, looked-none, looked-answer, looked-refused, looked-then, safe-still, counts-still, reads-looked, reads-known, uncounted, uncounted-behind}
@@ -84,16 +84,16 @@ module _ {S : Type 0} (state : S → StorageState) (table : TableValue) (n : ℕ
           ap (λ d. d / k) here ∙ div-mul-add i k j (omega (arith, at, ge, lt))
 
 -- How far a search for a run has come.
-pub record RunSearched {S : Type 0} (state : S → StorageState) (table : TableValue) (from n : ℕ) (old : MetadataCaches S) (before : ImageFile S) (run : Run) (new : MetadataCaches S) (after : ImageFile S) : Type 0 where
-  pub looked : Looked state {T = Unit {0}} table (cached_file old before) (Ok tt) (cached_file new after)
+pub record RunSearched {S : Type 0} (state : S → StorageState) (table : TableValue) (from n : ℕ) (old : CachedFile S) (run : Run) (new : CachedFile S) : Type 0 where
+  pub looked : Looked state {T = Unit {0}} table old (Ok tt) new
   pub behind : from ≤ run.first
-  pub within : next_of run ≤ max from (length table.words * counters_of_block before.header.fields)
-  pub so_far : IsSafeWith state table old before → IsRunSoFar (counts_in state old before) from n run
+  pub within : next_of run ≤ max from (length table.words * counters_of_block old.file.header.fields)
+  pub so_far : IsSafeWith state table old.caches old.file → IsRunSoFar (counts_in state old.caches old.file) from n run
 
 module _ {S : Type 0} (state : S → StorageState) (table : TableValue) (from n : ℕ) (old : MetadataCaches S) (before : ImageFile S) where
-  module _ (run : Run) (mid : MetadataCaches S) (between : ImageFile S) (searched : RunSearched state table from n old before run mid between) where
+  module _ (run : Run) (mid : MetadataCaches S) (between : ImageFile S) (searched : RunSearched state table from n (cached_file old before) run (cached_file mid between)) where
     -- It goes on,
-    pub searched-then : next_of run / counters_of_block before.header.fields < length table.words → (now : Run) (new : MetadataCaches S) (after : ImageFile S) → ExtendsRun state table n run (cached_file mid between) (Ok now) (cached_file new after) → RunSearched state table from n old before now new after
+    pub searched-then : next_of run / counters_of_block before.header.fields < length table.words → (now : Run) (new : MetadataCaches S) (after : ImageFile S) → ExtendsRun state table n run (cached_file mid between) (Ok now) (cached_file new after) → RunSearched state table from n (cached_file old before) now (cached_file new after)
     searched-then inside now new after extends = record {
       behind = let first = searched.behind in let rising = extends.rising in omega (arith, first, rising);
       within =
