@@ -10,5 +10,5 @@ pub mod WordChanges
 pub mod NameDrops
 pub mod FitsByWords
 pub mod WordsKept
-pub mod FreeRuns
+pub mod FreeClusterWrites
 pub mod StructureWrites

@@ -23,7 +23,7 @@ use Rattle.qcow2_alloc.proofs.Causes.{storage-cause}
 use Rattle.qcow2_alloc.proofs.Flushing.Faultless.{faultless-then, never-mild, put-faultless}
 use Rattle.qcow2_alloc.proofs.Blocks.RunCounts.{covers-behind}
 use Rattle.qcow2_alloc.proofs.Growth.LongerReftables.{covers-before, covers-inside}
-use Rattle.qcow2_alloc.proofs.Memory.FreeRuns.{run-quietly}
+use Rattle.qcow2_alloc.proofs.Memory.FreeClusterWrites.{run-quietly}
 use Rattle.qcow2_alloc.proofs.Quiet.AtOnce.{put-whole}
 use Rattle.qcow2_alloc.proofs.Quiet.QuietGiven.{quietly-given}
 use Rattle.qcow2_alloc.proofs.Quiet.QuietThen.{quietly-otherwise, quietly-then}

@@ -21,7 +21,7 @@ use Rattle.qcow2_alloc.proofs.Causes.{storage-cause}
 use Rattle.qcow2_alloc.proofs.Flushing.Faultless.{faultless-then, never-mild, put-faultless}
 use Rattle.qcow2_alloc.proofs.Blocks.RunCounts.{covers-behind}
 use Rattle.qcow2_alloc.proofs.Growth.LongerReftables.{covers-before, covers-inside}
-use Rattle.qcow2_alloc.proofs.Memory.FreeRuns.{run-quietly}
+use Rattle.qcow2_alloc.proofs.Memory.FreeClusterWrites.{run-quietly}
 use Rattle.qcow2_alloc.proofs.Quiet.AtOnce.{put-whole}
 use Rattle.qcow2_steps.specs.Data.{WritesBeside}
 use Rattle.qcow2_steps.proofs.DataRuns.{beside-reserved, beside-words}

@@ -18,7 +18,7 @@ use Rattle.qcow2_metadata.specs.Blocks.{Block}
 use Rattle.qcow2_alloc.specs.Memory.{patches}
 use Rattle.qcow2_alloc.specs.Quiet.{Metadata, IsSound, IsUsed, in_memory, named_at_all}
 use Rattle.qcow2_alloc.specs.Safety.{IsCachedBlock, Safe}
-use Rattle.qcow2_alloc.proofs.Memory.FreeRuns.{over-agrees}
+use Rattle.qcow2_alloc.proofs.Memory.FreeClusterWrites.{over-agrees}
 use Rattle.qcow2_alloc.proofs.Memory.Patches.{all-weaker, place-there}
 use Rattle.qcow2_alloc.proofs.Memory.FitsByWords.{counters-same, table-fits}
 use Rattle.qcow2_alloc.proofs.Memory.WordsKept.{block-fits, copied-stays, named-more, ordered-still}

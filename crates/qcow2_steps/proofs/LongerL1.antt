@@ -30,7 +30,7 @@ use Rattle.qcow2_alloc.specs.Memory.{memory, patches}
 use Rattle.qcow2_alloc.specs.Quiet.{Metadata, IsSound, counted, in_memory, named_at_all, referenced, waiting}
 use Rattle.qcow2_alloc.specs.Safety.{IsCachedBlock, IsCachedTable, Safe}
 use Rattle.qcow2_alloc.proofs.Freeing.Lists.{map-same}
-use Rattle.qcow2_alloc.proofs.Memory.FreeRuns.{over-agrees}
+use Rattle.qcow2_alloc.proofs.Memory.FreeClusterWrites.{over-agrees}
 use Rattle.qcow2_alloc.proofs.Memory.MemoryImage.{range-stays}
 use Rattle.qcow2_alloc.proofs.Memory.Patches.{all-weaker, patches-are, place-there}
 use Rattle.qcow2_alloc.proofs.Memory.StructureWrites.{memory-start, unmet-stays}

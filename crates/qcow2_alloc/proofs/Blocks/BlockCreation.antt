@@ -26,7 +26,7 @@ use Rattle.qcow2_types.proofs.Counting.Either.{refs-cached}
 use Rattle.qcow2_alloc.proofs.Quiet.QuietCounters.{here-one, away-none}
 use Rattle.qcow2_alloc.proofs.Quiet.QuietThen.{quietly-otherwise}
 use Rattle.qcow2_alloc.proofs.Searching.FreeClusters.{uncounted-free, clean-counts}
-use Rattle.qcow2_alloc.proofs.Memory.FreeRuns.{block-quietly, block-counts}
+use Rattle.qcow2_alloc.proofs.Memory.FreeClusterWrites.{block-quietly, block-counts}
 use Rattle.qcow2_alloc.proofs.Memory.MemoryWords.{places-in-memory}
 use Rattle.qcow2_alloc.proofs.Blocks.BlockNames.{count-none, counted-block-quietly, own-block-quietly, names-block}
 use Rattle.qcow2_alloc.proofs.Blocks.NewBlocks.{zeroes-count, itself-counts, none-cached}

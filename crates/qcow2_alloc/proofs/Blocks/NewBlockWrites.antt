@@ -28,7 +28,7 @@ use Rattle.qcow2_alloc.specs.NewBlocks.{CountsItsOwn, HasCountedOwn, with_file, 
 use Rattle.qcow2_alloc.specs.Quiet.{Metadata, in_memory, referenced, named_at_all, IsUsed, IsSound, IsQuiet, Quietly}
 use Rattle.qcow2_alloc.proofs.Quiet.AtOnce.{put-done, put-whole}
 use Rattle.qcow2_alloc.proofs.Flushing.Faultless.{faultless-then, put-faultless}
-use Rattle.qcow2_alloc.proofs.Memory.FreeRuns.{block-quietly, block-counts, block-short, put-outside}
+use Rattle.qcow2_alloc.proofs.Memory.FreeClusterWrites.{block-quietly, block-counts, block-short, put-outside}
 use Rattle.qcow2_alloc.proofs.Growth.FirstRooms.{rank-longer, index-near, lacks-inside}
 use Rattle.qcow2_alloc.proofs.Growth.LongerReftables.{rank-new}
 use Rattle.qcow2_alloc.proofs.Memory.MemoryWords.{places-in-memory}

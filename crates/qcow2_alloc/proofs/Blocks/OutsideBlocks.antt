@@ -40,7 +40,7 @@ use Rattle.qcow2_alloc.proofs.Blocks.ClusterCounts.{succeeded, done_of, one-coun
 use Rattle.qcow2_alloc.proofs.Caching.BlockDrops.{forgotten-counts, forgotten-quiet, removed-apart}
 use Rattle.qcow2_alloc.proofs.Searching.FreeClusters.{uncounted-free, flushes-count}
 use Rattle.qcow2_alloc.proofs.Freeing.EntryFrees.{failed}
-use Rattle.qcow2_alloc.proofs.Memory.FreeRuns.{block-quietly}
+use Rattle.qcow2_alloc.proofs.Memory.FreeClusterWrites.{block-quietly}
 use Rattle.qcow2_alloc.proofs.Freeing.ClusterOccurrences.{covers-none, covers-one}
 use Rattle.qcow2_alloc.proofs.Caching.Loose.{kept-tables, loose-on}
 use Rattle.qcow2_alloc.proofs.Blocks.BlockCreationCalls.{Follows, B, begins-then, begins-refused, ends, made, counting-allocates}

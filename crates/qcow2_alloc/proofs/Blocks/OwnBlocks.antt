@@ -24,7 +24,7 @@ use Rattle.qcow2_alloc.specs.Quiet.{Metadata, counted, named_at_all, IsSound}
 use Rattle.qcow2_alloc.specs.State.{ImageState, lent, metadata}
 use Rattle.qcow2_alloc.proofs.Caching.BlockDrops.{forgotten-quiet, forgotten-counts, removed-apart}
 use Rattle.qcow2_alloc.proofs.Searching.FreeClusters.{uncounted-free}
-use Rattle.qcow2_alloc.proofs.Memory.FreeRuns.{block-quietly}
+use Rattle.qcow2_alloc.proofs.Memory.FreeClusterWrites.{block-quietly}
 use Rattle.qcow2_alloc.proofs.Caching.Loose.{loose-on}
 use Rattle.qcow2_alloc.proofs.Blocks.BlockCreationCalls.{B, ends, made}
 use Rattle.qcow2_alloc.proofs.Blocks.BlockCreation.{unnamed-uncounted, own-block-made, own-block-raises}

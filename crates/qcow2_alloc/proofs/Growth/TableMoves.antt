@@ -30,7 +30,7 @@ use Rattle.qcow2_alloc.specs.MovingTables.{IsGrownCopy, HasRoomFor, IsTaken}
 use Rattle.qcow2_alloc.specs.Quiet.{Metadata, counted, named_at_all, waiting, IsUsed, IsSound, IsIn, Quietly}
 use Rattle.qcow2_alloc.proofs.Growth.FirstRooms.{rank-stays, lacks-inside}
 use Rattle.qcow2_alloc.proofs.Flushing.EntryFlushes.{spliced-bytes}
-use Rattle.qcow2_alloc.proofs.Memory.FreeRuns.{run-quietly, run-counts, put-outside}
+use Rattle.qcow2_alloc.proofs.Memory.FreeClusterWrites.{run-quietly, run-counts, put-outside}
 use Rattle.qcow2_alloc.proofs.Growth.LongerReftables.{grown-ready, covers-before}
 use Rattle.qcow2_alloc.proofs.Blocks.RunCounts.{covers-behind}
 use Rattle.qcow2_alloc.proofs.Blocks.NewBlockNames.{rank-before, word-inside}
