@@ -25,7 +25,7 @@ use Rattle.qcow2_image.specs.Opening.{WhyNoSpace, header_for}
 use Rattle.qcow2_image.specs.Seen.{IsOfFile, IsSeen, file_of}
 use Rattle.qcow2_image.specs.declared.tables.Tables.{Tables}
 use Rattle.qcow2_image.specs.Steps.{DiffersElsewhere, IsFirstFault, WhyNotReloaded, header_anew}
-use Rattle.qcow2_image.proofs.OpeningRules.{reading-refusal}
+use Rattle.qcow2_image.proofs.OpenRefusals.{reading-refusal}
 
 -- A storage that dropped what it has cached is the same.
 pub same-state : (s s' : StorageState) → Kept s s' → s'.faults ≡ s.faults → s' ≡ s

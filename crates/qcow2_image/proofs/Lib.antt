@@ -12,7 +12,7 @@ pub mod Anew
 pub mod RequestsWithoutChanges
 pub mod ImageFlushes
 pub mod ImageLoans
-pub mod OpeningRules
+pub mod OpenRefusals
 pub mod StateAfterOpening
 pub mod Probes
 pub mod WritesInPlace
@@ -34,6 +34,6 @@ pub mod ClusterSteps
 pub mod Commits
 pub mod CommitsAndCancels
 pub mod CommitLeaks
-pub mod Pending
+pub mod LeaksWithNothingPending
 pub mod SameLeaks
 pub mod FileReads

@@ -17,7 +17,7 @@ use Rattle.qcow2_image.specs.Leaking.{KeepsLeaks, leaks_of, pending}
 use Rattle.qcow2_image.specs.Rooms.{IsSafe}
 use Rattle.qcow2_image.specs.Seen.{file_of}
 use Rattle.qcow2_image.specs.declared.qcow2.Qcow2.{Qcow2}
-use Rattle.qcow2_image.proofs.Pending.{leaks-alike}
+use Rattle.qcow2_image.proofs.LeaksWithNothingPending.{leaks-alike}
 
 -- Clusters that don't leak add nothing.
 skipped : (f : Bytes) (h : Fields) (n k : ℕ) → ((c : ℕ) → n ≤ c → leak_at f h c ≡ []) → leaks_below f h (n + k) ≡ leaks_below f h n

@@ -26,7 +26,7 @@ use Rattle.qcow2_image.specs.Opening.{IsJustOpened, IsSpaceOpened, header_for, i
 use Rattle.qcow2_image.specs.Unspent.{holding_in}
 use Rattle.qcow2_image.specs.declared.qcow2.Qcow2.{Qcow2}
 use Rattle.qcow2_image.specs.declared.tables.Tables.{Tables}
-use Rattle.qcow2_image.proofs.OpeningRules.{reads-too}
+use Rattle.qcow2_image.proofs.OpenRefusals.{reads-too}
 use Rattle.qcow2_image.proofs.Probes.{header-begins}
 use Rattle.qcow2_image.proofs.SearchStart.{counted-first, opened-first}
 

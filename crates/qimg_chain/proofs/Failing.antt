@@ -19,7 +19,7 @@ use Rattle.imago_formats.specs.Descriptor.{descriptor_of}
 use Rattle.imago_formats.proofs.SaidFaults.{never_storage}
 use Rattle.qcow2_types.specs.Bytes.{bytes_of}
 use Rattle.qcow2_image.specs.Opening.{header_for}
-use Rattle.qcow2_image.proofs.OpeningRules.{reading-refusal}
+use Rattle.qcow2_image.proofs.OpenRefusals.{reading-refusal}
 use Rattle.qimg_core.specs.declared.plain.ChainFile.{ChainFile}
 use Rattle.qimg_chain.specs.FileLayers.{asked_of, said_of}
 use Rattle.qimg_chain.specs.FileMeanings.{FileBytes, files_bytes}

@@ -14,7 +14,7 @@ use Rattle.qcow2_types.specs.Entries.{l1_table_sound}
 use Rattle.qcow2_types.specs.Header.{Header, header_of}
 use Rattle.qcow2_types.proofs.Counting.Consistent.{header-reading}
 use Rattle.qcow2_image.specs.Opening.{header_for}
-use Rattle.qcow2_image.proofs.OpeningRules.{none-refused}
+use Rattle.qcow2_image.proofs.OpenRefusals.{none-refused}
 use Rattle.qimg_core.specs.declared.plain.ChainFile.{ChainFile}
 use Rattle.qimg_chain.specs.Chains.{IsFit, IsSoundAs, OfTop}
 use Rattle.qimg_chain.specs.FileLayers.{IsLayer, asked_of}

@@ -1,5 +1,5 @@
 use Rattle.qcow2_image.proofs.Leaks.{leaks-both}
-use Rattle.qcow2_image.proofs.Pending.{leaks-alike, none-pending, opened-pending}
+use Rattle.qcow2_image.proofs.LeaksWithNothingPending.{leaks-alike, none-pending, opened-pending}
 use Rattle.qcow2_image.proofs.SameLeaks.{leaks-listed}
 use Rattle.qcow2_image.proofs.laws.leaks_add_up.Goals as goal
 

@@ -1,6 +1,6 @@
 use Rattle.std.proofs.Common.{refl, false}
 use Rattle.qcow2_types.specs.Bytes.{bytes_of}
-use Rattle.qcow2_image.proofs.OpeningRules.{space-not-loaded, space-sound}
+use Rattle.qcow2_image.proofs.OpenRefusals.{space-not-loaded, space-sound}
 use Rattle.qcow2_alloc.proofs.Faults.{handed-on}
 use Rattle.qcow2_image.proofs.opening.load_free_space.Goals as goal
 

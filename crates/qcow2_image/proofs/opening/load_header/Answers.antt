@@ -1,6 +1,6 @@
 use Rattle.std.proofs.Common.{sym, ◌∙◌}
 use Rattle.qcow2_metadata.specs.Loading.{file}
-use Rattle.qcow2_image.proofs.OpeningRules.{header-refused, before-table, external-refused}
+use Rattle.qcow2_image.proofs.OpenRefusals.{header-refused, before-table, external-refused}
 use Rattle.qcow2_alloc.proofs.Faults.{handed-on}
 use Rattle.qcow2_image.proofs.opening.load_header.Goals as goal
 

@@ -2,7 +2,7 @@ use Rattle.std.proofs.Common.{◌≡◌, ◌/◌, sym, false}
 use Rattle.std.proofs.lemmas.Result.{IfErr-weaker}
 use Rattle.qcow2_metadata.specs.Loading.{file}
 use Rattle.qcow2_types.specs.Header.{cluster_size}
-use Rattle.qcow2_image.proofs.OpeningRules.{table-in-reach, table-loaded, table-not-loaded}
+use Rattle.qcow2_image.proofs.OpenRefusals.{table-in-reach, table-loaded, table-not-loaded}
 use Rattle.qcow2_image.proofs.opening.load_l1.Goals as goal
 
 pub load-requires-clause-reach : goal.load-requires-clause-reach

@@ -3,7 +3,7 @@ use Rattle.imago_storage.specs.State.{StorageState}
 use Rattle.qcow2_types.specs.Header.{header_of}
 use Rattle.qcow2_metadata.specs.Loading.{file, NotLoaded}
 use Rattle.qcow2_image.specs.Opening.{header_for}
-use Rattle.qcow2_image.proofs.OpeningRules.{reads-too}
+use Rattle.qcow2_image.proofs.OpenRefusals.{reads-too}
 use Rattle.qcow2_alloc.proofs.Faults.{handed-on}
 use Rattle.qcow2_image.proofs.opening.load_metadata.Goals as goal
 

@@ -7,7 +7,7 @@ use Rattle.qcow2_metadata.specs.Loading.{file}
 use Rattle.qcow2_alloc.specs.Opening.{IsL1Of}
 use Rattle.qcow2_image.specs.Opening.{IsSpaceOpened, WhyNoSpace, header_for}
 use Rattle.qcow2_image.proofs.StateAfterOpening.{just-opened}
-use Rattle.qcow2_image.proofs.OpeningRules.{none-refused, not-opened, reads-too, space-refused}
+use Rattle.qcow2_image.proofs.OpenRefusals.{none-refused, not-opened, reads-too, space-refused}
 use Rattle.qcow2_alloc.proofs.Faults.{handed-on}
 use Rattle.qcow2_image.proofs.opening.open_tables.Goals as goal
 

@@ -8,7 +8,7 @@ use Rattle.qcow2_metadata.specs.Updates.{with_places_of}
 use Rattle.qcow2_image.specs.Opening.{IsSpaceOpened, WhyNoSpace}
 use Rattle.qcow2_image.specs.Steps.{IsFirstFault}
 use Rattle.qcow2_image.proofs.Anew.{counts-fine, counts-later, first-counts, never-differs, on-ok, seen-anew, updating-why}
-use Rattle.qcow2_image.proofs.OpeningRules.{none-refused}
+use Rattle.qcow2_image.proofs.OpenRefusals.{none-refused}
 use Rattle.qcow2_alloc.proofs.Faults.{handed-on}
 use Rattle.qcow2_image.proofs.reloading.reload.Goals as goal
 
