@@ -32,7 +32,7 @@ use Rattle.qcow2_image.proofs.DiskEffects.{kept-disk, keeps-disk-both, keeps-ima
 use Rattle.qcow2_image.proofs.Anew.{on-ok}
 use Rattle.qcow2_image.proofs.RequestsWithoutChanges.{asked-keeps, meant, ok-whole}
 use Rattle.qcow2_image.proofs.LeaksByFile.{surplus-kept}
-use Rattle.qcow2_image.proofs.Pending.{counted-idle}
+use Rattle.qcow2_image.proofs.LeaksWithNothingPending.{counted-idle}
 
 -- An image that was safe but for a failure is safe where it didn't fail.
 pub safe-again : {S : Type 0} (g : Ghosts S) (d : Qcow2 S g) → d.failed ≡ false → WasSafe g d → IsSafe g d

@@ -3,7 +3,7 @@ use Rattle.std.specs.Prelude.{false}
 use Rattle.qcow2_image.specs.declared.qcow2.Qcow2.{Qcow2}
 use Rattle.qcow2_image.proofs.StateAfterOpening.{opened-kept, opened-meant, opened-still, opened-safe}
 use Rattle.qcow2_image.proofs.ClusterSteps.{idle-waits}
-use Rattle.qcow2_image.proofs.Pending.{counted-idle}
+use Rattle.qcow2_image.proofs.LeaksWithNothingPending.{counted-idle}
 use Rattle.qcow2_image.proofs.opening.open_with.Goals as goal
 
 pub returns-clause-seen : goal.returns-clause-seen

@@ -8,11 +8,12 @@ use Rattle.qcow2_image.specs.Unspent.{holding_in}
 use Rattle.qcow2_image.proofs.ClusterSteps.{idle-waits}
 use Rattle.qcow2_image.proofs.ImageFlushes.{freed-cause, freed-counted, freed-failed, freed-like, freed-marks, freed-sees, freed-went, freed-written}
 use Rattle.qcow2_image.proofs.Anew.{on-ok}
-use Rattle.qcow2_image.proofs.Pending.{counted-idle}
+use Rattle.qcow2_image.proofs.LeaksWithNothingPending.{counted-idle}
 use Rattle.qcow2_image.proofs.Leaks.{leaks-asked}
 use Rattle.qcow2_image.proofs.Lengths.{asked-long}
 use Rattle.qcow2_image.proofs.RequestsWithoutChanges.{asked-keeps, counted-faultless, meant, ok-whole}
 use Rattle.qcow2_image.proofs.Steps.{looked-kept, marks-kept}
+use Rattle.qcow2_image.proofs.Preparations.RunPreparations.{went-kept}
 use Rattle.qcow2_image.proofs.drivers.Qcow2FormatDriverInstance.flush.Goals as goal
 
 pub returns-clause-sees : goal.returns-clause-sees
@@ -88,6 +89,24 @@ returns-clause-counted g c =
     λ safe free. ok-whole c.settle.result _ (λ whole. counted-idle g.S.Storage d (keeps.tables.seen safe.seen).loads
     (ap (λ (x : Qcow2 g.row.S.Denot g.S.Storage). waits_in x.tables.space) is ∙ (sym c.has_waiting.ensures ∙ c.if-has_waiting.false))
     (ap (λ (x : Qcow2 g.row.S.Denot g.S.Storage). claim_held (holding_in g.S.Storage x.unspent)) is ∙ free))
+
+pub returns-clause-went : goal.returns-clause-went
+returns-clause-went g c =
+    let q = c.args.self.now in
+    let d = c.settle.new.self in
+    let is = c.settle.ensures.marks in
+    let same = c.settle.ensures.same in
+    let s = g.S.Storage.state q.tables.file.image in
+    let t = g.S.Storage.state c.flush-answer.new.self in
+    let keeps : KeepsImage {T = Unit} g.S.Storage q c.settle.result d =
+    asked-keeps g.S.Storage q d t c.settle.result c.flush-answer.ensures.kept c.flush-answer.ensures.later
+    (λ whole. let ok = subst WasNotCutOff same whole in counted-faultless s t c.flush-answer.result c.flush-answer.ensures.kept c.flush-answer.ensures.faults ok)
+    (ap (λ (x : Qcow2 g.row.S.Denot g.S.Storage). g.S.Storage.state x.tables.file.image) is) (ap (λ (x : Qcow2 g.row.S.Denot g.S.Storage). x.tables.file.header) is)
+    (ap (λ (x : Qcow2 g.row.S.Denot g.S.Storage). x.tables.l1) is) (ap (λ (x : Qcow2 g.row.S.Denot g.S.Storage). x.tables.caches) is)
+    (ap (λ (x : Qcow2 g.row.S.Denot g.S.Storage). x.tables.space) is) (ap (λ (x : Qcow2 g.row.S.Denot g.S.Storage). x.mode) is)
+    (ap (λ (x : Qcow2 g.row.S.Denot g.S.Storage). x.number) is) (ap (λ (x : Qcow2 g.row.S.Denot g.S.Storage). x.unspent) is)
+    (ap (λ (x : Qcow2 g.row.S.Denot g.S.Storage). x.failed) is ∙ ap (λ r. failed_behind failed_by r q.failed) (sym same)) in
+    went-kept g.row.S g.S.Storage g.S.Storage-dict g.S.Destruct-dict q d {T = Unit} c.settle.result keeps _ _ (λ whole. whole) (λ whole. whole)
 
 pub returns-clause-marks : goal.returns-clause-marks
 returns-clause-marks g c =

@@ -5,7 +5,26 @@ use Rattle.qcow2_image.specs.Steps.{KeepsImage, failed_behind, failed_by}
 use Rattle.qcow2_image.proofs.Leaks.{leaks-asked}
 use Rattle.qcow2_image.proofs.RequestsWithoutChanges.{asked-keeps, counted-faultless}
 use Rattle.qcow2_image.proofs.Steps.{marks-kept, sees-same}
+use Rattle.qcow2_image.proofs.Preparations.RunPreparations.{went-kept}
 use Rattle.qcow2_image.proofs.drivers.Qcow2FormatDriverInstance.sync.Goals as goal
+
+pub returns-clause-went : goal.returns-clause-went
+returns-clause-went g c =
+    let q = c.args.self.now in
+    let d = c.settle.new.self in
+    let is = c.settle.ensures.marks in
+    let same = c.settle.ensures.same in
+    let s = g.S.Storage.state q.tables.file.image in
+    let t = g.S.Storage.state c.sync-answer.new.self in
+    let keeps : KeepsImage {T = Unit} g.S.Storage q c.settle.result d =
+    asked-keeps g.S.Storage q d t c.settle.result c.sync-answer.ensures.kept c.sync-answer.ensures.later
+    (λ whole. let ok = subst WasNotCutOff same whole in counted-faultless s t c.sync-answer.result c.sync-answer.ensures.kept c.sync-answer.ensures.faults ok)
+    (ap (λ (x : Qcow2 g.row.S.Denot g.S.Storage). g.S.Storage.state x.tables.file.image) is) (ap (λ (x : Qcow2 g.row.S.Denot g.S.Storage). x.tables.file.header) is)
+    (ap (λ (x : Qcow2 g.row.S.Denot g.S.Storage). x.tables.l1) is) (ap (λ (x : Qcow2 g.row.S.Denot g.S.Storage). x.tables.caches) is)
+    (ap (λ (x : Qcow2 g.row.S.Denot g.S.Storage). x.tables.space) is) (ap (λ (x : Qcow2 g.row.S.Denot g.S.Storage). x.mode) is)
+    (ap (λ (x : Qcow2 g.row.S.Denot g.S.Storage). x.number) is) (ap (λ (x : Qcow2 g.row.S.Denot g.S.Storage). x.unspent) is)
+    (ap (λ (x : Qcow2 g.row.S.Denot g.S.Storage). x.failed) is ∙ ap (λ r. failed_behind failed_by r q.failed) (sym same)) in
+    went-kept g.row.S g.S.Storage g.S.Storage-dict g.S.Destruct-dict q d {T = Unit} c.settle.result keeps _ _ (λ whole. whole) (λ whole. whole)
 
 pub returns-clause-marks : goal.returns-clause-marks
 returns-clause-marks g c =
