@@ -96,6 +96,21 @@ asked-keeps g old new s' result kept later faults state header l1 caches space m
       failed = failed;
     }
 
+-- The same of one whose answer was settled: but for its mark the image is as it was, with the storage as the request left it.
+pub settled-keeps : {S : Type 0} (g : Ghosts S) (old new : Qcow2 S g) {tables : Tables S g} (answer result : Result Unit Fault)
+    → new ≡ record old { tables = tables; failed = failed_behind failed_by answer old.failed } → result ≡ answer
+    → (tables.file.header ≡ old.tables.file.header) × (tables.l1 ≡ old.tables.l1)
+    × (tables.caches ≡ old.tables.caches) × (tables.space ≡ old.tables.space)
+    → Kept (g.state old.tables.file.image) (g.state tables.file.image) → Later (g.state old.tables.file.image) (g.state tables.file.image)
+    → (WasNotCutOff answer → IsFaultless (g.state old.tables.file.image) (g.state tables.file.image)) → KeepsImage g old result new
+settled-keeps {S} g old new {tables} answer result is same rest kept later faults =
+    asked-keeps g old new (g.state tables.file.image) result kept later (λ whole. faults (subst WasNotCutOff same whole))
+    (ap (λ (d : Qcow2 S g). g.state d.tables.file.image) is) (ap (λ (d : Qcow2 S g). d.tables.file.header) is ∙ rest.0)
+    (ap (λ (d : Qcow2 S g). d.tables.l1) is ∙ rest.1) (ap (λ (d : Qcow2 S g). d.tables.caches) is ∙ rest.2)
+    (ap (λ (d : Qcow2 S g). d.tables.space) is ∙ rest.3) (ap (λ (d : Qcow2 S g). d.mode) is)
+    (ap (λ (d : Qcow2 S g). d.number) is) (ap (λ (d : Qcow2 S g). d.unspent) is)
+    (ap (λ (d : Qcow2 S g). d.failed) is ∙ ap (λ r. failed_behind failed_by r old.failed) (sym same))
+
 -- Where nothing waits, the file by itself means the disk.
 pub meant : {S : Type 0} (g : Ghosts S) (t : Tables S g) (mode : OpenMode) (failed : Bool) (number : ℕ) (hold : Option Holding) → IsSeen g t → IsMeant (qcow2_layer (g.state t.file.image) (memory_of g t) t.file.header.fields mode number failed hold) (g.state t.file.image).bytes
 meant g t mode failed number hold seen =

@@ -1,4 +1,4 @@
-use Rattle.std.proofs.Common.{ap, sym, subst, ◌∙◌}
+use Rattle.std.proofs.Common.{ap, sym, subst, ◌∙◌, refl}
 use Rattle.imago_access.specs.Files.{WasNotCutOff}
 use Rattle.qcow2_image.specs.Allocating.{waits_in}
 use Rattle.qcow2_image.specs.Holding.{claim_held}
@@ -11,7 +11,7 @@ use Rattle.qcow2_image.proofs.Anew.{on-ok}
 use Rattle.qcow2_image.proofs.LeaksWithNothingPending.{counted-idle}
 use Rattle.qcow2_image.proofs.Leaks.{leaks-asked}
 use Rattle.qcow2_image.proofs.Lengths.{asked-long}
-use Rattle.qcow2_image.proofs.RequestsWithoutChanges.{asked-keeps, counted-faultless, meant, ok-whole}
+use Rattle.qcow2_image.proofs.RequestsWithoutChanges.{counted-faultless, settled-keeps, meant, ok-whole}
 use Rattle.qcow2_image.proofs.Steps.{looked-kept, marks-kept}
 use Rattle.qcow2_image.proofs.Preparations.RunPreparations.{went-kept}
 use Rattle.qcow2_image.proofs.drivers.Qcow2FormatDriverInstance.flush.Goals as goal
@@ -25,13 +25,8 @@ returns-clause-sees g c =
     let s = g.S.Storage.state q.tables.file.image in
     let t = g.S.Storage.state c.flush-answer.new.self in
     let keeps : KeepsImage {T = Unit} g.S.Storage q c.settle.result d =
-    asked-keeps g.S.Storage q d t c.settle.result c.flush-answer.ensures.kept c.flush-answer.ensures.later
-    (λ whole. let ok = subst WasNotCutOff same whole in counted-faultless s t c.flush-answer.result c.flush-answer.ensures.kept c.flush-answer.ensures.faults ok)
-    (ap (λ (x : Qcow2 g.row.S.Denot g.S.Storage). g.S.Storage.state x.tables.file.image) is) (ap (λ (x : Qcow2 g.row.S.Denot g.S.Storage). x.tables.file.header) is)
-    (ap (λ (x : Qcow2 g.row.S.Denot g.S.Storage). x.tables.l1) is) (ap (λ (x : Qcow2 g.row.S.Denot g.S.Storage). x.tables.caches) is)
-    (ap (λ (x : Qcow2 g.row.S.Denot g.S.Storage). x.tables.space) is) (ap (λ (x : Qcow2 g.row.S.Denot g.S.Storage). x.mode) is)
-    (ap (λ (x : Qcow2 g.row.S.Denot g.S.Storage). x.number) is) (ap (λ (x : Qcow2 g.row.S.Denot g.S.Storage). x.unspent) is)
-    (ap (λ (x : Qcow2 g.row.S.Denot g.S.Storage). x.failed) is ∙ ap (λ r. failed_behind failed_by r q.failed) (sym same)) in
+    settled-keeps g.S.Storage q d c.flush-answer.result c.settle.result is same (refl, refl, refl, refl) c.flush-answer.ensures.kept c.flush-answer.ensures.later
+    (counted-faultless s t c.flush-answer.result c.flush-answer.ensures.kept c.flush-answer.ensures.faults) in
     λ seen. ok-whole c.settle.result _ (λ whole. (looked-kept g.row.S g.S.Storage g.S.Storage-dict g.S.Destruct-dict {T = Unit} q d c.settle.result keeps).stays whole seen)
 
 pub returns-clause-stops : goal.returns-clause-stops
@@ -43,13 +38,8 @@ returns-clause-stops g c =
     let s = g.S.Storage.state q.tables.file.image in
     let t = g.S.Storage.state c.flush-answer.new.self in
     let keeps : KeepsImage {T = Unit} g.S.Storage q c.settle.result d =
-    asked-keeps g.S.Storage q d t c.settle.result c.flush-answer.ensures.kept c.flush-answer.ensures.later
-    (λ whole. let ok = subst WasNotCutOff same whole in counted-faultless s t c.flush-answer.result c.flush-answer.ensures.kept c.flush-answer.ensures.faults ok)
-    (ap (λ (x : Qcow2 g.row.S.Denot g.S.Storage). g.S.Storage.state x.tables.file.image) is) (ap (λ (x : Qcow2 g.row.S.Denot g.S.Storage). x.tables.file.header) is)
-    (ap (λ (x : Qcow2 g.row.S.Denot g.S.Storage). x.tables.l1) is) (ap (λ (x : Qcow2 g.row.S.Denot g.S.Storage). x.tables.caches) is)
-    (ap (λ (x : Qcow2 g.row.S.Denot g.S.Storage). x.tables.space) is) (ap (λ (x : Qcow2 g.row.S.Denot g.S.Storage). x.mode) is)
-    (ap (λ (x : Qcow2 g.row.S.Denot g.S.Storage). x.number) is) (ap (λ (x : Qcow2 g.row.S.Denot g.S.Storage). x.unspent) is)
-    (ap (λ (x : Qcow2 g.row.S.Denot g.S.Storage). x.failed) is ∙ ap (λ r. failed_behind failed_by r q.failed) (sym same)) in
+    settled-keeps g.S.Storage q d c.flush-answer.result c.settle.result is same (refl, refl, refl, refl) c.flush-answer.ensures.kept c.flush-answer.ensures.later
+    (counted-faultless s t c.flush-answer.result c.flush-answer.ensures.kept c.flush-answer.ensures.faults) in
     λ safe below. (looked-kept g.row.S g.S.Storage g.S.Storage-dict g.S.Destruct-dict {T = Unit} q d c.settle.result keeps).stops safe below
 
 pub returns-clause-written : goal.returns-clause-written
@@ -61,13 +51,8 @@ returns-clause-written g c =
     let s = g.S.Storage.state q.tables.file.image in
     let t = g.S.Storage.state c.flush-answer.new.self in
     let keeps : KeepsImage {T = Unit} g.S.Storage q c.settle.result d =
-    asked-keeps g.S.Storage q d t c.settle.result c.flush-answer.ensures.kept c.flush-answer.ensures.later
-    (λ whole. let ok = subst WasNotCutOff same whole in counted-faultless s t c.flush-answer.result c.flush-answer.ensures.kept c.flush-answer.ensures.faults ok)
-    (ap (λ (x : Qcow2 g.row.S.Denot g.S.Storage). g.S.Storage.state x.tables.file.image) is) (ap (λ (x : Qcow2 g.row.S.Denot g.S.Storage). x.tables.file.header) is)
-    (ap (λ (x : Qcow2 g.row.S.Denot g.S.Storage). x.tables.l1) is) (ap (λ (x : Qcow2 g.row.S.Denot g.S.Storage). x.tables.caches) is)
-    (ap (λ (x : Qcow2 g.row.S.Denot g.S.Storage). x.tables.space) is) (ap (λ (x : Qcow2 g.row.S.Denot g.S.Storage). x.mode) is)
-    (ap (λ (x : Qcow2 g.row.S.Denot g.S.Storage). x.number) is) (ap (λ (x : Qcow2 g.row.S.Denot g.S.Storage). x.unspent) is)
-    (ap (λ (x : Qcow2 g.row.S.Denot g.S.Storage). x.failed) is ∙ ap (λ r. failed_behind failed_by r q.failed) (sym same)) in
+    settled-keeps g.S.Storage q d c.flush-answer.result c.settle.result is same (refl, refl, refl, refl) c.flush-answer.ensures.kept c.flush-answer.ensures.later
+    (counted-faultless s t c.flush-answer.result c.flush-answer.ensures.kept c.flush-answer.ensures.faults) in
     λ safe free. ok-whole c.settle.result _ (λ whole. meant g.S.Storage d.tables d.mode d.failed d.number (holding_in g.S.Storage d.unspent) (keeps.tables.seen safe.seen))
 
 pub returns-clause-counted : goal.returns-clause-counted
@@ -79,13 +64,8 @@ returns-clause-counted g c =
     let s = g.S.Storage.state q.tables.file.image in
     let t = g.S.Storage.state c.flush-answer.new.self in
     let keeps : KeepsImage {T = Unit} g.S.Storage q c.settle.result d =
-    asked-keeps g.S.Storage q d t c.settle.result c.flush-answer.ensures.kept c.flush-answer.ensures.later
-    (λ whole. let ok = subst WasNotCutOff same whole in counted-faultless s t c.flush-answer.result c.flush-answer.ensures.kept c.flush-answer.ensures.faults ok)
-    (ap (λ (x : Qcow2 g.row.S.Denot g.S.Storage). g.S.Storage.state x.tables.file.image) is) (ap (λ (x : Qcow2 g.row.S.Denot g.S.Storage). x.tables.file.header) is)
-    (ap (λ (x : Qcow2 g.row.S.Denot g.S.Storage). x.tables.l1) is) (ap (λ (x : Qcow2 g.row.S.Denot g.S.Storage). x.tables.caches) is)
-    (ap (λ (x : Qcow2 g.row.S.Denot g.S.Storage). x.tables.space) is) (ap (λ (x : Qcow2 g.row.S.Denot g.S.Storage). x.mode) is)
-    (ap (λ (x : Qcow2 g.row.S.Denot g.S.Storage). x.number) is) (ap (λ (x : Qcow2 g.row.S.Denot g.S.Storage). x.unspent) is)
-    (ap (λ (x : Qcow2 g.row.S.Denot g.S.Storage). x.failed) is ∙ ap (λ r. failed_behind failed_by r q.failed) (sym same)) in
+    settled-keeps g.S.Storage q d c.flush-answer.result c.settle.result is same (refl, refl, refl, refl) c.flush-answer.ensures.kept c.flush-answer.ensures.later
+    (counted-faultless s t c.flush-answer.result c.flush-answer.ensures.kept c.flush-answer.ensures.faults) in
     λ safe free. ok-whole c.settle.result _ (λ whole. counted-idle g.S.Storage d (keeps.tables.seen safe.seen).loads
     (ap (λ (x : Qcow2 g.row.S.Denot g.S.Storage). waits_in x.tables.space) is ∙ (sym c.has_waiting.ensures ∙ c.if-has_waiting.false))
     (ap (λ (x : Qcow2 g.row.S.Denot g.S.Storage). claim_held (holding_in g.S.Storage x.unspent)) is ∙ free))
@@ -99,13 +79,8 @@ returns-clause-went g c =
     let s = g.S.Storage.state q.tables.file.image in
     let t = g.S.Storage.state c.flush-answer.new.self in
     let keeps : KeepsImage {T = Unit} g.S.Storage q c.settle.result d =
-    asked-keeps g.S.Storage q d t c.settle.result c.flush-answer.ensures.kept c.flush-answer.ensures.later
-    (λ whole. let ok = subst WasNotCutOff same whole in counted-faultless s t c.flush-answer.result c.flush-answer.ensures.kept c.flush-answer.ensures.faults ok)
-    (ap (λ (x : Qcow2 g.row.S.Denot g.S.Storage). g.S.Storage.state x.tables.file.image) is) (ap (λ (x : Qcow2 g.row.S.Denot g.S.Storage). x.tables.file.header) is)
-    (ap (λ (x : Qcow2 g.row.S.Denot g.S.Storage). x.tables.l1) is) (ap (λ (x : Qcow2 g.row.S.Denot g.S.Storage). x.tables.caches) is)
-    (ap (λ (x : Qcow2 g.row.S.Denot g.S.Storage). x.tables.space) is) (ap (λ (x : Qcow2 g.row.S.Denot g.S.Storage). x.mode) is)
-    (ap (λ (x : Qcow2 g.row.S.Denot g.S.Storage). x.number) is) (ap (λ (x : Qcow2 g.row.S.Denot g.S.Storage). x.unspent) is)
-    (ap (λ (x : Qcow2 g.row.S.Denot g.S.Storage). x.failed) is ∙ ap (λ r. failed_behind failed_by r q.failed) (sym same)) in
+    settled-keeps g.S.Storage q d c.flush-answer.result c.settle.result is same (refl, refl, refl, refl) c.flush-answer.ensures.kept c.flush-answer.ensures.later
+    (counted-faultless s t c.flush-answer.result c.flush-answer.ensures.kept c.flush-answer.ensures.faults) in
     went-kept g.row.S g.S.Storage g.S.Storage-dict g.S.Destruct-dict q d {T = Unit} c.settle.result keeps _ _ (λ whole. whole) (λ whole. whole)
 
 pub returns-clause-marks : goal.returns-clause-marks
@@ -117,13 +92,8 @@ returns-clause-marks g c =
     let s = g.S.Storage.state q.tables.file.image in
     let t = g.S.Storage.state c.flush-answer.new.self in
     let keeps : KeepsImage {T = Unit} g.S.Storage q c.settle.result d =
-    asked-keeps g.S.Storage q d t c.settle.result c.flush-answer.ensures.kept c.flush-answer.ensures.later
-    (λ whole. let ok = subst WasNotCutOff same whole in counted-faultless s t c.flush-answer.result c.flush-answer.ensures.kept c.flush-answer.ensures.faults ok)
-    (ap (λ (x : Qcow2 g.row.S.Denot g.S.Storage). g.S.Storage.state x.tables.file.image) is) (ap (λ (x : Qcow2 g.row.S.Denot g.S.Storage). x.tables.file.header) is)
-    (ap (λ (x : Qcow2 g.row.S.Denot g.S.Storage). x.tables.l1) is) (ap (λ (x : Qcow2 g.row.S.Denot g.S.Storage). x.tables.caches) is)
-    (ap (λ (x : Qcow2 g.row.S.Denot g.S.Storage). x.tables.space) is) (ap (λ (x : Qcow2 g.row.S.Denot g.S.Storage). x.mode) is)
-    (ap (λ (x : Qcow2 g.row.S.Denot g.S.Storage). x.number) is) (ap (λ (x : Qcow2 g.row.S.Denot g.S.Storage). x.unspent) is)
-    (ap (λ (x : Qcow2 g.row.S.Denot g.S.Storage). x.failed) is ∙ ap (λ r. failed_behind failed_by r q.failed) (sym same)) in
+    settled-keeps g.S.Storage q d c.flush-answer.result c.settle.result is same (refl, refl, refl, refl) c.flush-answer.ensures.kept c.flush-answer.ensures.later
+    (counted-faultless s t c.flush-answer.result c.flush-answer.ensures.kept c.flush-answer.ensures.faults) in
     marks-kept g.row.S g.S.Storage g.S.Storage-dict g.S.Destruct-dict {T = Unit} q d c.settle.result keeps
 
 pub returns-clause-freed : goal.returns-clause-freed

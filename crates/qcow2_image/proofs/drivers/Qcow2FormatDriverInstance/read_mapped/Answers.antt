@@ -1,10 +1,10 @@
-use Rattle.std.proofs.Common.{ap, sym, subst, ◌∙◌, length}
+use Rattle.std.proofs.Common.{ap, sym, subst, ◌∙◌, length, refl}
 use Rattle.imago_access.specs.Files.{WasNotCutOff}
 use Rattle.qcow2_image.specs.declared.qcow2.Qcow2.{Qcow2}
 use Rattle.qcow2_image.specs.Steps.{KeepsImage, failed_behind, failed_by}
 use Rattle.qcow2_image.proofs.Leaks.{leaks-asked}
 use Rattle.qcow2_image.proofs.Lengths.{asked-long}
-use Rattle.qcow2_image.proofs.RequestsWithoutChanges.{asked-keeps, read-faultless, ok-whole}
+use Rattle.qcow2_image.proofs.RequestsWithoutChanges.{read-faultless, settled-keeps, ok-whole}
 use Rattle.qcow2_image.proofs.Steps.{began-kept, looked-kept, marks-kept}
 use Rattle.qcow2_image.proofs.drivers.Qcow2FormatDriverInstance.read_mapped.Goals as goal
 
@@ -17,13 +17,8 @@ returns-clause-looked g c =
     let s = g.S.Storage.state q.tables.file.image in
     let t = g.S.Storage.state c.read-answer.new.self in
     let keeps : KeepsImage {T = Unit} g.S.Storage q c.settle.result d =
-    asked-keeps g.S.Storage q d t c.settle.result c.read-answer.ensures.kept c.read-answer.ensures.later
-    (λ whole. let ok = subst WasNotCutOff same whole in read-faultless s t c.args.place (length c.args.buf.now) c.read-answer.result c.read-answer.ensures.kept c.read-answer.ensures.faults c.read-answer.ensures.err ok)
-    (ap (λ (x : Qcow2 g.row.S.Denot g.S.Storage). g.S.Storage.state x.tables.file.image) is) (ap (λ (x : Qcow2 g.row.S.Denot g.S.Storage). x.tables.file.header) is)
-    (ap (λ (x : Qcow2 g.row.S.Denot g.S.Storage). x.tables.l1) is) (ap (λ (x : Qcow2 g.row.S.Denot g.S.Storage). x.tables.caches) is)
-    (ap (λ (x : Qcow2 g.row.S.Denot g.S.Storage). x.tables.space) is) (ap (λ (x : Qcow2 g.row.S.Denot g.S.Storage). x.mode) is)
-    (ap (λ (x : Qcow2 g.row.S.Denot g.S.Storage). x.number) is) (ap (λ (x : Qcow2 g.row.S.Denot g.S.Storage). x.unspent) is)
-    (ap (λ (x : Qcow2 g.row.S.Denot g.S.Storage). x.failed) is ∙ ap (λ r. failed_behind failed_by r q.failed) (sym same)) in
+    settled-keeps g.S.Storage q d c.read-answer.result c.settle.result is same (refl, refl, refl, refl) c.read-answer.ensures.kept c.read-answer.ensures.later
+    (read-faultless s t c.args.place (length c.args.buf.now) c.read-answer.result c.read-answer.ensures.kept c.read-answer.ensures.faults c.read-answer.ensures.err) in
     looked-kept g.row.S g.S.Storage g.S.Storage-dict g.S.Destruct-dict {T = Unit} q d c.settle.result keeps
 
 pub returns-clause-began : goal.returns-clause-began
@@ -35,13 +30,8 @@ returns-clause-began g c =
     let s = g.S.Storage.state q.tables.file.image in
     let t = g.S.Storage.state c.read-answer.new.self in
     let keeps : KeepsImage {T = Unit} g.S.Storage q c.settle.result d =
-    asked-keeps g.S.Storage q d t c.settle.result c.read-answer.ensures.kept c.read-answer.ensures.later
-    (λ whole. let ok = subst WasNotCutOff same whole in read-faultless s t c.args.place (length c.args.buf.now) c.read-answer.result c.read-answer.ensures.kept c.read-answer.ensures.faults c.read-answer.ensures.err ok)
-    (ap (λ (x : Qcow2 g.row.S.Denot g.S.Storage). g.S.Storage.state x.tables.file.image) is) (ap (λ (x : Qcow2 g.row.S.Denot g.S.Storage). x.tables.file.header) is)
-    (ap (λ (x : Qcow2 g.row.S.Denot g.S.Storage). x.tables.l1) is) (ap (λ (x : Qcow2 g.row.S.Denot g.S.Storage). x.tables.caches) is)
-    (ap (λ (x : Qcow2 g.row.S.Denot g.S.Storage). x.tables.space) is) (ap (λ (x : Qcow2 g.row.S.Denot g.S.Storage). x.mode) is)
-    (ap (λ (x : Qcow2 g.row.S.Denot g.S.Storage). x.number) is) (ap (λ (x : Qcow2 g.row.S.Denot g.S.Storage). x.unspent) is)
-    (ap (λ (x : Qcow2 g.row.S.Denot g.S.Storage). x.failed) is ∙ ap (λ r. failed_behind failed_by r q.failed) (sym same)) in
+    settled-keeps g.S.Storage q d c.read-answer.result c.settle.result is same (refl, refl, refl, refl) c.read-answer.ensures.kept c.read-answer.ensures.later
+    (read-faultless s t c.args.place (length c.args.buf.now) c.read-answer.result c.read-answer.ensures.kept c.read-answer.ensures.faults c.read-answer.ensures.err) in
     ok-whole c.settle.result _ (began-kept g.row.S g.S.Storage g.S.Storage-dict g.S.Destruct-dict {T = Unit} q d c.settle.result keeps)
 
 pub returns-clause-marks : goal.returns-clause-marks
@@ -53,13 +43,8 @@ returns-clause-marks g c =
     let s = g.S.Storage.state q.tables.file.image in
     let t = g.S.Storage.state c.read-answer.new.self in
     let keeps : KeepsImage {T = Unit} g.S.Storage q c.settle.result d =
-    asked-keeps g.S.Storage q d t c.settle.result c.read-answer.ensures.kept c.read-answer.ensures.later
-    (λ whole. let ok = subst WasNotCutOff same whole in read-faultless s t c.args.place (length c.args.buf.now) c.read-answer.result c.read-answer.ensures.kept c.read-answer.ensures.faults c.read-answer.ensures.err ok)
-    (ap (λ (x : Qcow2 g.row.S.Denot g.S.Storage). g.S.Storage.state x.tables.file.image) is) (ap (λ (x : Qcow2 g.row.S.Denot g.S.Storage). x.tables.file.header) is)
-    (ap (λ (x : Qcow2 g.row.S.Denot g.S.Storage). x.tables.l1) is) (ap (λ (x : Qcow2 g.row.S.Denot g.S.Storage). x.tables.caches) is)
-    (ap (λ (x : Qcow2 g.row.S.Denot g.S.Storage). x.tables.space) is) (ap (λ (x : Qcow2 g.row.S.Denot g.S.Storage). x.mode) is)
-    (ap (λ (x : Qcow2 g.row.S.Denot g.S.Storage). x.number) is) (ap (λ (x : Qcow2 g.row.S.Denot g.S.Storage). x.unspent) is)
-    (ap (λ (x : Qcow2 g.row.S.Denot g.S.Storage). x.failed) is ∙ ap (λ r. failed_behind failed_by r q.failed) (sym same)) in
+    settled-keeps g.S.Storage q d c.read-answer.result c.settle.result is same (refl, refl, refl, refl) c.read-answer.ensures.kept c.read-answer.ensures.later
+    (read-faultless s t c.args.place (length c.args.buf.now) c.read-answer.result c.read-answer.ensures.kept c.read-answer.ensures.faults c.read-answer.ensures.err) in
     marks-kept g.row.S g.S.Storage g.S.Storage-dict g.S.Destruct-dict {T = Unit} q d c.settle.result keeps
 
 pub returns-clause-leaks : goal.returns-clause-leaks

@@ -1,9 +1,9 @@
-use Rattle.std.proofs.Common.{ap, sym, subst, ◌∙◌}
+use Rattle.std.proofs.Common.{ap, sym, subst, ◌∙◌, refl}
 use Rattle.imago_access.specs.Files.{WasNotCutOff}
 use Rattle.qcow2_image.specs.declared.qcow2.Qcow2.{Qcow2}
 use Rattle.qcow2_image.specs.Steps.{KeepsImage, failed_behind, failed_by}
 use Rattle.qcow2_image.proofs.Leaks.{leaks-asked}
-use Rattle.qcow2_image.proofs.RequestsWithoutChanges.{asked-keeps, counted-faultless}
+use Rattle.qcow2_image.proofs.RequestsWithoutChanges.{counted-faultless, settled-keeps}
 use Rattle.qcow2_image.proofs.Steps.{marks-kept, sees-same}
 use Rattle.qcow2_image.proofs.Preparations.RunPreparations.{went-kept}
 use Rattle.qcow2_image.proofs.drivers.Qcow2FormatDriverInstance.sync.Goals as goal
@@ -17,13 +17,8 @@ returns-clause-went g c =
     let s = g.S.Storage.state q.tables.file.image in
     let t = g.S.Storage.state c.sync-answer.new.self in
     let keeps : KeepsImage {T = Unit} g.S.Storage q c.settle.result d =
-    asked-keeps g.S.Storage q d t c.settle.result c.sync-answer.ensures.kept c.sync-answer.ensures.later
-    (λ whole. let ok = subst WasNotCutOff same whole in counted-faultless s t c.sync-answer.result c.sync-answer.ensures.kept c.sync-answer.ensures.faults ok)
-    (ap (λ (x : Qcow2 g.row.S.Denot g.S.Storage). g.S.Storage.state x.tables.file.image) is) (ap (λ (x : Qcow2 g.row.S.Denot g.S.Storage). x.tables.file.header) is)
-    (ap (λ (x : Qcow2 g.row.S.Denot g.S.Storage). x.tables.l1) is) (ap (λ (x : Qcow2 g.row.S.Denot g.S.Storage). x.tables.caches) is)
-    (ap (λ (x : Qcow2 g.row.S.Denot g.S.Storage). x.tables.space) is) (ap (λ (x : Qcow2 g.row.S.Denot g.S.Storage). x.mode) is)
-    (ap (λ (x : Qcow2 g.row.S.Denot g.S.Storage). x.number) is) (ap (λ (x : Qcow2 g.row.S.Denot g.S.Storage). x.unspent) is)
-    (ap (λ (x : Qcow2 g.row.S.Denot g.S.Storage). x.failed) is ∙ ap (λ r. failed_behind failed_by r q.failed) (sym same)) in
+    settled-keeps g.S.Storage q d c.sync-answer.result c.settle.result is same (refl, refl, refl, refl) c.sync-answer.ensures.kept c.sync-answer.ensures.later
+    (counted-faultless s t c.sync-answer.result c.sync-answer.ensures.kept c.sync-answer.ensures.faults) in
     went-kept g.row.S g.S.Storage g.S.Storage-dict g.S.Destruct-dict q d {T = Unit} c.settle.result keeps _ _ (λ whole. whole) (λ whole. whole)
 
 pub returns-clause-marks : goal.returns-clause-marks
@@ -35,13 +30,8 @@ returns-clause-marks g c =
     let s = g.S.Storage.state q.tables.file.image in
     let t = g.S.Storage.state c.sync-answer.new.self in
     let keeps : KeepsImage {T = Unit} g.S.Storage q c.settle.result d =
-    asked-keeps g.S.Storage q d t c.settle.result c.sync-answer.ensures.kept c.sync-answer.ensures.later
-    (λ whole. let ok = subst WasNotCutOff same whole in counted-faultless s t c.sync-answer.result c.sync-answer.ensures.kept c.sync-answer.ensures.faults ok)
-    (ap (λ (x : Qcow2 g.row.S.Denot g.S.Storage). g.S.Storage.state x.tables.file.image) is) (ap (λ (x : Qcow2 g.row.S.Denot g.S.Storage). x.tables.file.header) is)
-    (ap (λ (x : Qcow2 g.row.S.Denot g.S.Storage). x.tables.l1) is) (ap (λ (x : Qcow2 g.row.S.Denot g.S.Storage). x.tables.caches) is)
-    (ap (λ (x : Qcow2 g.row.S.Denot g.S.Storage). x.tables.space) is) (ap (λ (x : Qcow2 g.row.S.Denot g.S.Storage). x.mode) is)
-    (ap (λ (x : Qcow2 g.row.S.Denot g.S.Storage). x.number) is) (ap (λ (x : Qcow2 g.row.S.Denot g.S.Storage). x.unspent) is)
-    (ap (λ (x : Qcow2 g.row.S.Denot g.S.Storage). x.failed) is ∙ ap (λ r. failed_behind failed_by r q.failed) (sym same)) in
+    settled-keeps g.S.Storage q d c.sync-answer.result c.settle.result is same (refl, refl, refl, refl) c.sync-answer.ensures.kept c.sync-answer.ensures.later
+    (counted-faultless s t c.sync-answer.result c.sync-answer.ensures.kept c.sync-answer.ensures.faults) in
     marks-kept g.row.S g.S.Storage g.S.Storage-dict g.S.Destruct-dict {T = Unit} q d c.settle.result keeps
 
 pub returns-clause-sees : goal.returns-clause-sees
@@ -53,13 +43,8 @@ returns-clause-sees g c =
     let s = g.S.Storage.state q.tables.file.image in
     let t = g.S.Storage.state c.sync-answer.new.self in
     let keeps : KeepsImage {T = Unit} g.S.Storage q c.settle.result d =
-    asked-keeps g.S.Storage q d t c.settle.result c.sync-answer.ensures.kept c.sync-answer.ensures.later
-    (λ whole. let ok = subst WasNotCutOff same whole in counted-faultless s t c.sync-answer.result c.sync-answer.ensures.kept c.sync-answer.ensures.faults ok)
-    (ap (λ (x : Qcow2 g.row.S.Denot g.S.Storage). g.S.Storage.state x.tables.file.image) is) (ap (λ (x : Qcow2 g.row.S.Denot g.S.Storage). x.tables.file.header) is)
-    (ap (λ (x : Qcow2 g.row.S.Denot g.S.Storage). x.tables.l1) is) (ap (λ (x : Qcow2 g.row.S.Denot g.S.Storage). x.tables.caches) is)
-    (ap (λ (x : Qcow2 g.row.S.Denot g.S.Storage). x.tables.space) is) (ap (λ (x : Qcow2 g.row.S.Denot g.S.Storage). x.mode) is)
-    (ap (λ (x : Qcow2 g.row.S.Denot g.S.Storage). x.number) is) (ap (λ (x : Qcow2 g.row.S.Denot g.S.Storage). x.unspent) is)
-    (ap (λ (x : Qcow2 g.row.S.Denot g.S.Storage). x.failed) is ∙ ap (λ r. failed_behind failed_by r q.failed) (sym same)) in
+    settled-keeps g.S.Storage q d c.sync-answer.result c.settle.result is same (refl, refl, refl, refl) c.sync-answer.ensures.kept c.sync-answer.ensures.later
+    (counted-faultless s t c.sync-answer.result c.sync-answer.ensures.kept c.sync-answer.ensures.faults) in
     λ seen. sees-same g.row.S g.S.Storage g.S.Storage-dict g.S.Destruct-dict {T = Unit} q d c.settle.result keeps seen
 
 pub returns-clause-leaks : goal.returns-clause-leaks
