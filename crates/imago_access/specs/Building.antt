@@ -16,9 +16,9 @@ options_with None writable = record { filename = None; writable = writable; dire
 options_with (Some options) writable = record options { writable = writable }
 
 -- A driver just opened, of this format, for writing or not, and with this number, over an image file that was so before. It shows what the
--- file means, and is as long; opening has only read that; nothing is prepared or else pending, nothing waits in memory, and it can be
--- used: it has not failed, and no file is missing. What lasts over each call holds from here on. Where the file is sound and its storage
--- keeps what is written, it is as an image that was found sound has to be.
+-- file means, and is as long; opening has only read that; nothing is prepared or pending, nothing waits in memory, and it can be used:
+-- it has not failed, and no file is missing. What lasts over each call holds from here on. Where the file is sound and its storage keeps
+-- what is written, it is as an image that was found sound has to be.
 pub record IsOpened {D St : Type 0} (g : Ghosts D St) (format : Format) (writable : Bool)
     (number : ℕ) (before : StorageState) (d : D) : Type 0 where
   pub format_is : (g.layer d).fixed.format ≡ format

@@ -31,8 +31,8 @@ use std::alloc::Global;
 /// A driver of a format over an open image: one layer of a chain.
 ///
 /// Offsets and lengths are in bytes. Contracts see a driver as a `Layer`, and the states of its storages: its image file and the
-/// others. Four facts are its own to say: that lookups tell the truth, that it is as an image that was found sound has to be, that
-/// nothing waits in memory to be written, and what lasts over every call.
+/// others. Five facts are its own to say: that lookups tell the truth, that it is as an image that was found sound has to be, that
+/// nothing waits in memory to be written, what lasts over every call, and what each cluster is counted beyond what names it.
 ///
 /// Each call but the getters and a cancel refuses with `Fault::Failed` after an earlier fault, and with `Fault::MissingData` where a
 /// file that is needed wasn't handed in; then, where its range is empty, it succeeds and does nothing, but for `read_special`, which never

@@ -192,8 +192,9 @@ pub record PreparesFresh {S B : Type 0} (g : Ghosts S) (u : GhostsBelow B) (aske
   pub below : LookedUnder u (WasNotCutOff result) old.1 new.1
   pub ok : IfOk result (λ mapping. HoldsFresh g u asked n old middle mapping new.0)
   pub err : IfErr result (λ fault. (new.0 ≡ middle) × LeavesMarked g old.0 middle fault
-      × (HasCause (reserving_causes g (LacksPlace g (asked.offset / cluster_size old.0.tables.file.header.fields) old.0.tables middle.tables)
-      old.0 middle) fault ⊎ RefusesCopy g u (first_part old.0.tables.file.header.fields asked) old new.1 fault))
+      × (HasCause (reserving_causes g
+      (LacksPlace g (asked.offset / cluster_size old.0.tables.file.header.fields) old.0.tables middle.tables) old.0 middle) fault
+      ⊎ RefusesCopy g u (first_part old.0.tables.file.header.fields asked) old new.1 fault))
 
 -- So is a run that is found.
 pub record PreparesRun {S B : Type 0} (g : Ghosts S) (u : GhostsBelow B) (asked : Asked) (old : Qcow2 S g × B)

@@ -88,7 +88,8 @@ pub fn a_plain_read_and_a_read_agree<S: Storage, T: Storage, D: FormatDriverInst
 {}
 
 /// Behind each flush in a list of calls that was done with nothing prepared, where no call before it was cut off, the files of a chain mean
-/// its disk by themselves: the top's as they then are, over those below as they were at opening, which haven't changed. So it is of a chain
+/// its disk by themselves: the top's as they then are, over those below as they were at opening, which haven't changed. Each cluster of the
+/// top's file is counted beyond what names it as often as it was at opening. So it is of a chain
 /// as `open_chain` opens it and `qimg_calls::drive` drives it, and of each flush in a script, as `run_files` says what is run.
 pub fn files_mean_the_disk_behind_a_flush<S: Storage, D: NamesFiles>()
     ensures list { (writable : Bool) (number : ℕ) (files : List (ChainFile S)) (since : Since) (list : List Call) (answers : List Answer)
