@@ -17,7 +17,7 @@ returns-in-Ok-settle-clause-commits g c =
         faults = done.went.faults;
         safely = λ whole safe. done.went.safely (whole.0, whole.1.1) safe;
         lasting = done.went.lasting;
-        surplus = done.went.surplus;
+        surplus = λ whole safe. done.went.surplus (whole.0, whole.1.1) safe;
       };
       sees = λ none sees. tt;
       began = λ x call begun mine. tt;
@@ -39,7 +39,7 @@ returns-in-Err-settle-clause-commits g c =
         faults = refused.went.faults;
         safely = λ whole safe. refused.went.safely (whole.0, whole.1.1) safe;
         lasting = refused.went.lasting;
-        surplus = refused.went.surplus;
+        surplus = λ whole safe. refused.went.surplus (whole.0, whole.1.1) safe;
       };
       sees = λ none sees. tt;
       began = λ x call begun mine. tt;
