@@ -1,11 +1,9 @@
 -- Tables of words: how long they are, where they stand, and their bytes.
-use Rattle.std.proofs.Common.{◌≡◌, refl, ℕ, zero, suc, ◌+◌, ◌-◌, ◌*◌, ◌/◌, ◌%◌, ◌^◌, ◌<◌, ◌≤◌, ◌∙◌, ap, sym, subst, arith, List, [], ◌∷◌, ◌++◌, length, take, get_or}
+use Rattle.std.proofs.Common.{◌≡◌, refl, ℕ, zero, suc, ◌+◌, ◌-◌, ◌*◌, ◌/◌, ◌%◌, ◌^◌, ◌<◌, ◌≤◌, ◌∙◌, ap, sym, subst, arith, List, [], ◌∷◌, ◌++◌, length}
 use Rattle.std.specs.Prelude.{IsTrue, Some, None, Option}
 use Rattle.std.specs.Int.{to_be_bytes, w64}
 use Rattle.std.proofs.Math.Nat.{pow-le-pow_right}
-use Rattle.std.proofs.Math.Seq.{take-suc}
-use Rattle.std.proofs.lemmas.Grind.{flat_map-append}
-use Rattle.std.proofs.lemmas.List.{append-nil, length-append}
+use Rattle.std.proofs.lemmas.List.{length-append}
 use Rattle.std.proofs.lemmas.Nat.{mod-mul-add, pow-add}
 use Rattle.qcow2_types.specs.Header.{Fields, Shaped, layout_of}
 use Rattle.qcow2_types.specs.Words.{Layout}
@@ -45,15 +43,6 @@ asked_is_length l2_words h n shaped most asked =
     let power : 2 ^ h.cluster_bits ≡ 2 ^ (h.cluster_bits - 3) * 8 = ap (λ b. 2 ^ b) split ∙ pow-add 2 (h.cluster_bits - 3) 3 in
     let is : n ≡ 2 ^ h.cluster_bits / 8 = asked in
     omega (arith, power, is)
-
--- one word more
-pub bytes_more : (words : List ℕ) (i : ℕ) → i < length words → table_bytes (take (i + 1) words) ≡ table_bytes (take i words) ++ to_be_bytes w64 (get_or words i 0)
-bytes_more words i inside =
-    let next : i + 1 ≡ suc i = omega arith in
-    ap (λ n. table_bytes (take n words)) next
-    ∙ (ap table_bytes (take-suc words i 0 inside)
-    ∙ (flat_map-append (to_be_bytes w64) (take i words) (get_or words i 0 ∷ [])
-    ∙ ap (λ l. table_bytes (take i words) ++ l) (append-nil (to_be_bytes w64 (get_or words i 0)))))
 
 -- words take 8 bytes each
 pub bytes_long : (words : List ℕ) → length (table_bytes words) ≡ 8 * length words

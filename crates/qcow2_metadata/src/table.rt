@@ -14,7 +14,7 @@ ghost use Rattle.qcow2_metadata.specs.Tables.{TableValue, IsTable, IsLength, IsA
 ghost use Rattle.qcow2_types.specs.TableBytes.{AreFit, table_bytes};
 
 use crate::Header;
-use crate::clusters::{first_byte_of, read_cluster};
+use crate::clusters::{first_byte_of, read_cluster, zeroes};
 use crate::entries::TableEntry;
 use crate::words::word_at;
 use imago_storage::{Fault, Storage, StorageExt};
@@ -225,13 +225,9 @@ fn entries_in<E: TableEntry>(alloc: Global, bytes: &[u8], header: &Header) -> Re
     ensures refused { IfErr result (WhyNotDecoded E.kind (layout_of header.now.fields)
         (words_in (bytes_of bytes.now) 0 (length bytes.now / 8))) }
 {
-    let mut entries = Vec::with_capacity(alloc, bytes.len() / 8)?;
+    let mut entries = vec![in alloc; E::empty(); bytes.len() / 8]?;
     for index in 0..bytes.len() / 8 {
-        let entry = match E::try_from_plain(word_at(bytes, 8 * index), header) {
-            Ok(entry) => entry,
-            Err(fault) => return Err(fault),
-        };
-        entries.push(entry)?;
+        entries[index] = E::try_from_plain(word_at(bytes, 8 * index), header)?;
     }
     Ok(entries)
 }
@@ -326,18 +322,24 @@ pub fn spend(pending: Option<PendingClusters>) {
     }
 }
 
+/// Puts the bytes of a table's words into as many as they are.
+fn put_words<T: Table>(table: &T, bytes: &mut [u8])
+    requires { length bytes.old ≡ 8 * length (T.value table.now).words }
+    ensures { bytes.new ≡ table_bytes (T.value table.now).words }
+{
+    for index in 0..table.entries() {
+        let word = table.get(index).to_plain();
+        bytes[8 * index..8 * index + 8].copy_from_slice(&word.to_be_bytes());
+    }
+}
+
 /// The bytes of a table's words.
 fn bytes_in<T: Table>(alloc: Global, table: &T) -> Result<Vec<u8>, Fault>
     ensures bytes { IfOk result (λ bytes. bytes.items ≡ table_bytes (T.value table.now).words) }
     ensures refused { IsOkUnless result Fault.Memory }
 {
-    let mut bytes = Vec::with_capacity(alloc, table.byte_size())?;
-    for index in 0..table.entries() {
-        let word = table.get(index).to_plain();
-        if bytes.extend_from_slice(&word.to_be_bytes()).is_err() {
-            return Err(Fault::Memory);
-        }
-    }
+    let mut bytes = zeroes(alloc, table.byte_size())?;
+    put_words(table, &mut bytes);
     Ok(bytes)
 }
 
