@@ -55,6 +55,10 @@ pub(crate) fn splice(bytes: &mut Vec<u8>, at: usize, data: &[u8]) -> Result<(), 
     ensures len { OnOk result (length bytes.new.items ≡ max (length bytes.old.items) (at + length «data».now)) }
     ensures err { OnErr result (bytes.new.items ≡ bytes.old.items) }
 {
+    // At the end nothing is blanked first.
+    if at == bytes.len() {
+        return bytes.extend_from_slice(data);
+    }
     let end = at.checked_add(data.len()).ok_or(AllocError)?;
     lengthen(bytes, end)?;
     copy_in(bytes, at, data);
