@@ -64,6 +64,7 @@ impl<D: FormatDriverInstance> FormatAccess<D> {
         // What it keeps, and what its stops show.
         ensures same { OnOk result (D.layer self.new.0 ≡ D.layer self.old.0) }
         ensures kept { Pairs IsKept (files D.Seen self.old.0) (files D.Seen self.new.0) }
+        ensures sees { D.sees self.old.0 → D.sees self.new.0 }
         ensures still { D.still self.old.0 → D.still self.new.0 }
         ensures like { IsLike (D.layer self.old.0) (D.layer self.new.0) }
         ensures ran { RanChain D.Seen (IsOk result) GivesNone self.old self.new }
