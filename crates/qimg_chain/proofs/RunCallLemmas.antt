@@ -84,7 +84,6 @@ line-tells g names Size turn answer c asks short tells = absurd (cc asks)
 line-tells g names Check turn answer c asks short tells = absurd (cc asks)
 line-tells g names (Plain offset n) turn answer c asks short tells = absurd (cc asks)
 line-tells g names (Read offset n) turn answer c asks short tells = inr (short, tells)
-line-tells g names Save turn answer c asks short tells = inl tells
 line-tells g names line turn answer c asks short tells = tells
 
 -- it is answered by its call, or isn't made for want of room

@@ -1,8 +1,7 @@
 -- The bytes of a script that were read, line by line, within its limits.
 use Rattle.std.proofs.Common.{◌≡◌, ◌≢◌, ℕ, ◌+◌, ◌<◌, ◌≤◌, ◌∙◌, List, [], ◌∷◌, ◌++◌, length, take, refl, ap, sym, arith, length-append, add-one}
 use mathlib.Core.List.{append_assoc}
-use Rattle.std.specs.Prelude.{⊤, Option, Some, None, option_map, IfSome, Ok, Err, Vec}
-use Rattle.std.specs.Global.{Global}
+use Rattle.std.specs.Prelude.{⊤, Option, Some, None, option_map, IfSome, Ok, Err}
 use Rattle.std.specs.Io.BufRead.{take_through, drop_through, DropsThrough}
 use Rattle.std.specs.Str.Lines.{lines}
 use Rattle.qimg_chain.specs.declared.run.fault.RunFault.{RunFault}
@@ -62,7 +61,7 @@ none-taken room [] is = refl
 none-taken room (b ∷ rest) is = cc (rw (add-one) at is)
 
 -- the script has no more lines
-pub read-all : (input left : Option (List ℕ)) (room : ℕ) (texts : List (List ℕ)) (line : List ℕ) (saved : Option (Vec ℕ Global)) → ReadSoFar input left room texts
+pub read-all : (input left : Option (List ℕ)) (room : ℕ) (texts : List (List ℕ)) (line : List ℕ) (saved : Option (List ℕ)) → ReadSoFar input left room texts
     → IfSome left (λ xs. line ≡ take_through 10 xs) → lines line ≡ [] → IfSome input (λ bytes. AreAnswered (Ok saved) bytes texts)
 read-all None left room texts line saved so_far is none = tt
 read-all (Some bytes) left room texts line saved r is none =

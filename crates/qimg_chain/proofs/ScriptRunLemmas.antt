@@ -2,8 +2,7 @@
 use Rattle.std.proofs.Common.{◌≡◌, ℕ, ◌+◌, ◌∙◌, List, [], ◌∷◌, ◌++◌, length, refl, ap, subst, sym, arith, inl, inr, length-append}
 use Rattle.std.proofs.lemmas.List.{append-nil}
 use mathlib.Core.List.{append_assoc}
-use Rattle.std.specs.Prelude.{map, Option, Some, None, IfSome, OnOk, Result, Ok, Err, Vec}
-use Rattle.std.specs.Global.{Global}
+use Rattle.std.specs.Prelude.{map, Option, Some, None, IfSome, OnOk, Result, Ok, Err}
 use Rattle.std.specs.Io.BufRead.{take_through, DropsThrough}
 use Rattle.std.specs.Io.KnownBytes.{Appends}
 use Rattle.std.specs.Str.Lines.{lines}
@@ -53,7 +52,7 @@ pub record RanSoFar {D St : Type 0} (g : Ghosts D St) (names : D → ℕ → Lis
   pub written : Appends io.before io.after (text_of made.replies)
 
 -- all that was answered is written
-pub all-written : (result : Result (Option (Vec ℕ Global)) RunFault) (before after : Option (List ℕ)) (replies : List Reply) →
+pub all-written : (result : Result (Option (List ℕ)) RunFault) (before after : Option (List ℕ)) (replies : List Reply) →
     Appends before after (text_of replies) → AreWritten result before after replies
 all-written (Ok kept) before after replies all = all
 all-written (Err run_fault.Write) before after replies all = tt
@@ -62,7 +61,7 @@ all-written (Err run_fault.Read) before after replies all = all
 all-written (Err run_fault.Lines) before after replies all = all
 
 -- the last answer isn't told, by this fault: for want of memory nothing of it is written
-pub last-untold : (result : Result (Option (Vec ℕ Global)) RunFault) (fault : RunFault) (before mid after : Option (List ℕ)) (told : List Reply) (last : Reply) →
+pub last-untold : (result : Result (Option (List ℕ)) RunFault) (fault : RunFault) (before mid after : Option (List ℕ)) (told : List Reply) (last : Reply) →
     IsTellingFault fault → result ≡ Err fault → (fault ≡ run_fault.Memory → after ≡ mid) → Appends before mid (text_of told) → AreWritten result before after (told ++ last ∷ [])
 last-untold result fault before mid after told last telling is quiet all = rw (is) (at fault telling quiet)
   where
@@ -110,7 +109,7 @@ module _ {D St : Type 0} (g : Ghosts D St) (names : D → ℕ → List ℕ) wher
       alone-both g r.turn.list (calls_of replies) r.turn.answers (answers_of replies) old.drivers all.0.drivers new.drivers all.1.made (alone-all replies all.0 new all.2)
 
   -- what the calls of all lines do
-  driven-all : (replies : List Reply) (old new : D × List D) (saved : Option (Vec ℕ Global)) (since : Since) → MayBegin g old
+  driven-all : (replies : List Reply) (old new : D × List D) (saved : Option (List ℕ)) (since : Since) → MayBegin g old
       → RunsAll g names replies (standing old None) (standing new saved) → IsReady g old → StandsSince g since old → Driven g since (calls_of replies) (answers_of replies) old new
   driven-all replies old new saved since rests runs ready stands =
       driven-alone g rests.safe_sees rests.safe_sound (calls_of replies) (answers_of replies) old new since (alone-all replies (standing old None) (standing new saved) runs) rests.free ready stands
@@ -147,7 +146,7 @@ ran-then {io = io} next last less new r line rest ran is drops fewer first one t
 }
 
 -- what a script does that was run so far, and ends so
-pub scripted : {D St : Type 0} {g : Ghosts D St} {names : D → ℕ → List ℕ} {io : Streams} {count : ℕ} {old new : D × List D} {saved : Option (Vec ℕ Global)} {result : Result (Option (Vec ℕ Global)) RunFault}
+pub scripted : {D St : Type 0} {g : Ghosts D St} {names : D → ℕ → List ℕ} {io : Streams} {count : ℕ} {old new : D × List D} {saved : Option (List ℕ)} {result : Result (Option (List ℕ)) RunFault}
     → RanSoFar g names io count old (standing new saved) → IsAnswerCount result count
     → ((texts : List (List ℕ)) → ReadSoFar io.input io.left io.room texts → IfSome io.input (λ bytes. AreAnswered result bytes texts)) → OnOk result (result ≡ Ok saved)
     → Scripted g names io.input io.before io.after result old new
@@ -163,8 +162,8 @@ scripted {g = g} {names = names} {io = io} {old = old} {new = new} {saved = save
 }
 
 -- the same, where it ends early for a fault that is no limit of lines
-pub scripted-cut : {D St : Type 0} {g : Ghosts D St} {names : D → ℕ → List ℕ} {input left : Option (List ℕ)} {room count : ℕ} {old new : D × List D} {saved : Option (Vec ℕ Global)}
-    → (before after : Option (List ℕ)) (result : Result (Option (Vec ℕ Global)) RunFault) (fault : RunFault) (made : MadeSoFar g names input left room count old (standing new saved)) → EndsEarly fault count
+pub scripted-cut : {D St : Type 0} {g : Ghosts D St} {names : D → ℕ → List ℕ} {input left : Option (List ℕ)} {room count : ℕ} {old new : D × List D} {saved : Option (List ℕ)}
+    → (before after : Option (List ℕ)) (result : Result (Option (List ℕ)) RunFault) (fault : RunFault) (made : MadeSoFar g names input left room count old (standing new saved)) → EndsEarly fault count
     → result ≡ Err fault → AreWritten result before after made.replies → Scripted g names input before after result old new
 scripted-cut {g = g} {names = names} {input = input} {left = left} {room = room} {count = count} {old = old} {new = new} {saved = saved} before after result fault made cut is written = record {
   replies = made.replies;
@@ -175,4 +174,23 @@ scripted-cut {g = g} {names = names} {input = input} {left = left} {room = room}
   lines = rw (is) (read-cut input left room count (map text made.replies) fault made.read cut);
   written = written;
   kept = rw (is) tt;
+}
+
+within-limits : (saved : Option (List ℕ)) (input : Option (List ℕ)) (texts : List (List ℕ)) → IfSome input (λ bytes. AreAnswered (Ok saved) bytes texts)
+    → IfSome input (λ bytes. AreAnswered (Err run_fault.Memory) bytes texts)
+within-limits saved None texts all = tt
+within-limits saved (Some bytes) texts all = record { before = all.before; rest = all.rest; parts = all.parts; first = all.first; short = all.short; ends = tt }
+
+-- what a script did that ended, where there is no memory to hand on what it kept
+pub scripted-uncopied : {D St : Type 0} {g : Ghosts D St} {names : D → ℕ → List ℕ} {input before after : Option (List ℕ)} {old new : D × List D} {saved : Option (List ℕ)}
+    → Scripted g names input before after (Ok saved) old new → Scripted g names input before after (Err run_fault.Memory) old new
+scripted-uncopied {input = input} {saved = saved} ran = record {
+  replies = ran.replies;
+  saved = ran.saved;
+  runs = ran.runs;
+  driven = ran.driven;
+  count = ran.count;
+  lines = within-limits saved input (map text ran.replies) ran.lines;
+  written = inl ran.written;
+  kept = tt;
 }

@@ -1,6 +1,5 @@
 -- A script that is run over files, from their opening as a chain on.
-use Rattle.std.specs.Prelude.{◌≡◌, ◌≢◌, ◌⊎◌, ℕ, Bool, List, [], map, Option, Result, Err, Vec}
-use Rattle.std.specs.Global.{Global}
+use Rattle.std.specs.Prelude.{◌≡◌, ◌≢◌, ◌⊎◌, ℕ, Bool, List, [], map, Option, Result, Err}
 use Rattle.std.specs.Io.KnownBytes.{Appends}
 use Rattle.imago_storage.specs.MemStorage.{mem_state}
 use Rattle.imago_storage.specs.declared.fault.Fault.TheVariants.{Memory, Storage}
@@ -34,7 +33,7 @@ to_open files writable number = record { files = files; writable = writable; num
 -- Where the top is sound and its storages keep what is written, the calls of all lines do what a list of calls does, with that disk as the
 -- one last flushed.
 pub record RunFrom {D St : Type 0} (g : Ghosts D St) (names : D → ℕ → List ℕ) (what : ToOpen) (input before after : Option (List ℕ))
-    (result : Result (Option (Vec ℕ Global)) RunFault) : Type 0 where
+    (result : Result (Option (List ℕ)) RunFault) : Type 0 where
   pub opened : D × List D
   pub last : D × List D
   pub formed : FormChain mem_state what.writable what.files

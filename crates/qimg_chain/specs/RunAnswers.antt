@@ -1,6 +1,5 @@
 -- What lines of a script are answered with, and what they do to a chain, by its drivers before and after, the top first.
-use Rattle.std.specs.Prelude.{◌≡◌, ◌≢◌, ⊤, ℕ, ◌<◌, ◌≤◌, ◌⊎◌, List, length, Option, Result, Ok, Err, MatchOption, Vec, map}
-use Rattle.std.specs.Global.{Global}
+use Rattle.std.specs.Prelude.{◌≡◌, ◌≢◌, ⊤, ℕ, ◌<◌, ◌≤◌, ◌⊎◌, List, length, Option, Some, Result, Ok, Err, map}
 use Rattle.imago_storage.specs.View.{view_state}
 use Rattle.imago_storage.specs.declared.fault.Fault.{Fault}
 use Rattle.imago_storage.specs.declared.fault.Fault.TheVariants.{BadArgument, Memory as WantOfMemory, Storage, Unsupported}
@@ -19,7 +18,7 @@ use Rattle.qimg_core.specs.declared.check.CheckFault.{CheckFault}
 use Rattle.qimg_core.specs.declared.check.CheckFault.TheVariants as check_fault
 use Rattle.qimg_chain.specs.FileMeanings.{driver_bytes, files_bytes}
 use Rattle.qimg_chain.specs.PlainReads.{IsPlainlyRead, NotPlainlyRead}
-use Rattle.qimg_chain.specs.RunCalls.{Turn, unmade, TellsCall, TellsSave}
+use Rattle.qimg_chain.specs.RunCalls.{Turn, unmade, TellsCall}
 use Rattle.qimg_chain.specs.declared.script.answer.Answer.{Answer}
 use Rattle.qimg_chain.specs.declared.script.answer.Answer.TheVariants as told
 use Rattle.qimg_chain.specs.declared.script.line.Line.{Line}
@@ -88,7 +87,6 @@ TellsLine g names (Read offset n) turn answer c = ((32768 < n) × (turn ≡ unma
     ⊎ ((n ≤ 32768) × TellsCall (Read offset n) turn answer)
 TellsLine g names Check turn answer c = (turn ≡ unmade) × Checks (g.layer c.0).fixed.format (file (g.image c.0)) answer
 TellsLine g names (Plain offset n) turn answer c = (turn ≡ unmade) × TellsBytes (λ result. ReadsPlainly g names offset n result c) answer
-TellsLine g names Save turn answer c = TellsSave turn answer
 TellsLine g names line turn answer c = TellsCall line turn answer
 
 -- What a line does, and is answered with.
@@ -99,8 +97,8 @@ pub record Answered {D St : Type 0} (g : Ghosts D St) (names : D → ℕ → Lis
   pub tells : TellsLine g names line turn answer old
 
 -- Where it is a `save` that is done, the bytes of the top file are kept, and else what was kept before.
-abbrev pub KeepsSaved : Line → Answer → List ℕ → Option (Vec ℕ Global) → Option (Vec ℕ Global) → Type 0
-KeepsSaved Save told.Done bytes old new = MatchOption new ⊥ (λ kept. kept.items ≡ bytes)
+abbrev pub KeepsSaved : Line → Answer → List ℕ → Option (List ℕ) → Option (List ℕ) → Type 0
+KeepsSaved Save told.Done bytes old new = new ≡ Some bytes
 KeepsSaved line answer bytes old new = new ≡ old
 
 -- a line doesn't read more than it may

@@ -70,7 +70,3 @@ abbrev pub TellsCall : Line → Turn → Answer → Type 0
 TellsCall line turn answer =
     ((call : Call) × (said : CallAnswer) × IsCallOf line call × (turn ≡ one call said) × (told_of said ≡ Some answer))
     ⊎ ((turn ≡ unmade) × (answer ≡ told.Refused Memory))
-
--- A save is a flush, which may be done and the file's bytes not be kept, for want of memory.
-abbrev pub TellsSave : Turn → Answer → Type 0
-TellsSave turn answer = TellsCall Save turn answer ⊎ ((turn ≡ one calls.Flush answers.Done) × (answer ≡ told.Refused Memory))

@@ -1,6 +1,5 @@
 -- How much of a script is read: its limits, which of its lines are run, and how a line is read part by part.
-use Rattle.std.specs.Prelude.{◌≡◌, ◌≢◌, ⊤, ℕ, ◌<◌, ◌≤◌, All, Bool, true, false, List, [], ◌++◌, length, IfSome, Option, Result, Ok, Err, Vec}
-use Rattle.std.specs.Global.{Global}
+use Rattle.std.specs.Prelude.{◌≡◌, ◌≢◌, ⊤, ℕ, ◌<◌, ◌≤◌, All, Bool, true, false, List, [], ◌++◌, length, IfSome, Option, Result, Ok, Err}
 use Rattle.std.specs.Io.BufRead.{DropsThrough, take_through}
 use Rattle.std.specs.Io.KnownBytes.{Consumes}
 use Rattle.std.specs.Str.Lines.{lines}
@@ -15,20 +14,20 @@ abbrev pub most_bytes : ℕ
 most_bytes = 137438953472
 
 -- how many lines are run: not more than a script has at most, just as many where it has more, and some where an answer isn't written
-abbrev pub IsAnswerCount : Result (Option (Vec ℕ Global)) RunFault → ℕ → Type 0
+abbrev pub IsAnswerCount : Result (Option (List ℕ)) RunFault → ℕ → Type 0
 IsAnswerCount (Err run_fault.Lines) n = n ≡ most_lines
 IsAnswerCount (Err run_fault.Write) n = (0 < n) × (n ≤ most_lines)
 IsAnswerCount result n = n ≤ most_lines
 
 -- Where the lines that are run end, by the bytes before and behind: at the script's end; or, where there are too many, before one more line
 -- that ends within the script's bytes; or anywhere.
-abbrev pub EndsBetween : Result (Option (Vec ℕ Global)) RunFault → List ℕ → List ℕ → Type 0
+abbrev pub EndsBetween : Result (Option (List ℕ)) RunFault → List ℕ → List ℕ → Type 0
 EndsBetween (Ok saved) before rest = rest ≡ []
 EndsBetween (Err run_fault.Lines) before rest = (rest ≢ []) × (length (before ++ take_through 10 rest) ≤ most_bytes)
 EndsBetween (Err fault) before rest = ⊤
 
 -- The lines of a script that are run, by its bytes: its first ones, which have no more bytes with their ends than a script has at most.
-pub record AreAnswered (result : Result (Option (Vec ℕ Global)) RunFault) (bytes : List ℕ) (texts : List (List ℕ)) : Type 0 where
+pub record AreAnswered (result : Result (Option (List ℕ)) RunFault) (bytes : List ℕ) (texts : List (List ℕ)) : Type 0 where
   pub before : List ℕ
   pub rest : List ℕ
   pub parts : bytes ≡ before ++ rest

@@ -1,5 +1,5 @@
 -- What a script does that is run over a chain, line by line, and the text that answers it.
-use Rattle.std.specs.Prelude.{◌≡◌, ◌⊎◌, ⊤, ℕ, List, [], ◌∷◌, ◌++◌, length, map, Option, None, IfSome, OnOk, Result, Ok, Err, Vec}
+use Rattle.std.specs.Prelude.{◌≡◌, ◌⊎◌, ⊤, ℕ, List, [], ◌∷◌, ◌++◌, length, map, Option, None, Some, option_map, IfSome, OnOk, Result, Ok, Err, Vec}
 use Rattle.std.specs.Global.{Global}
 use Rattle.std.specs.Io.KnownBytes.{Appends}
 use Rattle.imago_storage.specs.declared.fault.Fault.{Fault}
@@ -17,16 +17,18 @@ use Rattle.qimg_chain.specs.ScriptAnswers.{answer_text}
 use Rattle.qimg_chain.specs.ScriptLimits.{AreAnswered, IsAnswerCount}
 use Rattle.qimg_chain.specs.declared.run.fault.RunFault.{RunFault}
 use Rattle.qimg_chain.specs.declared.run.fault.RunFault.TheVariants as run_fault
+use Rattle.qimg_chain.specs.declared.run.saved.Saved.{Saved}
+use Rattle.qimg_chain.specs.declared.run.saved.Saved.TheVariants as saved
 use Rattle.qimg_chain.specs.declared.script.answer.Answer.{Answer}
 use Rattle.qimg_chain.specs.declared.script.answer.Answer.TheVariants as told
 use Rattle.qimg_chain.specs.declared.script.line.Line.{Line}
 
--- where a script stands: the drivers of the chain, the top first, and what the last `save` kept
+-- where a script stands: the drivers of the chain, the top first, and the bytes that the last `save` kept
 pub record Standing (D : Type 0) : Type 0 where
   pub drivers : D × List D
-  pub saved : Option (Vec ℕ Global)
+  pub saved : Option (List ℕ)
 
-abbrev pub standing : {D : Type 0} → D × List D → Option (Vec ℕ Global) → Standing D
+abbrev pub standing : {D : Type 0} → D × List D → Option (List ℕ) → Standing D
 standing drivers saved = record { drivers = drivers; saved = saved }
 
 -- a line that was run: its text, the calls that it made, and its answer
@@ -95,17 +97,32 @@ pub record IsLastUntold (before after : Option (List ℕ)) (replies : List Reply
 
 -- Which answers are written: all, where the script has ended, its reader failed or it has too many lines; all, or all but the last, where
 -- memory was wanting. Of a writer that failed nothing is said.
-abbrev pub AreWritten : Result (Option (Vec ℕ Global)) RunFault → (before after : Option (List ℕ)) → List Reply → Type 0
+abbrev pub AreWritten : Result (Option (List ℕ)) RunFault → (before after : Option (List ℕ)) → List Reply → Type 0
 AreWritten (Err run_fault.Write) before after replies = ⊤
 AreWritten (Err run_fault.Memory) before after replies = Appends before after (text_of replies) ⊎ IsLastUntold before after replies
 AreWritten result before after replies = Appends before after (text_of replies)
 
+-- the bytes of a vector, if there is one
+abbrev pub items_of : Option (Vec ℕ Global) → Option (List ℕ)
+items_of = option_map (λ bytes. bytes.items)
+
+-- the bytes that the last `save` kept, where the top file has these
+abbrev pub kept_of : List ℕ → Saved → Option (List ℕ)
+kept_of file saved.Nothing = None
+kept_of file saved.InFile = Some file
+kept_of file (saved.Apart bytes) = Some bytes.items
+
+-- how a script ends, by the bytes that are handed on
+abbrev pub ending : {T : Type 0} → (T → Option (List ℕ)) → Result T RunFault → Result (Option (List ℕ)) RunFault
+ending kept (Ok saved) = Ok (kept saved)
+ending kept (Err fault) = Err fault
+
 -- What a script does that is run over a chain, by the bytes that its reader has and that its writer holds, where these are known: each line
 -- makes the call that it asks for, and what all of them do is what the list of these calls does.
 pub record Scripted {D St : Type 0} (g : Ghosts D St) (names : D → ℕ → List ℕ) (input before after : Option (List ℕ))
-    (result : Result (Option (Vec ℕ Global)) RunFault) (old new : D × List D) : Type 0 where
+    (result : Result (Option (List ℕ)) RunFault) (old new : D × List D) : Type 0 where
   pub replies : List Reply
-  pub saved : Option (Vec ℕ Global)
+  pub saved : Option (List ℕ)
   pub runs : RunsAll g names replies (standing old None) (standing new saved)
   pub driven : (since : Since) → IsReady g old → StandsSince g since old → Driven g since (calls_of replies) (answers_of replies) old new
   -- its lines are the first that the reader has, all of them where it ends, as many as a script has at most; and its text is their answers

@@ -1,7 +1,6 @@
 //! Laws of scripts and arguments, of why files don't form a chain, of files that do, of both reads of them, of what they mean behind a
 //! flush, and of stops that are told. A chain is qemu's backing chain, and a stop a crash or a power cut.
-ghost use Rattle.std.specs.Global.{Global};
-ghost use Rattle.std.specs.Prelude.{◌≡◌, ◌∷◌, [], ℕ, Bool, List, None, Option, Result, Vec, length, true, false};
+ghost use Rattle.std.specs.Prelude.{◌≡◌, ◌∷◌, [], ℕ, Bool, List, None, Option, Result, length, true, false};
 ghost use Rattle.imago_access.specs.ChainLooks.{ChainReads};
 ghost use Rattle.imago_access.specs.Running.{chain_disk};
 ghost use Rattle.imago_access.specs.declared.format.Format.TheVariants.{Qcow2, Raw};
@@ -96,7 +95,7 @@ pub fn files_mean_the_disk_behind_a_flush<S: Storage, D: NamesFiles>()
         (opened new : D × List D) (driven : Driven D.Seen since list answers opened new)
         → IsChainOf D.Seen D.names S.state writable number files opened
         → EachFlushMeans D.Seen D.names opened list answers (moment (holding opened None) since) driven.last }
-    ensures script { (what : ToOpen) (input before after : Option (List ℕ)) (result : Result (Option (Vec ℕ Global)) RunFault)
+    ensures script { (what : ToOpen) (input before after : Option (List ℕ)) (result : Result (Option (List ℕ)) RunFault)
         (ran : RunFrom D.Seen D.names what input before after result) (fit : OfTop (IsFit mem_state) what.files)
         → let replies = ran.scripted.replies in let start = moment (holding ran.opened None) (flushed (chain_disk D.layer ran.opened)) in
         EachFlushMeans D.Seen D.names ran.opened (calls_of replies) (answers_of replies) start (ran.headline fit).last }

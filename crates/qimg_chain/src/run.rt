@@ -7,7 +7,7 @@ ghost use Rattle.std.specs.Io.Take.{take_remaining};
 ghost use Rattle.imago_access.specs.Layer.{IsFree};
 ghost use Rattle.qimg_chain.specs.RunCalls.{Turn};
 ghost use Rattle.qimg_chain.specs.ScriptAnswers.{answer_text};
-ghost use Rattle.qimg_chain.specs.ScriptRuns.{reply, standing, IsReadingFault, IsTellingFault, Replies, Scripted};
+ghost use Rattle.qimg_chain.specs.ScriptRuns.{ending, items_of, kept_of, reply, standing, IsReadingFault, IsTellingFault, Replies, Scripted};
 
 mod answers;
 mod calls;
@@ -15,6 +15,7 @@ mod fault;
 mod files;
 mod opened;
 mod reading;
+mod saved;
 
 use crate::chain::NamesFiles;
 use crate::script::{Answer, parse_line, split_line};
@@ -24,6 +25,7 @@ use imago_access::{FormatAccess, FormatDriverInstance};
 use imago_storage::MemStorage;
 pub use opened::{ScriptFault, run_files};
 use reading::read_line;
+pub use saved::Saved;
 use std::alloc::Global;
 use std::io::{BufRead, Take, Write};
 
@@ -57,12 +59,13 @@ fn answer_to<D: FormatDriverInstance<Storage = MemStorage> + NamesFiles>(
     alloc: Global,
     chain: &mut FormatAccess<D>,
     text: &[u8],
-    saved: &mut Option<Vec<u8>>,
+    saved: &mut Saved,
 ) -> Answer
     requires free { IsFree (D.layer chain.old.0) }
     ensures free { IsFree (D.layer chain.new.0) }
     ensures replied { (turn : Turn)
-        × Replies D.Seen D.names (reply text.now turn result) (standing chain.old saved.old) (standing chain.new saved.new) }
+        × Replies D.Seen D.names (reply text.now turn result) (standing chain.old (kept_of (D.image chain.old.0).bytes saved.old))
+        (standing chain.new (kept_of (D.image chain.new.0).bytes saved.new)) }
 {
     match parse_line(alloc, text) {
         Ok(line) => answer_line(alloc, chain, line, saved),
@@ -83,26 +86,21 @@ fn tell<W: Write>(alloc: Global, writer: &mut W, answer: &Answer) -> Result<(), 
     }
 }
 
-/// Runs a script over a chain: each of its lines, as the module `script` has them, is answered by one line. It answers the bytes of the
-/// top file at the last `save` that was done, if one was. Nothing may be prepared in the chain.
-///
-/// `RunFault::Read` where the reader fails, and for the line with which a script passes 2^37 bytes; `RunFault::Lines` for the one behind
-/// 2^20 lines; `RunFault::Write` where the writer fails; and `RunFault::Memory` for want of memory. The lines before it are answered.
-pub fn run<R: BufRead + Drop, W: Write, D: FormatDriverInstance<Storage = MemStorage> + NamesFiles>(
-    alloc: Global,
-    reader: R,
-    writer: &mut W,
-    chain: &mut FormatAccess<D>,
-) -> Result<Option<Vec<u8>>, RunFault>
+/// Runs a script over a chain, and answers what the last `save` kept. It refuses as `run` does, but for the copy of that.
+fn run_lines<
+    R: BufRead + Drop,
+    W: Write,
+    D: FormatDriverInstance<Storage = MemStorage> + NamesFiles,
+>(alloc: Global, reader: R, writer: &mut W, chain: &mut FormatAccess<D>) -> Result<Saved, RunFault>
     requires free { IsFree (D.layer chain.old.0) }
     ensures free { IsFree (D.layer chain.new.0) }
-    ensures scripted { Scripted D.Seen D.names (R.remaining reader) (W.contents writer.old) (W.contents writer.new) result
-        chain.old chain.new }
+    ensures scripted { let ended = ending (kept_of (D.image chain.new.0).bytes) result in
+        Scripted D.Seen D.names (R.remaining reader) (W.contents writer.old) (W.contents writer.new) ended chain.old chain.new }
 {
     let mut input = reader.take(MOST_BYTES + 1);
     let mut line = Vec::new(alloc);
     let mut room = MOST_BYTES;
-    let mut saved = None;
+    let mut saved = Saved::Nothing;
     for _ in 0..MOST_LINES {
         next_line(&mut input, &mut line, &mut room)?;
         let Some((text, _)) = split_line(&line) else {
@@ -116,4 +114,25 @@ pub fn run<R: BufRead + Drop, W: Write, D: FormatDriverInstance<Storage = MemSto
         Some(_) => Err(RunFault::Lines),
         None => Ok(saved),
     }
+}
+
+/// Runs a script over a chain: each of its lines, as the module `script` has them, is answered by one line. It answers the bytes of the
+/// top file at the last `save` that was done, if one was. Nothing may be prepared in the chain.
+///
+/// `RunFault::Read` where the reader fails, and for the line with which a script passes 2^37 bytes; `RunFault::Lines` for the one behind
+/// 2^20 lines; `RunFault::Write` where the writer fails; and `RunFault::Memory` for want of memory, also to copy what a last `save` keeps.
+/// The lines before it are answered.
+pub fn run<R: BufRead + Drop, W: Write, D: FormatDriverInstance<Storage = MemStorage> + NamesFiles>(
+    alloc: Global,
+    reader: R,
+    writer: &mut W,
+    chain: &mut FormatAccess<D>,
+) -> Result<Option<Vec<u8>>, RunFault>
+    requires free { IsFree (D.layer chain.old.0) }
+    ensures free { IsFree (D.layer chain.new.0) }
+    ensures scripted { Scripted D.Seen D.names (R.remaining reader) (W.contents writer.old) (W.contents writer.new)
+        (ending items_of result) chain.old chain.new }
+{
+    let saved = run_lines(alloc, reader, writer, chain)?;
+    saved.into_bytes(chain)
 }

@@ -1,7 +1,7 @@
 // A layer of a chain of image files: a raw, a VMDK or a qcow2 image. A layer is a node of qemu's backing chain, and a `FormatAccess` in
 // imago.
 ghost use Rattle.std.specs.Prelude.{◌≡◌, ◌↔◌, IsTrue};
-ghost use Rattle.imago_access.specs.Layer.{unmapped};
+ghost use Rattle.imago_access.specs.Layer.{IsFree, unmapped};
 ghost use Rattle.qimg_chain.specs.ImageDrivers.{began_as};
 ghost use Rattle.qimg_chain.specs.declared.chain.image_driver.ImageDriver.TheVariants as variant;
 
@@ -33,6 +33,19 @@ impl<S: Storage> ImageDriver<S> {
         match self {
             ImageDriver::Raw(_) | ImageDriver::Vmdk(_) => false,
             ImageDriver::Qcow2(qcow2) => qcow2.backing(),
+        }
+    }
+
+    /// Its storage again. Nothing may be prepared. Of a qcow2 image what waits to be freed stays counted; the files of a VMDK image's
+    /// extents are dropped.
+    pub fn into_image(self) -> S
+        requires free { IsFree (⟦<ImageDriver<S> as Seen>⟧.layer self) }
+        ensures { S.state result ≡ ⟦<ImageDriver<S> as Seen>⟧.image self }
+    {
+        match self {
+            ImageDriver::Raw(raw) => raw.into_image(),
+            ImageDriver::Vmdk(vmdk) => vmdk.into_image(),
+            ImageDriver::Qcow2(qcow2) => qcow2.into_image(),
         }
     }
 }

@@ -3,14 +3,15 @@ ghost use Rattle.std.specs.Prelude.{◌≡◌, IsTrue};
 ghost use Rattle.imago_access.specs.Layer.{IsFree};
 ghost use Rattle.qimg_chain.specs.RunAnswers.{bytes_told_of, Answered, IsShort, KeepsSaved};
 ghost use Rattle.qimg_chain.specs.RunCalls.{asks_for_call};
+ghost use Rattle.qimg_chain.specs.ScriptRuns.{kept_of};
 
 use super::calls::{MOST_READ, call_of, make, told};
 use super::files::{check_top, read_plainly};
+use super::saved::Saved;
 use crate::chain::NamesFiles;
 use crate::script::{Answer, Bytes, Line};
 use imago_access::{FormatAccess, FormatDriverInstance};
 use imago_storage::{Fault, MemStorage};
-use qimg_calls::{Answer as CallAnswer, Call};
 use std::alloc::Global;
 
 /// The answer of a call that reads.
@@ -44,49 +45,52 @@ fn answer_call<D: FormatDriverInstance<Storage = MemStorage> + NamesFiles>(
     }
 }
 
-/// Flushes the chain, and keeps the bytes of the top file.
-fn save<D: FormatDriverInstance<Storage = MemStorage> + NamesFiles>(
+/// Makes the call that a line asks for, and answers it. What a `save` kept before stands apart then, and the bytes of the top file are kept
+/// where the line is one that is done.
+fn answer_apart<D: FormatDriverInstance<Storage = MemStorage> + NamesFiles>(
     alloc: Global,
     chain: &mut FormatAccess<D>,
-    saved: &mut Option<Vec<u8>>,
+    line: Line,
+    saved: &mut Saved,
 ) -> Answer
     requires free { IsFree (D.layer chain.old.0) }
+    requires asks { IsTrue (asks_for_call line) }
+    requires short { IsShort line }
     ensures free { IsFree (D.layer chain.new.0) }
-    ensures saves { Answered D.Seen D.names Line.Save result chain.old chain.new }
-    ensures kept { KeepsSaved Line.Save result (D.image chain.new.0).bytes saved.old saved.new }
+    ensures answered { Answered D.Seen D.names line result chain.old chain.new }
+    ensures kept { let was = kept_of (D.image chain.old.0).bytes saved.old in
+        KeepsSaved line result (D.image chain.new.0).bytes was (kept_of (D.image chain.new.0).bytes saved.new) }
 {
-    match make(alloc, chain, Call::Flush) {
-        Ok(CallAnswer::Done) => match chain.inner().image_file().bytes() {
-            Ok(bytes) => {
-                *saved = Some(bytes);
-                Answer::Done
-            }
-            Err(fault) => Answer::Refused(fault),
-        },
-        Ok(CallAnswer::Refused(fault)) => Answer::Refused(fault),
-        Ok(_) => unreachable!(),
-        Err(fault) => Answer::Refused(fault),
+    if let Err(fault) = saved.set_apart(chain) {
+        return Answer::Refused(fault);
     }
+    let saves = matches!(line, Line::Save);
+    let answer = answer_call(alloc, chain, line);
+    if saves && matches!(answer, Answer::Done) {
+        *saved = Saved::InFile;
+    }
+    answer
 }
 
-/// Does what a line asks for, and answers it. What a `save` keeps is put in the place of what was kept before.
+/// Does what a line asks for, and answers it. What a `save` keeps is put in the place of what was kept before. Its bytes are copied before
+/// the next line that makes a call, which is refused with `Fault::Memory` where there is no room for them.
 pub fn answer_line<D: FormatDriverInstance<Storage = MemStorage> + NamesFiles>(
     alloc: Global,
     chain: &mut FormatAccess<D>,
     line: Line,
-    saved: &mut Option<Vec<u8>>,
+    saved: &mut Saved,
 ) -> Answer
     requires free { IsFree (D.layer chain.old.0) }
     ensures free { IsFree (D.layer chain.new.0) }
     ensures answered { Answered D.Seen D.names line result chain.old chain.new }
-    ensures kept { KeepsSaved line result (D.image chain.new.0).bytes saved.old saved.new }
+    ensures kept { let was = kept_of (D.image chain.old.0).bytes saved.old in
+        KeepsSaved line result (D.image chain.new.0).bytes was (kept_of (D.image chain.new.0).bytes saved.new) }
 {
     match line {
         Line::Size => Answer::Number(chain.size()),
         Line::Check => check_top(alloc, chain),
         Line::Plain { offset, length } => told_bytes(read_plainly(alloc, chain, offset, length)),
-        Line::Save => save(alloc, chain, saved),
         Line::Read { length, .. } if length > MOST_READ => Answer::Refused(Fault::BadArgument),
-        line => answer_call(alloc, chain, line),
+        line => answer_apart(alloc, chain, line, saved),
     }
 }

@@ -1,11 +1,14 @@
 // A script that is run over files, from their opening as a chain on. The files are qemu's backing chain, and the file below is the backing
 // file of qemu and imago.
-ghost use Rattle.std.specs.Prelude.{IfOk, IfErr, Ok};
+ghost use Rattle.std.specs.Prelude.{◌≡◌, IfOk, IfErr, IsOkUnless, Ok};
+ghost use Rattle.imago_access.specs.Layer.{IsFree};
 ghost use Rattle.qimg_chain.specs.Headline.{NotRun, RunFrom, to_open};
+ghost use Rattle.qimg_chain.specs.ScriptRuns.{items_of, kept_of};
 
-use super::{RunFault, run};
+use super::saved::Saved;
+use super::{RunFault, run_lines};
 use crate::chain::{ImageDriver, NamesFiles, open_chain};
-use imago_access::Seen;
+use imago_access::{FormatAccess, Seen};
 use imago_storage::{Fault, MemStorage};
 use qimg_core::plain::ChainFile;
 use std::alloc::Global;
@@ -18,6 +21,26 @@ pub enum ScriptFault {
     Opening(Fault),
     /// The script ended early, as `run` says.
     Running(RunFault),
+}
+
+/// The bytes that were kept, of which those that the top file has are taken out of it. The chain is dropped, and nothing may be prepared in
+/// it. The only refusal is `RunFault::Memory`.
+fn take_kept(
+    saved: Saved,
+    chain: FormatAccess<ImageDriver<MemStorage>>,
+) -> Result<Option<Vec<u8>>, RunFault>
+    requires free { IsFree (⟦<ImageDriver<MemStorage> as Seen>⟧.layer chain.0) }
+    ensures ok { IfOk result (λ bytes. items_of bytes ≡ kept_of (⟦<ImageDriver<MemStorage> as Seen>⟧.image chain.0).bytes saved) }
+    ensures err { IsOkUnless result RunFault.Memory }
+{
+    match saved {
+        Saved::Nothing => Ok(None),
+        Saved::Apart(bytes) => Ok(Some(bytes)),
+        Saved::InFile => match chain.into_driver().into_image().into_bytes() {
+            Ok(bytes) => Ok(Some(bytes)),
+            Err(_) => Err(RunFault::Memory),
+        },
+    }
 }
 
 /// Opens files as a chain, the top first, and runs a script over it. It answers the bytes of the top file at the last `save` that was done,
@@ -38,7 +61,7 @@ pub fn run_files<R: BufRead + Drop, W: Write>(
 ) -> Result<Option<Vec<u8>>, ScriptFault>
     ensures headline { let what = to_open files.items writable number in let names = ⟦<ImageDriver<MemStorage> as NamesFiles>⟧.names in
         IfOk result (λ saved. RunFrom ⟦<ImageDriver<MemStorage> as Seen>⟧ names what
-        (R.remaining reader) (W.contents writer.old) (W.contents writer.new) (Ok saved)) }
+        (R.remaining reader) (W.contents writer.old) (W.contents writer.new) (Ok (items_of saved))) }
     ensures err { let what = to_open files.items writable number in let names = ⟦<ImageDriver<MemStorage> as NamesFiles>⟧.names in
         IfErr result (NotRun ⟦<ImageDriver<MemStorage> as Seen>⟧ names what
         (R.remaining reader) (W.contents writer.old) (W.contents writer.new)) }
@@ -47,8 +70,12 @@ pub fn run_files<R: BufRead + Drop, W: Write>(
         Ok(chain) => chain,
         Err(fault) => return Err(ScriptFault::Opening(fault)),
     };
-    match run(alloc, reader, writer, &mut chain) {
-        Ok(saved) => Ok(saved),
+    let saved = match run_lines(alloc, reader, writer, &mut chain) {
+        Ok(saved) => saved,
+        Err(fault) => return Err(ScriptFault::Running(fault)),
+    };
+    match take_kept(saved, chain) {
+        Ok(bytes) => Ok(bytes),
         Err(fault) => Err(ScriptFault::Running(fault)),
     }
 }

@@ -1,6 +1,5 @@
 use Rattle.std.proofs.Common.{List, [], ◌∷◌}
-use Rattle.std.specs.Prelude.{ℕ, IsTrue, Option, Result, Vec, map}
-use Rattle.std.specs.Global.{Global}
+use Rattle.std.specs.Prelude.{ℕ, IsTrue, Option, Result, map}
 use Rattle.imago_storage.specs.MemStorage.{mem_state}
 use Rattle.imago_storage.specs.State.{InStep}
 use Rattle.imago_storage.specs.declared.memory.MemStorage.{MemStorage}
@@ -20,7 +19,7 @@ use Rattle.qimg_chain.specs.ScriptRuns.{Scripted}
 use Rattle.qimg_chain.specs.declared.run.fault.RunFault.{RunFault}
 use Rattle.imago_storage.proofs.Failing.{mem_never}
 use Rattle.qimg_chain.proofs.Failing.{unopened}
-use Rattle.qimg_chain.proofs.ScriptRunLemmas.{append-none}
+use Rattle.qimg_chain.proofs.ScriptRunLemmas.{append-none, scripted-uncopied}
 use Rattle.qimg_chain.proofs.run.opened.run_files.Goals as goal
 
 -- a storage in memory tells no stops
@@ -33,7 +32,7 @@ in-step [] fit = fit
 in-step (file ∷ below) fit = λ tells keeps. absurd (silent file.image tells)
 
 -- the script is run over the chain just opened
-from-opening : {D St : Type 0} {g : Ghosts D St} {names : D → ℕ → List ℕ} {what : ToOpen} {input before after : Option (List ℕ)} {result : Result (Option (Vec ℕ Global)) RunFault}
+from-opening : {D St : Type 0} {g : Ghosts D St} {names : D → ℕ → List ℕ} {what : ToOpen} {input before after : Option (List ℕ)} {result : Result (Option (List ℕ)) RunFault}
     → (opened last : D × List D) → FormChain mem_state what.writable what.files → AreLayers g mem_state what.writable what.number what.files (chain opened) → AreInPlace (map g.layer (chain opened))
     → IsDiskOf (chain_disk g.layer opened) (files_bytes mem_state what.files) → Each (FindsByNames g names) (chain opened)
     → Scripted g names input before after result opened last
@@ -51,15 +50,22 @@ from-opening {what = what} opened last formed layers places means named scripted
   headline = λ fit. scripted.driven _ (ready fit) (stands (in-step what.files fit));
 }
 
-pub returns-in-Ok-run-clause-headline : goal.returns-in-Ok-run-clause-headline
-returns-in-Ok-run-clause-headline g c =
+pub returns-in-Ok-take_kept-clause-headline : goal.returns-in-Ok-take_kept-clause-headline
+returns-in-Ok-take_kept-clause-headline g c =
     let made = c.in-Ok.ensures in
-    from-opening c.in-Ok.chain c.run.new.chain made.formed made.layers made.places made.means made.named c.in-Ok-run.ensures.scripted made.ready made.stands
+    let ran = c.in-Ok-run_lines.ensures.scripted in
+    from-opening c.in-Ok.chain c.run_lines.new.chain made.formed made.layers made.places made.means made.named (rw c.in-Ok-take_kept.ensures.ok ran) made.ready made.stands
 
-pub returns-clause-err : goal.returns-clause-err
-returns-clause-err g c =
+pub returns-in-Err-run_lines-clause-err : goal.returns-in-Err-run_lines-clause-err
+returns-in-Err-run_lines-clause-err g c =
     let made = c.in-Ok.ensures in
-    from-opening c.in-Ok.chain c.run.new.chain made.formed made.layers made.places made.means made.named c.in-Err-run.ensures.scripted made.ready made.stands
+    from-opening c.in-Ok.chain c.run_lines.new.chain made.formed made.layers made.places made.means made.named c.in-Err-run_lines.ensures.scripted made.ready made.stands
+
+pub returns-in-Err-take_kept-clause-err : goal.returns-in-Err-take_kept-clause-err
+returns-in-Err-take_kept-clause-err g c =
+    let made = c.in-Ok.ensures in
+    from-opening c.in-Ok.chain c.run_lines.new.chain made.formed made.layers made.places made.means made.named
+    (rw c.in-Err-take_kept.ensures.err (scripted-uncopied c.in-Ok-run_lines.ensures.scripted)) made.ready made.stands
 
 pub returns-in-Err-clause-err : goal.returns-in-Err-clause-err
 returns-in-Err-clause-err g c =

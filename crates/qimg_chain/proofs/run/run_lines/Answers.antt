@@ -2,10 +2,10 @@ use Rattle.std.proofs.Common.{◌≡◌, ap, refl, arith}
 use Rattle.std.specs.Prelude.{Result, Ok, Err, IsErrAnd}
 use Rattle.std.specs.Io.Take.{take_remaining}
 use Rattle.qimg_chain.specs.declared.run.fault.RunFault.{RunFault}
-use Rattle.qimg_chain.specs.ScriptRuns.{reply, standing}
+use Rattle.qimg_chain.specs.ScriptRuns.{ending, kept_of, reply, standing}
 use Rattle.qimg_chain.proofs.ScriptBytes.{cut-reading, cut-telling, read-all, read-more, read-none}
 use Rattle.qimg_chain.proofs.ScriptRunLemmas.{all-written, last-untold, made-then, ran-none, ran-then, scripted, scripted-cut}
-use Rattle.qimg_chain.proofs.run.run.Goals as goal
+use Rattle.qimg_chain.proofs.run.run_lines.Goals as goal
 
 -- what is handed on is the fault that came
 handed-on : {T : Type 0} (result : Result T RunFault) (fault : RunFault) → IsErrAnd result (λ e. e ≡ fault) → result ≡ Err fault
@@ -26,33 +26,34 @@ loop-init g c =
 pub loop-preserved : goal.loop-preserved
 loop-preserved g c = (
   c.answer_to-answer.ensures.free,
-  ran-then (take_remaining g.R.Read.remaining c.next_line.new.input) (g.W.Write.contents c.tell.new.writer) c.next_line.new.room (standing c.answer_to-answer.new.chain c.answer_to-answer.new.saved)
+  ran-then (take_remaining g.R.Read.remaining c.next_line.new.input) (g.W.Write.contents c.tell.new.writer) c.next_line.new.room (standing c.answer_to-answer.new.chain (kept_of (g.D.Seen.image c.answer_to-answer.new.chain.0).bytes c.answer_to-answer.new.saved))
       (reply c.in-Some.text.now c.answer_to-answer.ensures.replied.0 c.answer_to-answer.result) c.next_line.new.line.items c.in-Some.field-0-1.now c.loop.invariant.1 c.in_ok-next_line.ensures.line c.in_ok-next_line.ensures.rest
       c.in_ok-next_line.ensures.room (rw (c.deref.ensures.value) at c.in-Some.ensures.lines) c.answer_to-answer.ensures.replied.1 c.in_ok-tell.ensures.ok,
 )
 
 pub returns-in_err-next_line-clause-scripted : goal.returns-in_err-next_line-clause-scripted
 returns-in_err-next_line-clause-scripted g c =
-    scripted-cut (g.W.Write.contents c.args.writer.now) (g.W.Write.contents c.loop.writer) c.from_residual.result _ c.loop.invariant.1.made (cut-reading _ _ c.in_err-next_line.ensures.err (omega arith))
-    (handed-on c.from_residual.result _ c.from_residual.ensures.1) (all-written _ _ _ _ c.loop.invariant.1.written)
+    scripted-cut (g.W.Write.contents c.args.writer.now) (g.W.Write.contents c.loop.writer) (ending (kept_of (g.D.Seen.image c.loop.chain.0).bytes) c.from_residual.result) _ c.loop.invariant.1.made (cut-reading _ _ c.in_err-next_line.ensures.err (omega arith))
+    (ap (ending (kept_of (g.D.Seen.image c.loop.chain.0).bytes)) (handed-on c.from_residual.result _ c.from_residual.ensures.1)) (all-written _ _ _ _ c.loop.invariant.1.written)
 
 pub returns-in_err-next_line-2-clause-scripted : goal.returns-in_err-next_line-2-clause-scripted
 returns-in_err-next_line-2-clause-scripted g c =
-    scripted-cut (g.W.Write.contents c.args.writer.now) (g.W.Write.contents c.loop.writer) c.from_residual-in_err-next_line-2.result _ c.loop.invariant.1.made (cut-reading _ _ c.in_err-next_line-2.ensures.err (omega arith))
-    (handed-on c.from_residual-in_err-next_line-2.result _ c.from_residual-in_err-next_line-2.ensures.1) (all-written _ _ _ _ c.loop.invariant.1.written)
+    scripted-cut (g.W.Write.contents c.args.writer.now) (g.W.Write.contents c.loop.writer) (ending (kept_of (g.D.Seen.image c.loop.chain.0).bytes) c.from_residual-in_err-next_line-2.result) _ c.loop.invariant.1.made (cut-reading _ _ c.in_err-next_line-2.ensures.err (omega arith))
+    (ap (ending (kept_of (g.D.Seen.image c.loop.chain.0).bytes)) (handed-on c.from_residual-in_err-next_line-2.result _ c.from_residual-in_err-next_line-2.ensures.1)) (all-written _ _ _ _ c.loop.invariant.1.written)
 
 pub returns-in_default-clause-scripted : goal.returns-in_default-clause-scripted
 returns-in_default-clause-scripted g c = scripted c.loop.invariant.1 (omega arith)
-    (λ texts read. read-all (g.R.Read.remaining c.args.reader) (take_remaining g.R.Read.remaining c.loop.input) c.loop.room texts c.next_line.new.line.items c.loop.saved read c.in_ok-next_line.ensures.line
+    (λ texts read. read-all (g.R.Read.remaining c.args.reader) (take_remaining g.R.Read.remaining c.loop.input) c.loop.room texts c.next_line.new.line.items (kept_of (g.D.Seen.image c.loop.chain.0).bytes c.loop.saved) read c.in_ok-next_line.ensures.line
     (rw (c.deref.ensures.value) at c.in_default.ensures.lines)) refl
 
 pub returns-in_err-tell-clause-scripted : goal.returns-in_err-tell-clause-scripted
 unfolding made-then
 returns-in_err-tell-clause-scripted g c =
-    let result = c.from_residual-in_err-tell.result in
-    let failed = handed-on result c.in_err-tell.field-0.0 c.from_residual-in_err-tell.ensures.1 in
+    let kept = kept_of (g.D.Seen.image c.answer_to-answer.new.chain.0).bytes in
+    let result = ending kept c.from_residual-in_err-tell.result in
+    let failed = ap (ending kept) (handed-on c.from_residual-in_err-tell.result c.in_err-tell.field-0.0 c.from_residual-in_err-tell.ensures.1) in
     scripted-cut (g.W.Write.contents c.args.writer.now) (g.W.Write.contents c.tell.new.writer) result c.in_err-tell.field-0.0
-    (made-then (take_remaining g.R.Read.remaining c.next_line.new.input) c.next_line.new.room (standing c.answer_to-answer.new.chain c.answer_to-answer.new.saved)
+    (made-then (take_remaining g.R.Read.remaining c.next_line.new.input) c.next_line.new.room (standing c.answer_to-answer.new.chain (kept_of (g.D.Seen.image c.answer_to-answer.new.chain.0).bytes c.answer_to-answer.new.saved))
     (reply c.in-Some.text.now c.answer_to-answer.ensures.replied.0 c.answer_to-answer.result) c.next_line.new.line.items c.in-Some.field-0-1.now c.loop.invariant.1.made c.in_ok-next_line.ensures.line c.in_ok-next_line.ensures.rest
     c.in_ok-next_line.ensures.room (rw (c.deref.ensures.value) at c.in-Some.ensures.lines) c.answer_to-answer.ensures.replied.1)
     (cut-telling c.in_err-tell.field-0.0 _ c.in_err-tell.ensures.err (omega arith) (omega arith)) failed
@@ -65,5 +66,5 @@ returns-in-Some-split_line-clause-scripted g c = scripted c.loop.invariant.1 (om
 
 pub returns-clause-scripted : goal.returns-clause-scripted
 returns-clause-scripted g c = scripted c.loop.invariant.1 (omega arith)
-    (λ texts read. read-all (g.R.Read.remaining c.args.reader) (take_remaining g.R.Read.remaining c.loop.input) c.loop.room texts c.next_line-2.new.line.items c.loop.saved read c.in_ok-next_line-2.ensures.line
+    (λ texts read. read-all (g.R.Read.remaining c.args.reader) (take_remaining g.R.Read.remaining c.loop.input) c.loop.room texts c.next_line-2.new.line.items (kept_of (g.D.Seen.image c.loop.chain.0).bytes c.loop.saved) read c.in_ok-next_line-2.ensures.line
     (rw (c.deref-2.ensures.value) at c.in-None.ensures.lines)) refl

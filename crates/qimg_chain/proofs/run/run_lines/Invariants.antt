@@ -1,8 +1,8 @@
 use Rattle.std.specs.Io.Take.{take_remaining}
 use Rattle.imago_access.specs.Layer.{IsFree}
-use Rattle.qimg_chain.specs.ScriptRuns.{standing}
+use Rattle.qimg_chain.specs.ScriptRuns.{kept_of, standing}
 use Rattle.qimg_chain.proofs.ScriptRunLemmas.{RanSoFar}
-use Rattle.qimg_chain.proofs.run.run.Given as goal
+use Rattle.qimg_chain.proofs.run.run_lines.Given as goal
 
 -- Nothing is prepared between two lines; each line so far is read, made and answered.
 abbrev pub invariant-loop : goal.invariant-loop
@@ -13,4 +13,4 @@ invariant-loop g l = IsFree (g.D.Seen.layer l.chain.0)
       room = l.room;
       before = g.W.Write.contents l.fn.writer;
       after = g.W.Write.contents l.writer;
-    }) l.counter l.fn.chain (standing l.chain l.saved)
+    }) l.counter l.fn.chain (standing l.chain (kept_of (g.D.Seen.image l.chain.0).bytes l.saved))
