@@ -97,13 +97,6 @@ through_longer unit a b at xs through = elim (cases_eq (length xs) 0) [
   | inr some ↦ omega (arith, through.size (omega arith))
 ]
 
--- the stops of a call that makes one request where it succeeds, and none where it is refused
-pub request_stops : {T : Type 0} (P : List ℕ → Type 0) (old new : StorageState) (result : Result T Fault) → new.shape ≡ old.shape → RequestsOne old new result
-    → OnOk result (InStep old → InStep new) → OnOk result (IsTrue old.shape.keeps → P new.bytes) → Stops P old new
-request_stops P old new (Ok x) shape once in_step holds =
-    one_stop P old new once (λ same tells keeps. subst P (sym (in_step same (tells_on old new shape tells) (keeps_on old new shape keeps))) (holds keeps))
-request_stops P old new (Err fault) shape once in_step holds = no_stops P old new once.0 once.1
-
 -- Counts.
 
 -- a state that stays is a later one
@@ -130,19 +123,6 @@ pub cause_later : (before after : ℕ) (fault : Fault) → Cause before after fa
 cause_later before after Memory cause = omega (arith, cause)
 cause_later before after Storage cause = cause.kept
 cause_later before after _ cause = absurd cause
-
--- the same, whatever the answer
-pub counts_later : {T : Type 0} (before after : ℕ) (result : Result T Fault) → CountsFaults before after result → before ≤ after
-counts_later before after (Ok x) counts = omega (arith, counts)
-counts_later before after (Err fault) counts = cause_later before after fault counts
-
--- a storage whose count of faults stays at 0 doesn't answer `Storage`
-pub no_fault : {T : Type 0} (result : Result T Fault) → CountsFaults 0 0 result → IsErrOf result Storage → ⊥
-no_fault (Ok x) counts storage = absurd (cc storage)
-no_fault (Err fault) counts storage =
-    let is : fault ≡ Storage = cc storage in
-    let rose : Rose 0 0 = subst (Cause 0 0) is counts in
-    absurd (omega (arith, rose.rose (omega arith)))
 
 -- Refusals.
 
@@ -236,15 +216,6 @@ spliced_at old at bytes new spliced p = elim (cases_lt p at) [
     | inr past ↦ let same = spliced.after p past in grind (arith, nat_tests)
   ]
 ]
-
--- a file after a splice, as a function of its places
-pub spliced_function : (old : List ℕ) (at : ℕ) (bytes new : List ℕ) → Spliced old at bytes new
-    → ◌≡◌ {A = ℕ → ℕ} (λ p. slice_index new p) (λ p. if nat_le at p && nat_lt p (at + length bytes) then slice_index bytes (p - at) else slice_index old p)
-spliced_function old at bytes new spliced = fun_ext (spliced_at old at bytes new spliced)
-
--- files with equal bytes are one function
-pub bytes_function : (old new : List ℕ) → new ≡ old → ◌≡◌ {A = ℕ → ℕ} (λ p. slice_index new p) (λ p. slice_index old p)
-bytes_function old new same = λ i p. slice_index (same i) p
 
 -- A storage in memory.
 

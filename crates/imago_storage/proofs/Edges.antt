@@ -143,13 +143,6 @@ module _ (unit at h m t f l : ℕ) (positive : 0 < unit) (some : 0 < h + m + t) 
       let tail : t ≡ 0 = omega (arith, head, all) in
       (is-first.none head, (is-last.none tail, omega (arith, head, tail)))
 
-  -- one part is written by one request
-  pub one-edge : IsOnePart h m t → IsOnePart f m l
-  one-edge one = ⊎_elim
-      (λ (a, b). inl (is-first.none a, b))
-      (λ rest. inr (⊎_elim (λ (a, c). inl (is-first.none a, is-last.none c)) (λ (b, c). inr (b, is-last.none c)) rest))
-      one
-
 -- what is written, byte by byte
 module _ (unit : ℕ) (bytes : List ℕ) (at : ℕ) (head mid tail first last : List ℕ) (positive : 0 < unit) (some : 0 < length head + length mid + length tail)
     (parts : Parts unit at (length head + length mid + length tail) (length head) (length mid)) (is-first : IsEdge unit (length head) (length first)) (is-last : IsEdge unit (length tail) (length last)) where

@@ -51,17 +51,6 @@ module _ (unit : ℕ) (positive : 0 < unit) (a b c : StorageState) (at : ℕ) (x
         as_long = as_long_both a b c first.shape first.in_step (through_longer unit a b at xs first) first.as_long second.as_long;
       }
 
-  pub one_both : OneRequest unit a b at xs → OneRequest unit b c (at + length xs) ys → (length xs ≡ 0) ⊎ (length ys ≡ 0) → OneRequest unit a c at (xs ++ ys)
-  one_both first second one =
-      let long = both in
-      record {
-        through = through_both first.through second.through;
-        mark = λ some tells. ⊎_elim
-            (λ none. second.mark (omega arith) (tells_on a b first.through.shape tells) ∙ ap (λ (s : StorageState). s.stop ∷ s.past) (first.through.nothing none))
-            (λ none. ap (λ (s : StorageState). s.past) (second.through.nothing none) ∙ first.mark (omega arith) tells)
-            one;
-      }
-
   -- refused in the second part
   pub not_behind : (fault : Fault) → Through unit a b at xs → Halted unit b c (at + length xs) ys fault → Halted unit a c at (xs ++ ys) fault
   not_behind fault first second =
@@ -117,9 +106,6 @@ module _ (unit : ℕ) (positive : 0 < unit) (a b : StorageState) (at : ℕ) (xs 
             record { files = told.files; told = told.told; each = All-weaker (Mixed a.bytes at xs) (Mixed a.bytes at (xs ++ ys)) (λ f mixed. mixed_longer at xs ys a.bytes f mixed) told.files told.each };
         as_long = first.as_long;
       }
-
-  pub none_longer : NoRequest unit a b at xs fault → NoRequest unit a b at (xs ++ ys) fault
-  none_longer first = record { some = omega (arith, length-append xs ys, first.some); halted = not_longer first.halted; stop = first.stop; past = first.past }
 
 -- three parts
 module _ (unit : ℕ) (positive : 0 < unit) (a b c d : StorageState) (at : ℕ) (head mid tail : List ℕ) where

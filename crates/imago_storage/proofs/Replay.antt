@@ -109,14 +109,6 @@ module _ (base : List ℕ) (requests : List Request) (n : ℕ) (s s' : StorageSt
     past = refl;
   }
 
-  pub log_not_written : (at : ℕ) (bytes : List ℕ) (fault : Fault) → NotWritten s s' at bytes fault → NotWritten (logged base requests n s) (logged base requests n s') at bytes fault
-  log_not_written at bytes fault refused = record {
-    refused = log_refused fault refused.refused;
-    content = refused.content;
-    no_shorter = refused.no_shorter;
-    no_longer = refused.no_longer;
-  }
-
 -- the same, for what a call of the log knows
 module _ (base base' : List ℕ) (requests after : List Request) (n n' : ℕ) (s s0 s' : StorageState) (request : Request) (same_base : base' ≡ base) (same_n : n' ≡ n) (same : s0 ≡ s) (pushed : after ≡ requests ++ request ∷ []) where
   pub wrote : (at : ℕ) (bytes : List ℕ) → ((file : List ℕ) → apply request file ≡ splice file at bytes) → Written s0 s' at bytes → Written (logged base requests n s) (logged base' after n' s') at bytes

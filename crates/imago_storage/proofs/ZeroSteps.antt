@@ -89,9 +89,6 @@ never-unsupported Allocated a b P fault cause refused = refused
 pub halted-left : (zeroing : Zeroing) (unit : ℕ) (a b : StorageState) (at : ℕ) (bytes : List ℕ) (fault : Fault) → Halted unit a b at bytes fault → UnlessLeft zeroing a b (Halted unit a b at bytes) fault
 halted-left zeroing unit a b at bytes fault refused = never-unsupported zeroing a b (Halted unit a b at bytes) fault (λ (h : Halted unit a b at bytes Unsupported). h.cause) refused
 
-pub not-left : (zeroing : Zeroing) (unit : ℕ) (a b : StorageState) (at : ℕ) (bytes : List ℕ) (fault : Fault) → NotThrough unit a b at bytes fault → UnlessLeft zeroing a b (NotThrough unit a b at bytes) fault
-not-left zeroing unit a b at bytes fault refused = never-unsupported zeroing a b (NotThrough unit a b at bytes) fault (λ (h : NotThrough unit a b at bytes Unsupported). h.cause) refused
-
 -- the same refusal of a longer range
 pub left-longer : (zeroing : Zeroing) (a b : StorageState) (P Q : Fault → Type 0) → ((fault : Fault) → P fault → Q fault) → (fault : Fault) → UnlessLeft zeroing a b P fault → UnlessLeft zeroing a b Q fault
 left-longer Any a b P Q weaker fault refused = weaker fault refused
@@ -200,10 +197,3 @@ once-one old new n (Err fault) one = one
 pub not-overflowed : (a b : StorageState) (at : ℕ) (bytes : List ℕ) (fault : Fault) → NotThrough (unit_of a.shape) a b at bytes fault → NotWrittenThrough a b at bytes fault
 not-overflowed a b at bytes RangeOverflow refused = absurd refused.cause
 not-overflowed a b at bytes fault refused = refused
-
--- a refused zeroing, as its callers see it
-pub zeroed-by : (zeroing : Zeroing) (a b : StorageState) (at n : ℕ) → HasWhole (max (unit_of a.shape) a.shape.zero_align) at n → (fault : Fault) → UnlessLeft zeroing a b (NotThrough (unit_of a.shape) a b at (replicate n 0)) fault → NotZeroedBy zeroing a b at n fault
-zeroed-by Any a b at n has fault refused = not-overflowed a b at (replicate n 0) fault refused
-zeroed-by Allocated a b at n has Unsupported left = (has, left)
-zeroed-by Allocated a b at n has RangeOverflow refused = absurd refused.cause
-zeroed-by Allocated a b at n has fault refused = refused

@@ -1,5 +1,4 @@
 -- What the places of a disk show.
 pub mod ShownLemmas
 pub mod Shows
-pub mod StepValues
 pub mod Values

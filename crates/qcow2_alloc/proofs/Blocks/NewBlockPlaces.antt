@@ -120,12 +120,6 @@ module _ {S : Type 0} (state : S → StorageState) (mark index : ℕ) (s : Image
       let held = (made.quiet order).holds keeps sound tt in
       counted-more Old New index d sound held.0 made.header refl held.1 some (let long = sound.table.long in omega (arith, inside, long)) empty named made.others
 
-  uncounted-before : (d : ℕ) → ((c : ℕ) → counted New c ≡ counted Old c + one_at d c) → counted Old d ≡ 0
-  uncounted-before d raised =
-      let up = raised d in
-      let own = here-one d in
-      elim (made.raised order keeps sound tt d) [ inl same ↦ absurd (omega (arith, same, up, own)) | inr both ↦ both.0 ]
-
   -- in a free cluster that another block counts,
   pub placed-counted : (place : ℕ) (mid : MetadataCaches S) (between : ImageFile S) → LooksForFree state s.table mark (index * k) (cached_file s.caches s.file) (Ok (Some place)) (cached_file mid between) → place ≢ 0
       → block_offset (slice_index table'.words index) ≡ place * cluster_size s.file.header.fields → IsBlockPlaced mark index Old New

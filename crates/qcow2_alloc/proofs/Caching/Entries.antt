@@ -45,9 +45,6 @@ module _ {K V : Type 0} (test : K → Bool) where
   hit_missed es h w = rw (missed test es h) refl
 
 module _ {K X : Type 0} (test : K → Bool) where
-  remove_here : (e : K × X) (es : List (K × X)) (w : X) → test e.0 ≡ true → remove_entry test (set_value test (e ∷ es) w) ≡ remove_entry test (e ∷ es)
-  remove_here e es w t = rw (t, t) refl
-
   pub remove_written : (es : List (K × X)) (w : X) → remove_entry test (set_value test es w) ≡ remove_entry test es
   remove_written [] w = refl
   remove_written (e ∷ es) w = elim (cases_Bool (test e.0)) [

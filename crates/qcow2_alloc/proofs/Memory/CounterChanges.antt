@@ -327,17 +327,6 @@ module _ (f : Bytes) (H : Header) (cached : Cached) (order : CacheDependency) (k
       rw (cached-count, sym (ap (λ (b : Block). slice_index b.counters (c % counters_of_block H.fields)) found.2))
       (subst (λ o. slice_index found.0.value.counters (c % counters_of_block H.fields) < 2 ^ 2 ^ o) is.order (is.fit (c % counters_of_block H.fields)))
 
--- Several counters may be set in one use: a step from the block so far is one from what is cached with that.
-pub sets-next : (f : Bytes) (h : Fields) (cached between cached' : Cached) (key c n : ℕ) (first now : Block) → CachesBlock f h cached key c first
-    → between.blocks ≡ hit (nat_eq key) cached.blocks now → between.tables ≡ cached.tables → cached'.blocks ≡ hit (nat_eq key) cached.blocks (with_counter now (c % counters_of_block h) n) → cached'.tables ≡ cached.tables
-    → SetsCounter f h between key c n cached'
-sets-next f h cached between cached' key c n first now caches blocks tables blocks' tables' = record {
-  block = now;
-  caches = record { there = rw blocks (lookup-hit key cached.blocks first caches.there now); counts = caches.counts; some = caches.some };
-  blocks = rw blocks (blocks' ∙ sym (hit-again key cached.blocks first caches.there now (with_counter now (c % counters_of_block h) n)));
-  tables = tables' ∙ sym tables;
-}
-
 -- The counter is set there.
 module _ (f : Bytes) (H : Header) (cached cached' : Cached) (order : CacheDependency) (key c n : ℕ) (safe : Safe f H cached order) (sets : SetsCounter f H.fields cached key c n cached') where
   abbrev s : Slot Block

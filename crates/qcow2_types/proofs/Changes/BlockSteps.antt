@@ -252,14 +252,3 @@ counter-raised f H was c order there none =
 be-of-two : (bytes : List ℕ) → be (bytes_of bytes) 0 2 ≡ from_be_bytes w16 bytes
 unfolding be
 be-of-two bytes = omega arith
-
--- A counter of 16 bits is set to a number that covers what names its cluster.
-pub counter-set-16 : (f : Bytes) (H : Header) → IsConsistent f H → (c number : ℕ) → H.fields.refcount_order ≡ 4 → block_at f H.fields (c / counters_of_block H.fields) ≢ 0 → number < 2 ^ 16 → refs f H.fields c ≤ number
-    → CounterWritten f (splice f (block_at f H.fields (c / counters_of_block H.fields) + c % counters_of_block H.fields * 2) (to_be_bytes w16 number)) H c number
-counter-set-16 f H was c number order there fits covered =
-    let width : counter_bits H.fields ≡ 16 = ap (λ o. 2 ^ o) order in
-    let bytes : counter_bits H.fields / 8 ≡ 2 = ap (λ o. 2 ^ o / 8) order in
-    let spelled : be (bytes_of (to_be_bytes w16 number)) 0 2 ≡ number = be-of-two (to_be_bytes w16 number) ∙ from_be_bytes-to_be_bytes_2 number fits in
-    subst (λ n. CounterWritten f (splice f (block_at f H.fields (c / counters_of_block H.fields) + c % counters_of_block H.fields * n) (to_be_bytes w16 number)) H c number) bytes
-    (subst (λ n. CounterWritten f (splice f (block_at f H.fields (c / counters_of_block H.fields) + c % counters_of_block H.fields * (counter_bits H.fields / 8)) (to_be_bytes w16 number)) H c n) spelled
-    (counter-set f H was c there (to_be_bytes w16 number) (omega arith) (sym bytes) (omega arith)))

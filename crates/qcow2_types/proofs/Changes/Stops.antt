@@ -82,10 +82,6 @@ module _ (f g : Bytes) (h : Fields) (i : ℕ) (bytes : List ℕ) (shaped : Shape
   pub write-after-blocks : BlocksFirst f g h → ((c : ℕ) → count g h c ≡ count f h c) → BlocksFirst (splice f (l2_table f h i) bytes) g h
   write-after-blocks safe clean = table-after-blocks f _ g h safe clean write-between write-counts
 
-  -- under the second order
-  pub write-before-blocks : TablesFirst f g h → TablesFirst (splice f (l2_table f h i) bytes) g h
-  write-before-blocks safe = table-before-blocks f _ g h safe write-between write-counts
-
 -- what is named as copied in one version is among both
 one-copied : (h : Fields) (w : Weight) (m n x : Mapping) → (x ≡ m) ⊎ (x ≡ n) → of_copied h w x ≤ max (of_copied h w m) (of_copied h w n)
 one-copied h w m n x (inl e) = rw e (le-max_left _ _)

@@ -22,11 +22,3 @@ module _ (f g x : Bytes) (h : Fields) (c at n : ℕ) (apart : NamedApart f g h) 
       let le : of_either h (meets h c) (slot f h i j) (slot g h i j) ≤ over_slots (l2_table f h) h (λ k m. of_either h (meets h c) (slot f h k m) (slot g h k m)) =
       slot-le (l2_table f h) h (λ k m. of_either h (meets h c) (slot f h k m) (slot g h k m)) i j live in
       omega arith
-
-  -- a cluster that the file's word names keeps its bytes
-  pub file-data-kept : (d : ℕ) (copied : Bool) → slot f h i j ≡ data_at d copied → Same f x (d * cluster_size h) (cluster_size h)
-  file-data-kept d copied e = let none : of_mapping h (meets h c) (slot f h i j) ≡ 0 = omega (arith, unnamed) in data-apart f x h c at n out low high (slot f h i j) none d copied e
-
-  -- and one that the word to be written names
-  pub cached-data-kept : (d : ℕ) (copied : Bool) → slot g h i j ≡ data_at d copied → Same f x (d * cluster_size h) (cluster_size h)
-  cached-data-kept d copied e = let none : of_mapping h (meets h c) (slot g h i j) ≡ 0 = omega (arith, unnamed) in data-apart f x h c at n out low high (slot g h i j) none d copied e

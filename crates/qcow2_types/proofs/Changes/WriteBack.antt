@@ -76,12 +76,3 @@ module _ (f g : Bytes) (H : Header) (i : ℕ) (bytes : List ℕ) (was : IsConsis
       header-same true f (splice f (l2_table f H.fields i) bytes) H was.readable.loads
       (subst (λ h. Same f (splice f (l2_table f H.fields i) bytes) 0 (cluster_size h)) fields start)
       (subst (λ h. 104 ≤ cluster_size h) fields (omega arith))
-
-  -- under the order in which blocks come first, where none is modified
-  pub write-back-consistent : BlocksFirst f g H.fields → ((c : ℕ) → count g H.fields c ≡ count f H.fields c) → NamedApart f g H.fields
-      → ((k m : ℕ) → Live (l2_table f H.fields) H.fields k m → IsFalse (is_damaged (slot g H.fields k m))) → IsConsistent (splice f (l2_table f H.fields i) bytes) H
-  write-back-consistent safe clean apart undamaged =
-      let after : BlocksFirst (splice f (l2_table f H.fields i) bytes) g H.fields = write-after-blocks f g H.fields i bytes shaped lt there all cached once places safe clean in
-      stop-consistent f (splice f (l2_table f H.fields i) bytes) g H was loads-still
-      record { l1 = λ k less. kept.l1 k less (λ e. cc); blocks = λ k less. kept.blocks k less (λ e. cc) }
-      (write-between f g H.fields i bytes shaped lt there all cached once places) undamaged apart after.file

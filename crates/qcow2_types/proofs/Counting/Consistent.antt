@@ -96,10 +96,6 @@ module _ (f : Bytes) (H : Header) (was : IsConsistent f H) where
       let test : nat_lt (count f H.fields c) (refs f H.fields c) ≡ false = was.counted c in
       grind (arith, nat_tests)
 
-  -- so nothing names a cluster that isn't counted
-  pub uncounted-unnamed : (c : ℕ) → count f H.fields c ≡ 0 → refs f H.fields c ≡ 0
-  uncounted-unnamed c none = let le : refs f H.fields c ≤ count f H.fields c = named-counted c in omega arith
-
 -- An image is consistent where this holds of each cluster.
 pub consistent-from : (g : Bytes) (H : Header) → header_of true g ≡ Ok H → H.fields.snapshots ≡ 0 → IsFalse (has_external_data H.fields) → SoundWords g H.fields
     → ((c : ℕ) → 0 < structure g H.fields (meets H.fields c) → refs g H.fields c ≤ 1)

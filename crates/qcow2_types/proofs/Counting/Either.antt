@@ -94,18 +94,6 @@ refs-change f g g' h i j c places places' step =
     slots-change (l2_table f h) h _ _ i j step.live (λ k m live apart. ap (of_mapping h (meets h c)) (step.others k m live apart)) in
     omega arith
 
--- N grows by what the new word names at most, and not where the old word or the file's named it
-pub named-grows : (f g g' : Bytes) (h : Fields) (i j c : ℕ) → ChangesSlot f g g' h i j → named f g' h c ≤ named f g h c + of_mapping h (meets h c) (slot g' h i j)
-named-grows f g g' h i j c step =
-    let e : named f g' h c + of_either h (meets h c) (slot f h i j) (slot g h i j) ≡ named f g h c + of_either h (meets h c) (slot f h i j) (slot g' h i j) = named-change f g g' h i j c step in
-    omega arith
-
--- a word that names no more leaves the number
-pub named-stays : (f g g' : Bytes) (h : Fields) (i j c : ℕ) → ChangesSlot f g g' h i j → of_mapping h (meets h c) (slot g' h i j) ≤ of_either h (meets h c) (slot f h i j) (slot g h i j) → named f g' h c ≤ named f g h c
-named-stays f g g' h i j c step less =
-    let e : named f g' h c + of_either h (meets h c) (slot f h i j) (slot g h i j) ≡ named f g h c + of_either h (meets h c) (slot f h i j) (slot g' h i j) = named-change f g g' h i j c step in
-    omega arith
-
 -- A table is written: under the first order no block is modified then.
 pub table-after-blocks : (f x g : Bytes) (h : Fields) → BlocksFirst f g h → ((c : ℕ) → count g h c ≡ count f h c) → IsBetween f x g h → ((c : ℕ) → count x h c ≡ count f h c) → BlocksFirst x g h
 table-after-blocks f x g h safe clean between counts = record {

@@ -145,18 +145,3 @@ refs-limit f h c few far entries l1 table clusters sound =
     let s : structure f h (meets h c) ≡ 0 = structure-apart f h c few far entries l1 table clusters (blocks-near f h sound) in
     let t : contents f h (of_mapping h (meets h c)) ≡ 0 = contents-apart f h c few far in
     omega arith
-
--- By a header that loads.
-pub refs-within : (writing : Bool) (f : Bytes) (H : Header) → header_of writing f ≡ Ok H → refcount_table_sound f H.fields ≡ true → (c : ℕ) → 2 ^ 57 ≤ c * cluster_size H.fields → refs f H.fields c ≡ 0
-refs-within writing f H loads sound c far =
-    let shaped : Shaped H.fields = fields-shaped writing f H loads in
-    let limited : Limited H.fields = header-limited writing f H loads in
-    let size : 2 ^ 9 ≤ 2 ^ H.fields.cluster_bits = pow-le-pow_right (omega arith) shaped.low in
-    let words : 2 ^ H.fields.cluster_bits / 8 * 8 ≡ 2 ^ H.fields.cluster_bits = whole H.fields.cluster_bits (omega arith) in
-    let entries : H.fields.refcount_table_clusters * (2 ^ H.fields.cluster_bits / 8) ≤ 2 ^ 20 = limited.refcount_entries in
-    let bytes : H.fields.refcount_table_clusters * (2 ^ H.fields.cluster_bits / 8 * 8) ≤ 2 ^ 23 = omega arith in
-    refs-limit f H.fields c shaped.high far limited.l1_entries (place-near H.fields.cluster_bits H.fields.l1_offset limited.l1_place)
-    (place-near H.fields.cluster_bits H.fields.refcount_table_offset limited.refcount_place) (rw words at bytes) sound
-  where
-    place-near : (bits offset : ℕ) → is_place bits offset ≡ true → offset ≤ max_offset
-    place-near bits offset place = grind (arith, nat_tests)

@@ -11,10 +11,6 @@ use Rattle.qcow2_types.specs.Counts.{block_at}
 use Rattle.qcow2_types.specs.References.{Weight, of_cluster, structure, of_table, contents, of_mapping, of_copied, meets, refs}
 use Rattle.qcow2_types.proofs.Numbers.Sums.{sum-mono}
 
--- the one weighs no range more than the other
-pub NoGreater : Weight → Weight → Type 0
-NoGreater w v = (a l : ℕ) → w a l ≤ v a l
-
 -- 1 where the range goes past this place, else 0
 unfoldable pub past : ℕ → Weight
 past end first length = if nat_lt end (first + length) then 1 else 0

@@ -15,10 +15,3 @@ sectors_fit w first cluster_bits few =
     let most : 2 ^ (cluster_bits - 8) ≤ 2 ^ 13 = pow-le-pow_right (omega arith) less in
     let here : w / 2 ^ first % 2 ^ (cluster_bits - 8) < 2 ^ (cluster_bits - 8) = mod_below (w / 2 ^ first) (2 ^ (cluster_bits - 8)) (pow_pos (cluster_bits - 8)) in
     omega arith
-
--- a cluster is no larger than the largest
-pub cluster_small : (k : ℕ) → k ≤ 21 → 1 * 2 ^ k % 2 ^ 64 ≤ 2 ^ 21
-cluster_small k few =
-    let whole : (1 * 2 ^ k) % 2 ^ 64 ≡ 2 ^ k = one_shl k 64 (omega arith) in
-    let most : 2 ^ k ≤ 2 ^ 21 = pow-le-pow_right (omega arith) few in
-    omega arith

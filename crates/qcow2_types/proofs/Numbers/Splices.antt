@@ -100,14 +100,6 @@ module _ (file bytes : List ℕ) (i : ℕ) (within : i ≤ length file) where
     ]
   ]
 
-  -- so everything that is defined over the bytes is the same of both
-  pub splice-file : bytes_of (take i file ++ bytes ++ drop (i + length bytes) file) ≡ splice (bytes_of file) i bytes
-  splice-file = fun_ext splice-list
-
--- bytes of 0 at the end mean nothing
-pub zeroes-behind : (file : List ℕ) (n : ℕ) → bytes_of (file ++ replicate n 0) ≡ bytes_of file
-zeroes-behind file n = fun_ext (λ p. grind (arith, common_steps))
-
 -- the number that zeroes spell
 pub be-zeroes : (f : Bytes) (i n : ℕ) → ((k : ℕ) → k < n → f (i + k) ≡ 0) → be f i n ≡ 0
 unfolding be

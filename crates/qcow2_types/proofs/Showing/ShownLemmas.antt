@@ -39,11 +39,6 @@ module _ (f g external : Bytes) (H : Header) (loads : header_of false f ≡ Ok H
   pub disk-value-same : (p : ℕ) → ShowsAs g f H.fields (p / cluster_size H.fields) → at (qcow2 g external ∷ []) p ≡ at (qcow2 f external ∷ []) p
   disk-value-same p like = disk-value g external H loads' p ∙ (value-same g f external H.fields p (byte 0) like ∙ sym (disk-value f external H loads p))
 
-  -- above other layers too
-  pub chain-value-same : (rest : List Layer) (p : ℕ) → ShowsAs g f H.fields (p / cluster_size H.fields) → at (qcow2 g external ∷ rest) p ≡ at (qcow2 f external ∷ rest) p
-  chain-value-same rest p like =
-      chain-value g external rest H loads' p ∙ (value-same g f external H.fields p _ like ∙ sym (chain-value f external rest H loads p))
-
   -- and the whole disk where each does
   pub disk-same : ((guest : ℕ) → ShowsAs g f H.fields guest) → disk_of (qcow2 g external ∷ []) ≡ disk_of (qcow2 f external ∷ [])
   disk-same like =
@@ -74,10 +69,6 @@ module _ (f external : Bytes) (H : Header) (was : IsConsistent f H) where
   -- where it names a cluster: the cluster's byte
   pub data-value : (p d : ℕ) (copied : Bool) → guest_slot f H.fields (p / cluster_size H.fields) ≡ data_at d copied → at (qcow2 f external ∷ []) p ≡ byte (f (d * cluster_size H.fields + p % cluster_size H.fields))
   data-value p d copied is = guest-value p ∙ (ap (λ m. shown_by m (host_byte f external H.fields p) (byte 0)) is ∙ inside-byte p d)
-
-  -- where it is unmapped: 0
-  pub unmapped-value : (p : ℕ) → guest_slot f H.fields (p / cluster_size H.fields) ≡ unmapped → at (qcow2 f external ∷ []) p ≡ byte 0
-  unmapped-value p is = guest-value p ∙ ap (λ m. shown_by m (host_byte f external H.fields p) (byte 0)) is
 
   -- by the numbers of the table and of the word
   pub slot-value : (p i j d : ℕ) (copied : Bool) → p / cluster_size H.fields / words_of_cluster H.fields ≡ i → p / cluster_size H.fields % words_of_cluster H.fields ≡ j → l2_table f H.fields i ≢ 0 → slot f H.fields i j ≡ data_at d copied
