@@ -1,4 +1,4 @@
-// Reads and lookups, from the top layer downward. The layers below are a backing chain in qemu, and backing in imago.
+// Reads, from the top layer downward. The layers below are a backing chain in qemu, and backing in imago.
 ghost use Rattle.std.specs.Prelude.{◌≡◌, ◌∷◌, ◌<◌, ◌≤◌, length, map, IsOk, IfOk, IfErr, OnOk, IsErrOf, Some, None};
 ghost use Rattle.imago_storage.specs.Disk.{Shows};
 ghost use Rattle.imago_storage.specs.Through.{Overflows};

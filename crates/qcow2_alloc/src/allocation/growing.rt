@@ -1,5 +1,5 @@
-//! The refcount table grows: room is found for the longer one, which is written, and then takes its place. That is imago's `grow_reftable`,
-//! and qemu's `qcow2_refcount_area`. Words of the table are its entries there.
+//! How long the refcount table gets, and where: a grown copy is made in memory, and the first room for it is searched for. That is the
+//! first half of imago's `grow_reftable` and of qemu's `qcow2_refcount_area`. Words of the table are its entries there.
 ghost use Rattle.std.specs.Prelude.{◌≡◌, ◌≤◌, ◌<◌, ◌+◌, ◌*◌, ◌/◌, ◌^◌, IfOk, length, ℕ, ◌-◌, ◌++◌, OnOk, OnErr, IfErr, min};
 ghost use Rattle.qcow2_types.specs.Counts.{counters_of_block};
 ghost use Rattle.qcow2_alloc.specs.Allocators.{table_of, mark_of};

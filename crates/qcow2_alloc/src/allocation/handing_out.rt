@@ -249,5 +249,5 @@ fn next_mark(mark: HostCluster, first: HostCluster, count: ClusterCount) -> Host
 fn is_limit(fault: Fault) -> bool
     ensures { result ≡ (number_of fault == 12) }
 {
-    fault.number() == Fault::Limit(0).number()
+    matches!(fault, Fault::Limit(_))
 }

@@ -1,5 +1,5 @@
-//! A refcount table that has grown takes its room, and becomes the image's. The header names it, or references it: in qemu's
-//! `qcow2_refcount_area`, and in imago's `grow_reftable`.
+//! The room of a grown refcount table is filled: it is counted, blocks and table are written there, and the header names the table by one
+//! request. That is the second half of qemu's `qcow2_refcount_area` and of imago's `grow_reftable`.
 ghost use Rattle.std.specs.Prelude.{◌≡◌, ◌≢◌, ◌≤◌, ◌<◌, ◌+◌, ◌-◌, ◌*◌, ◌^◌, ℕ, List, OnOk, OnErr, IfErr, IsOkUnless, length};
 ghost use Rattle.qcow2_metadata.specs.Places.{IsInReach};
 ghost use Rattle.qcow2_metadata.specs.Tables.{IsPlacedTable};
