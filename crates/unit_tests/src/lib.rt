@@ -3,3 +3,5 @@
 
 #[cfg(test)]
 mod access;
+#[cfg(test)]
+mod example;
