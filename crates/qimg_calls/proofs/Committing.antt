@@ -22,7 +22,7 @@ use Rattle.qimg_calls.specs.Held.{holding, IsKept, IsReady}
 use Rattle.qimg_calls.specs.Leading.{Leads}
 use Rattle.qimg_calls.specs.Making.{Makes}
 use Rattle.qimg_calls.proofs.Leading.{ValuesBetween, fewer-stops, step-leads, usable-by}
-use Rattle.qimg_calls.proofs.Moving.{layer-stays}
+use Rattle.qimg_calls.proofs.Moving.{layer-stays, top-failed}
 use Rattle.qimg_calls.proofs.Resizing.{stays-between}
 use Rattle.qimg_calls.proofs.Spending.{committed-between, held-gives, not-given-back, not-spending, not-spent, spent-free}
 
@@ -66,6 +66,8 @@ module _ {D St : Type 0} (g : Ghosts D St) (safe_runs : (d : D) → g.safe d →
           room = λ intact on. tt;
           units = λ intact may was. tt;
           marks = λ spending. spent.1;
+          failed = top-failed g old new fault refused.failed;
+          cancels = λ is. absurd (cc is);
           moves = λ intact. (cause intact, λ mild. absurd (never intact mild));
           leads = step-leads g old new (IsMild fault) (IsMild fault) call safe_runs does.went (looked (IsMild fault)) (λ mild ready. mild) (λ mild ready. absurd (never ready.intact mild)) (λ mild ready. absurd (never ready.intact mild)) (λ mild ready. absurd (never ready.intact mild)) commit-stops;
           kept = λ k. record { mine = tt; free = λ none. spent-free g mapping.state (g.layer old.0) (g.layer new.0) (g.safe old.0 → IsMild fault → ⊥) kept.mine spent.0 spent.3 };
@@ -81,6 +83,8 @@ module _ {D St : Type 0} (g : Ghosts D St) (safe_runs : (d : D) → g.safe d →
           room = λ intact on. tt;
           units = λ intact may was. tt;
           marks = λ spending. absurd (not-spending g.tag mapping.state (g.layer old.0) fault back.1 spending);
+          failed = top-failed g old new fault refused.failed;
+          cancels = λ is. absurd (cc is);
           moves = λ intact. (cause intact, λ mild. (stays, ap Some back.0));
           leads = step-leads g old new (IsMild fault) (IsMild fault) call safe_runs does.went (looked (IsMild fault)) (λ mild ready. mild) (λ mild ready. back.2.surplus ready.intact.is_safe) (λ mild ready. unchanged-intact back.2 ready.intact)
               (λ mild ready. stays-between (Begun (map g.layer old.1) (chain_disk g.layer old) call) (chain_disk g.layer old) (chain_disk g.layer new) stays) commit-stops;

@@ -4,13 +4,16 @@ use Rattle.std.specs.Prelude.{Result, Ok, Err, OnOk, IfErr, IsErrOf, IsOk, IsFal
 use Rattle.imago_storage.specs.State.{StorageState}
 use Rattle.imago_storage.specs.Steps.{done}
 use Rattle.imago_storage.specs.declared.fault.Fault.{Fault}
+use Rattle.imago_storage.specs.declared.fault.Fault.TheVariants.{Failed, Memory, MissingData, Storage}
 use Rattle.imago_access.specs.declared.seen.Seen.{Ghosts}
-use Rattle.imago_access.specs.ChainCalls.{ChainSteps, ChainStays, IfMild}
-use Rattle.imago_access.specs.Layer.{IsFree}
+use Rattle.imago_access.specs.ChainCalls.{ChainFails, ChainSteps, ChainStays, IfMild}
+use Rattle.imago_access.specs.Failing.{Fails}
+use Rattle.imago_access.specs.Layer.{IsFree, Layer}
 use Rattle.imago_access.specs.Parts.{PlainCause}
 use Rattle.imago_access.specs.Refusals.{barrier}
 use Rattle.imago_access.specs.Stops.{IsCounted, IsWritten}
-use Rattle.imago_access.specs.Files.{WasNotCutOff}
+use Rattle.imago_access.specs.Files.{ImageCause, WasNotCutOff, files, files_of}
+use Rattle.imago_access.proofs.ImageCauses.{failed_left}
 use Rattle.qimg_calls.specs.declared.call.Call.{Call}
 use Rattle.qimg_calls.specs.declared.call.Answer.TheVariants as told
 use Rattle.qimg_calls.specs.Calls.{Fits, GoesOn, IfRefused, WasDone, tells_something}
@@ -60,6 +63,28 @@ told-done P (Err fault) was holds = absurd was
 pub told-marks : (P : Fault → Type 0) (result : Result Unit Fault) → IfErr result P → IfRefused (done_or_refused result) P
 told-marks P (Ok unit) marks = tt
 told-marks P (Err fault) marks = marks
+
+-- why a call of the top is refused is why the chain's is,
+pub top-failed : {D St : Type 0} (g : Ghosts D St) (old new : D × List D) (fault : Fault) → Fails g old.0 new.0 fault → ChainFails g old new fault
+top-failed g old new fault = failed_left (files g old.0) (files g new.0) (files_of g old.1) (files_of g new.1) fault
+
+pub top-refused : {D St : Type 0} (g : Ghosts D St) (old new : D × List D) (result : Result Unit Fault) → IfErr result (Fails g old.0 new.0)
+    → IfErr result (ChainFails g old new)
+top-refused g old new (Ok unit) failed = tt
+top-refused g old new (Err fault) failed = top-failed g old new fault failed
+
+-- and so is one that can't be used or whose storage failed.
+plain-fails : (layer : Layer) (olds news : List StorageState) (fault : Fault) → PlainCause layer olds news fault → ImageCause olds news fault
+plain-fails layer olds news Failed cause = tt
+plain-fails layer olds news MissingData cause = tt
+plain-fails layer olds news Memory cause = tt
+plain-fails layer olds news Storage cause = cause
+plain-fails layer olds news _ cause = absurd cause
+
+pub plainly-refused : {D St : Type 0} (g : Ghosts D St) (old new : D × List D) (result : Result Unit Fault)
+    → IfErr result (PlainCause (g.layer old.0) (files g old.0) (files g new.0)) → IfErr result (ChainFails g old new)
+plainly-refused g old new (Ok unit) why = tt
+plainly-refused g old new (Err fault) why = top-failed g old new fault (plain-fails (g.layer old.0) (files g old.0) (files g new.0) fault why)
 
 -- where the top can be used, a flush is refused for want of memory and for a fault of a storage alone
 pub refused-stays : {D St : Type 0} (g : Ghosts D St) (old new : D × List D) (olds news : List StorageState) (result : Result Unit Fault) → IfErr result (PlainCause (g.layer old.0) olds news)

@@ -4,7 +4,7 @@ use Rattle.imago_storage.specs.declared.fault.Fault.{Fault}
 use Rattle.imago_storage.specs.declared.fault.Fault.TheVariants.{BadArgument}
 use Rattle.imago_access.specs.declared.seen.Seen.{Ghosts}
 use Rattle.imago_access.specs.declared.mapping.PreparedDataMapping.{PreparedDataMapping}
-use Rattle.imago_access.specs.ChainCalls.{WontDecline}
+use Rattle.imago_access.specs.ChainCalls.{ChainFails, WontDecline}
 use Rattle.imago_access.specs.Refusals.{barrier}
 use Rattle.imago_access.specs.Running.{IsIntactChain}
 use Rattle.qimg_calls.specs.declared.call.Call.{Call}
@@ -20,7 +20,8 @@ use Rattle.qimg_calls.specs.RoomTaken.{LeavesRoomFor, SettlesUnits}
 
 -- The answer fits the call, which is refused at once where it has to be and done where it has nothing to do, moves the disk, takes and
 -- gives up room as it may, marks an image that failed, and leaves what the next one rests on; and what is kept is still the mapping that
--- is prepared.
+-- is prepared. Over every chain, sound or not, it is refused by a number that calls of images answer, and for a storage's fault only where
+-- one has failed. A mapping is always given up.
 pub record Makes {D St : Type 0} (g : Ghosts D St) (call : Call) (answer : Answer) (old new : Holding D St) : Type 0 where
   pub fits : Fits call answer
   pub at_once : (f : Fault) → refusal_at_once g call old ≡ Some f → answer ≡ told.Refused f
@@ -30,6 +31,8 @@ pub record Makes {D St : Type 0} (g : Ghosts D St) (call : Call) (answer : Answe
   pub units : IsIntactChain g old.drivers → WontDecline g (disk_call g old call) old.drivers → WasDone answer
       → SettlesUnits g call old.drivers.0 new.drivers.0
   pub marks : IfRefused answer (MarksRefused g call old.drivers new.drivers)
+  pub failed : IfRefused answer (ChainFails g old.drivers new.drivers)
+  pub cancels : call ≡ calls.Cancel → WasDone answer
   pub leads : Leads g (GoesOn answer) (disk_call g old call) old.drivers new.drivers
   pub kept : IsKept g old → IsKept g new
   pub same : IsFalse (is_of_mapping call) → new.kept ≡ old.kept

@@ -4,13 +4,14 @@ use Rattle.imago_storage.specs.Steps.{discard_to_any}
 use Rattle.imago_access.specs.Files.{WasNotCutOff}
 use Rattle.imago_access.specs.RunCalls.{MarksAlone}
 use Rattle.imago_access.specs.Stops.{GivesAny}
+use Rattle.imago_access.specs.ChainCalls.{ChainFails}
 use Rattle.qimg_calls.specs.Calls.{GoesOn}
 use Rattle.qimg_calls.specs.Held.{holding}
 use Rattle.qimg_calls.specs.Making.{done_or_refused}
 use Rattle.qimg_calls.specs.RoomTaken.{SettlesUnits}
 use Rattle.qimg_calls.specs.declared.call.Call.TheVariants as calls
 use Rattle.qimg_calls.proofs.Leading.{ran-leads}
-use Rattle.qimg_calls.proofs.Moving.{not-cut, nothing-named, told-done, told-fits, told-idle, told-marks, told-moves, told-refused}
+use Rattle.qimg_calls.proofs.Moving.{top-refused, not-cut, nothing-named, told-done, told-fits, told-idle, told-marks, told-moves, told-refused}
 use Rattle.qimg_calls.proofs.making.changing.discard_to_any.Goals as goal
 
 pub returns : goal.returns
@@ -27,6 +28,8 @@ returns g c =
       room = λ intact on. e.room intact (not-cut r on);
       units = λ intact may was. told-done (SettlesUnits d (calls.DiscardToAny c.args.offset c.args.length) old.0 new.0) r was (e.gives_up intact may);
       marks = told-marks (MarksAlone d old.0 new.0) r e.marks;
+      failed = told-marks (ChainFails d old new) r (top-refused d old new r e.failed);
+      cancels = λ is. absurd (cc is);
       moves = λ intact. told-moves d (calls.DiscardToAny c.args.offset c.args.length) r (holding old None) (holding new None) refl
           (e.ok intact) (nothing-named r) (e.cause intact) (e.err intact);
       leads = ran-leads d old new (GoesOn (done_or_refused r)) (WasNotCutOff r) (discard_to_any c.args.offset c.args.length) g.met.D.FormatDriverInstance.safe_runs

@@ -5,6 +5,7 @@ use Rattle.imago_access.specs.Files.{WasNotCutOff}
 use Rattle.imago_access.specs.RunCalls.{MarksTop}
 use Rattle.imago_access.specs.Running.{below_ghosts}
 use Rattle.imago_access.specs.Stops.{GivesZero}
+use Rattle.imago_access.specs.ChainCalls.{ChainFails}
 use Rattle.qimg_calls.specs.Calls.{GoesOn}
 use Rattle.qimg_calls.specs.Held.{holding}
 use Rattle.qimg_calls.specs.Making.{done_or_refused}
@@ -28,6 +29,8 @@ returns g c =
       room = λ intact on. e.room intact (not-cut r on);
       units = λ intact may was. told-done (SettlesUnits d (calls.DiscardToZero c.args.offset c.args.length) old.0 new.0) r was (e.gives_up intact may);
       marks = told-marks (MarksTop d (below_ghosts d) old new) r e.marks;
+      failed = told-marks (ChainFails d old new) r e.failed;
+      cancels = λ is. absurd (cc is);
       moves = λ intact. told-moves d (calls.DiscardToZero c.args.offset c.args.length) r (holding old None) (holding new None) refl
           (e.ok intact) (nothing-named r) (e.cause intact) (e.err intact);
       leads = ran-leads d old new (GoesOn (done_or_refused r)) (WasNotCutOff r) (discard_to_zero c.args.offset c.args.length) g.met.D.FormatDriverInstance.safe_runs

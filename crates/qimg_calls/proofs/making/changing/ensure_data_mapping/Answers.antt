@@ -30,6 +30,8 @@ returns-in-Ok g c =
       room = λ intact on. tt;
       units = λ intact may was. tt;
       marks = tt;
+      failed = tt;
+      cancels = λ is. absurd (cc is);
       moves = λ intact. ((run c.in-Ok.count, refl, e.ok intact, (e.home intact, λ none. (ap (λ r. r.0) (e.empty none).0, ap (λ r. r.1) (e.empty none).0))), refl);
       leads = ran-leads d old new (GoesOn (told.Mapped c.in-Ok.mapping c.in-Ok.count)) _ (ensure c.args.offset c.args.length c.args.overwrite) g.met.D.FormatDriverInstance.safe_runs
           (GivesAnnounced c.args.overwrite c.args.offset c.args.length) e.ran (λ on ready. tt)
@@ -51,6 +53,8 @@ returns-in-Err g c =
       room = λ intact on. tt;
       units = λ intact may was. tt;
       marks = e.marks;
+      failed = e.failed;
+      cancels = λ is. absurd (cc is);
       moves = λ intact. (e.cause intact, λ mild. (e.err intact mild, refl));
       leads = ran-leads d old new (GoesOn (told.Refused c.in-Err.fault)) _ (ensure c.args.offset c.args.length c.args.overwrite) g.met.D.FormatDriverInstance.safe_runs
           (GivesAnnounced c.args.overwrite c.args.offset c.args.length) e.ran (λ on ready. on)

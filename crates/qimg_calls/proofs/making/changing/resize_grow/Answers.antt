@@ -6,6 +6,7 @@ use Rattle.imago_access.specs.Resizes.{fill_of}
 use Rattle.imago_access.specs.Running.{chain_disk, below_of}
 use Rattle.imago_access.specs.Going.{MarksOver}
 use Rattle.imago_access.specs.Stops.{GivesPast}
+use Rattle.imago_access.specs.ChainCalls.{ChainFails}
 use Rattle.qimg_calls.specs.Calls.{GoesOn}
 use Rattle.qimg_calls.specs.Held.{holding}
 use Rattle.qimg_calls.specs.Making.{done_or_refused}
@@ -30,6 +31,8 @@ returns g c =
       room = λ intact on. tt;
       units = λ intact may was. tt;
       marks = told-marks (MarksOver d old.0 new.0) r e.marks;
+      failed = told-marks (ChainFails d old new) r e.failed;
+      cancels = λ is. absurd (cc is);
       moves = λ intact. told-moves d (calls.ResizeGrow c.args.size c.args.mode) r (holding old None) (holding new None) refl
           (e.ok intact) (nothing-named r) (e.cause intact) (e.err intact);
       leads = step-leads d old new (GoesOn (done_or_refused r)) (WasNotCutOff r) call g.met.D.FormatDriverInstance.safe_runs e.went e.below

@@ -6,12 +6,13 @@ use Rattle.imago_access.specs.Going.{LookedUnder, Marks}
 use Rattle.imago_access.specs.Running.{below_ghosts, below_of, chain_disk}
 use Rattle.imago_access.specs.Stops.{GivesBelowPast}
 use Rattle.imago_access.proofs.Looking.{looked_under_same}
+use Rattle.imago_access.specs.ChainCalls.{ChainFails}
 use Rattle.qimg_calls.specs.Calls.{GoesOn}
 use Rattle.qimg_calls.specs.Held.{holding}
 use Rattle.qimg_calls.specs.Making.{done_or_refused}
 use Rattle.qimg_calls.specs.declared.call.Call.TheVariants as calls
 use Rattle.qimg_calls.proofs.Leading.{fewer-stops, step-leads}
-use Rattle.qimg_calls.proofs.Moving.{not-cut, nothing-named, told-fits, told-idle, told-marks, told-moves, told-refused}
+use Rattle.qimg_calls.proofs.Moving.{top-refused, not-cut, nothing-named, told-fits, told-idle, told-marks, told-moves, told-refused}
 use Rattle.qimg_calls.proofs.Resizing.{resize-refused, shrunk-between}
 use Rattle.qimg_calls.proofs.making.changing.resize_shrink.Goals as goal
 
@@ -29,6 +30,8 @@ returns g c =
       room = λ intact on. tt;
       units = λ intact may was. tt;
       marks = told-marks (Marks d old.0 new.0) r e.marks;
+      failed = told-marks (ChainFails d old new) r (top-refused d old new r e.failed);
+      cancels = λ is. absurd (cc is);
       moves = λ intact. told-moves d (calls.ResizeShrink c.args.size) r (holding old None) (holding new None) refl
           (e.ok intact) (nothing-named r) (e.cause intact) (e.err intact);
       leads = step-leads d old new (GoesOn (done_or_refused r)) (WasNotCutOff r) (shrink c.args.size) g.met.D.FormatDriverInstance.safe_runs e.went

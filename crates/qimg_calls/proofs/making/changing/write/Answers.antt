@@ -5,6 +5,7 @@ use Rattle.imago_access.specs.Files.{WasNotCutOff}
 use Rattle.imago_access.specs.RunCalls.{MarksTop}
 use Rattle.imago_access.specs.Running.{below_ghosts}
 use Rattle.imago_access.specs.Stops.{GivesBytes}
+use Rattle.imago_access.specs.ChainCalls.{ChainFails}
 use Rattle.qimg_calls.specs.Calls.{GoesOn}
 use Rattle.qimg_calls.specs.Held.{holding}
 use Rattle.qimg_calls.specs.Making.{done_or_refused}
@@ -28,6 +29,8 @@ returns g c =
       room = λ intact on. (rw (c.deref.ensures.value) at e.room) intact (not-cut r on);
       units = λ intact may was. tt;
       marks = told-marks (MarksTop d (below_ghosts d) old new) r e.marks;
+      failed = told-marks (ChainFails d old new) r e.failed;
+      cancels = λ is. absurd (cc is);
       moves = λ intact. told-moves d call r (holding old None) (holding new None) refl (rw (c.deref.ensures.value) at e.ok intact) (nothing-named r) (rw (c.deref.ensures.value) at e.cause intact) (rw (c.deref.ensures.value) at e.err intact);
       leads = ran-leads d old new (GoesOn (done_or_refused r)) (WasNotCutOff r) (write c.args.offset c.args.bytes.now.items) g.met.D.FormatDriverInstance.safe_runs (GivesBytes c.args.offset c.args.bytes.now.items) (rw (c.deref.ensures.value) at e.ran)
           (λ on ready. not-cut r on) (λ p v gave. gave) (omega arith);

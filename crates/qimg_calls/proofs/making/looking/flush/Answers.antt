@@ -4,12 +4,13 @@ use Rattle.imago_storage.specs.Steps.{flush}
 use Rattle.imago_access.specs.Files.{files}
 use Rattle.imago_access.specs.Going.{Marks}
 use Rattle.imago_access.specs.Stops.{GivesNone}
+use Rattle.imago_access.specs.ChainCalls.{ChainFails}
 use Rattle.qimg_calls.specs.Calls.{GoesOn}
 use Rattle.qimg_calls.specs.Held.{holding}
 use Rattle.qimg_calls.specs.Making.{done_or_refused}
 use Rattle.qimg_calls.specs.declared.call.Call.TheVariants as calls
 use Rattle.qimg_calls.proofs.Leading.{ran-leads, whole-ok, like-kept}
-use Rattle.qimg_calls.proofs.Moving.{not-cut, told-fits, told-marks, told-moves, told-refused, refused-stays, flush-names}
+use Rattle.qimg_calls.proofs.Moving.{top-refused, not-cut, told-fits, told-marks, told-moves, told-refused, refused-stays, flush-names}
 use Rattle.qimg_calls.proofs.making.looking.flush.Goals as goal
 
 pub returns : goal.returns
@@ -27,6 +28,8 @@ returns g c kept is =
       room = λ intact on. tt;
       units = λ intact may was. tt;
       marks = told-marks (Marks d old.0 new.0) r e.marks;
+      failed = told-marks (ChainFails d old new) r (top-refused d old new r e.failed);
+      cancels = λ is. absurd (cc is);
       moves = λ intact. told-moves d calls.Flush r (holding old kept) (holding new kept) refl (e.ok intact) (flush-names d old new r (e.same intact) (e.written intact) (e.counted intact)) (e.cause intact.is_safe)
           (refused-stays d old new (files d old.0) (files d new.0) r (e.cause intact.is_safe));
       leads = ran-leads d old new (GoesOn (done_or_refused r)) (IsOk r) flush m.safe_runs GivesNone e.ran

@@ -20,6 +20,8 @@ returns-in-Ok g c kept is =
       room = λ intact on. tt;
       units = λ intact may was. tt;
       marks = tt;
+      failed = tt;
+      cancels = λ is. absurd (cc is);
       moves = λ rests. (
         (
           found (deep_kind_of c.in-Ok.mapping) c.in-Ok.count,
@@ -48,6 +50,8 @@ returns-in-Err g c kept is =
       room = λ intact on. tt;
       units = λ intact may was. tt;
       marks = e.marks;
+      failed = e.failed;
+      cancels = λ is. absurd (cc is);
       moves = λ rests. (e.cause rests.0, λ mild. (((e.looked.0.stays mild rests.0.0).0, looked-stays d old new _ mild e.looked rests.0), refl));
       leads = look-leads d old new (GoesOn (told.Refused c.in-Err.fault)) _ (lookup c.args.offset c.args.length) m.safe_sees e.looked (λ on. on) (omega arith);
       kept = like-kept d old new kept e.looked.0.like;

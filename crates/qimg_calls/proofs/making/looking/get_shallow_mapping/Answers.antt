@@ -4,6 +4,7 @@ use Rattle.imago_access.specs.Kinds.{kind_of}
 use Rattle.qimg_calls.specs.Calls.{GoesOn}
 use Rattle.qimg_calls.specs.declared.call.Answer.TheVariants as told
 use Rattle.qimg_calls.proofs.Leading.{look-leads, like-kept, looked-stays}
+use Rattle.qimg_calls.proofs.Moving.{top-failed}
 use Rattle.qimg_calls.proofs.making.looking.get_shallow_mapping.Goals as goal
 
 pub returns-in-Ok : goal.returns-in-Ok
@@ -20,6 +21,8 @@ returns-in-Ok g c kept is =
       room = λ intact on. tt;
       units = λ intact may was. tt;
       marks = tt;
+      failed = tt;
+      cancels = λ is. absurd (cc is);
       moves = λ sees. ((found (kind_of c.in-Ok.mapping) c.in-Ok.count, refl, e.ok sees.0, (e.looks sees.0, (e.looked.0.stays tt sees.0).0, e.there, e.room sees.0, e.stated sees.0)), refl);
       leads = look-leads d old new (GoesOn (told.Shallow c.in-Ok.mapping c.in-Ok.count)) _ (lookup c.args.offset c.args.length) m.safe_sees e.looked (λ on. tt) (omega arith);
       kept = like-kept d old new kept e.looked.0.like;
@@ -40,6 +43,8 @@ returns-in-Err g c kept is =
       room = λ intact on. tt;
       units = λ intact may was. tt;
       marks = e.marks;
+      failed = top-failed d old new c.in-Err.fault e.failed;
+      cancels = λ is. absurd (cc is);
       moves = λ sees. (e.cause sees.0, λ mild. (((e.looked.0.stays mild sees.0).0, looked-stays d old new _ mild e.looked sees), refl));
       leads = look-leads d old new (GoesOn (told.Refused c.in-Err.fault)) _ (lookup c.args.offset c.args.length) m.safe_sees e.looked (λ on. on) (omega arith);
       kept = like-kept d old new kept e.looked.0.like;

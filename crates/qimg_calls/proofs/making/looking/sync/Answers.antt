@@ -4,13 +4,14 @@ use Rattle.imago_storage.specs.Steps.{sync}
 use Rattle.imago_access.specs.Files.{Pairs, IsKept, files}
 use Rattle.imago_access.specs.Going.{Marks}
 use Rattle.imago_access.specs.Stops.{GivesNone}
+use Rattle.imago_access.specs.ChainCalls.{ChainFails}
 use Rattle.qimg_calls.specs.Calls.{GoesOn}
 use Rattle.qimg_calls.specs.Held.{holding}
 use Rattle.qimg_calls.specs.Making.{done_or_refused}
 use Rattle.qimg_calls.specs.declared.call.Call.TheVariants as calls
 use Rattle.qimg_calls.proofs.Leading.{ran-leads, whole-ok, like-kept}
 use Rattle.qimg_calls.specs.Moves.{TopStays}
-use Rattle.qimg_calls.proofs.Moving.{both-named, not-cut, on-ok, told-fits, told-marks, told-moves, told-refused, refused-stays}
+use Rattle.qimg_calls.proofs.Moving.{plainly-refused, both-named, not-cut, on-ok, told-fits, told-marks, told-moves, told-refused, refused-stays}
 use Rattle.qimg_calls.proofs.making.looking.sync.Goals as goal
 
 pub returns : goal.returns
@@ -28,6 +29,8 @@ returns g c kept is =
       room = λ intact on. tt;
       units = λ intact may was. tt;
       marks = told-marks (Marks d old.0 new.0) r e.marks;
+      failed = told-marks (ChainFails d old new) r (plainly-refused d old new r e.cause);
+      cancels = λ is. absurd (cc is);
       moves = λ intact. told-moves d calls.Sync r (holding old kept) (holding new kept) refl e.ok (both-named (TopStays d old new) (Pairs IsKept (files d old.0) (files d new.0)) r e.same (on-ok r e.kept)) e.cause
           (refused-stays d old new (files d old.0) (files d new.0) r e.cause);
       leads = ran-leads d old new (GoesOn (done_or_refused r)) (IsOk r) sync m.safe_runs GivesNone e.ran

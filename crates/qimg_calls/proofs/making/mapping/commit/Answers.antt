@@ -19,6 +19,8 @@ returns-in-Ok g c =
       room = λ intact on. tt;
       units = λ intact may was. tt;
       marks = tt;
+      failed = tt;
+      cancels = λ is. absurd (cc is);
       moves = λ intact. ((done, refl, e.ok intact kept.mine, e.home intact kept.mine), refl);
       leads = commit-leads d g.met.D.FormatDriverInstance.safe_runs old new m e.below kept (λ ready. e.stops ready.intact kept.mine) e.commits (λ ready. e.intact kept.mine ready.intact) (λ ready. e.ok ready.intact kept.mine);
       kept = λ k. record { mine = tt; free = λ none. free-then d m.state (d.layer old.0) (d.layer new.0) (λ some. e.free kept.mine some) (λ none. e.stateless none) kept.free };

@@ -22,6 +22,8 @@ returns-in-Ok g c =
       room = λ intact on. tt;
       units = λ intact may was. tt;
       marks = tt;
+      failed = tt;
+      cancels = λ is. absurd (cc is);
       moves = λ intact. (
         (prepared _ _, refl, rw (c.length.ensures, sym state) (e.ok intact), tt),
         (m, refl, record { storage_is = sym c.storage.ensures; place_is = sym c.offset.ensures; length_is = sym c.length.ensures; state_is = state }, e.home intact, λ none. (e.empty none).0),
@@ -44,6 +46,8 @@ returns-in-Err g c =
       room = λ intact on. tt;
       units = λ intact may was. tt;
       marks = e.marks;
+      failed = e.failed;
+      cancels = λ is. absurd (cc is);
       moves = λ intact. (e.cause intact, λ mild. (e.err intact mild, refl));
       leads = ran-leads d old new _ _ (prepare c.args.offset c.args.length c.args.overwrite) g.met.D.FormatDriverInstance.safe_runs GivesNone e.ran (λ on ready. on) (λ p v none. absurd none) (omega arith);
       kept = λ kept. record { mine = tt; free = λ none. e.free refl };

@@ -1,6 +1,6 @@
 use Rattle.std.proofs.Common.{◌≡◌, length, arith, refl}
 use Rattle.imago_storage.specs.Steps.{write_mapped}
-use Rattle.imago_access.specs.ChainCalls.{IsMappedFor}
+use Rattle.imago_access.specs.ChainCalls.{ChainFails, IsMappedFor}
 use Rattle.imago_access.specs.Files.{WasNotCutOff}
 use Rattle.imago_access.specs.Going.{Marks}
 use Rattle.imago_access.specs.Stops.{GivesBytes}
@@ -9,7 +9,7 @@ use Rattle.qimg_calls.specs.Held.{holding}
 use Rattle.qimg_calls.specs.Making.{done_or_refused}
 use Rattle.qimg_calls.specs.declared.call.Call.TheVariants as calls
 use Rattle.qimg_calls.proofs.Leading.{ran-leads, like-kept}
-use Rattle.qimg_calls.proofs.Moving.{both-named, not-cut, same-stays, told-fits, told-idle, told-marks, told-moves, told-refused}
+use Rattle.qimg_calls.proofs.Moving.{top-refused, both-named, not-cut, same-stays, told-fits, told-idle, told-marks, told-moves, told-refused}
 use Rattle.qimg_calls.proofs.making.mapping.write_mapped.Goals as goal
 
 pub returns : goal.returns
@@ -28,6 +28,8 @@ returns g c kept is =
       room = λ intact on. tt;
       units = λ intact may was. tt;
       marks = told-marks (Marks d old.0 new.0) r e.marks;
+      failed = told-marks (ChainFails d old new) r (top-refused d old new r e.failed);
+      cancels = λ is. absurd (cc is);
       moves = λ intact. told-moves d call r (holding old kept) (holding new kept) refl
           (rw (c.deref.ensures.value) at e.ok intact)
           (both-named (IsMappedFor (d.layer old.0) c.args.guest c.args.place (length c.args.bytes.now.items)) ((d.layer new.0).home ≡ (d.layer old.0).home) r (rw (c.deref.ensures.value) at e.mapped (m.safe_sees old.0 intact.is_safe)) (e.home intact))
