@@ -35,11 +35,7 @@ fn into_image<S: Storage + Drop>(disk: FormatAccess<ImageDriver<S>>) -> Result<S
     if disk.inner().prepared() {
         return Err(Trouble::NoCall);
     }
-    match disk.into_driver() {
-        ImageDriver::Raw(raw) => Ok(raw.into_image()),
-        ImageDriver::Vmdk(vmdk) => Ok(vmdk.into_image()),
-        ImageDriver::Qcow2(qcow2) => Ok(qcow2.into_image()),
-    }
+    Ok(disk.into_driver().into_image())
 }
 
 fn range_of<S: Storage>(
