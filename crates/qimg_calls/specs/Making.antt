@@ -32,7 +32,7 @@ pub record Makes {D St : Type 0} (g : Ghosts D St) (call : Call) (answer : Answe
       → SettlesUnits g call old.drivers.0 new.drivers.0
   pub marks : IfRefused answer (MarksRefused g call old.drivers new.drivers)
   pub failed : IfRefused answer (ChainFails g old.drivers new.drivers)
-  pub cancels : call ≡ calls.Cancel → WasDone answer
+  pub cancels : call ≡ calls.Cancel → WasDone answer × (new.kept ≡ None)
   pub leads : Leads g (GoesOn answer) (disk_call g old call) old.drivers new.drivers
   pub kept : IsKept g old → IsKept g new
   pub same : IsFalse (is_of_mapping call) → new.kept ≡ old.kept

@@ -27,7 +27,7 @@ returns g c =
         units = λ intact may was. tt;
         marks = tt;
         failed = tt;
-        cancels = λ _. tt;
+        cancels = λ _. (tt, refl);
         moves = λ intact. ((done, refl, e.ok kept.mine, tt), refl);
         leads = cancel-leads d g.met.D.FormatDriverInstance.safe_runs old new m e.below kept call _ e.cancels (omega arith) (λ ready. e.intact kept.mine ready.intact)
             (λ ready. cancelled-between (Begun (map d.layer old.1) (chain_disk d.layer old) call) (below_of d.layer old) _ _ (chain_disk d.layer old) (chain_disk d.layer new) (e.ok kept.mine));
