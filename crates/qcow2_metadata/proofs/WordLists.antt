@@ -1,10 +1,14 @@
 -- Lists of words, as the numbers that contracts see.
-use Rattle.std.proofs.Common.{◌≡◌, ◌∙◌, ◌+◌, ◌<◌, ap, arith, inl, inr, subst, sym, ℕ, List, [], ◌∷◌, ◌++◌, length, map}
-use Rattle.std.specs.Prelude.{slice_index, slice_set}
+use Rattle.std.proofs.Common.{◌≡◌, ◌∙◌, ◌+◌, ◌-◌, ◌*◌, ◌<◌, ◌≤◌, ap, arith, inl, inr, refl, subst, sym, ℕ, zero, suc, List, [], ◌∷◌, ◌++◌, length, map, take, drop}
+use Rattle.std.specs.Prelude.{replicate, slice_index, slice_set}
 use Rattle.std.proofs.lemmas.Bool.{cases_lt}
-use Rattle.std.proofs.lemmas.Grind.{same_number_lists}
-use Rattle.std.proofs.lemmas.List.{get_or-set_other, get_or-set_same, length-map, map-append, map-set}
+use Rattle.std.specs.Int.{to_be_bytes, w64}
+use Rattle.std.proofs.lemmas.Grind.{flat_map-append, same_number_lists}
+use Rattle.std.proofs.lemmas.List.{append-nil, drop-drop, drop-replicate, get_or-set_other, get_or-set_same, length-map, map-append, map-set, take-replicate, take_more}
+use Rattle.imago_storage.proofs.Zeroes.{zero_at}
 use Rattle.qcow2_types.specs.Bytes.{Bytes, word}
+use Rattle.qcow2_types.specs.TableBytes.{table_bytes}
+use Rattle.qcow2_types.proofs.Numbers.NumberBytes.{taken-more}
 use Rattle.qcow2_metadata.specs.Tables.{words_in}
 use Rattle.qcow2_metadata.proofs.TableFacts.{words_at, words_long}
 
@@ -21,6 +25,14 @@ module _ {E : Type 0} (word : E → ℕ) (words : List E → List ℕ) (each : (
   pub words_set : (es : List E) (i : ℕ) (e : E) → words (slice_set es i e) ≡ slice_set (words es) i (word e)
   words_set es i e = each (slice_set es i e) ∙ (map-set word es i e ∙ ap (λ (ws : List ℕ). slice_set ws i (word e)) (sym (each es)))
 
+  -- as many of a word that names nothing
+  pub clear-words : (n k : ℕ) (e : E) → word e ≡ 0 → slice_index (words (replicate n e)) k ≡ 0
+  clear-words n k e none = ap (λ (ws : List ℕ). slice_index ws k) (each (replicate n e) ∙ map-same n e none) ∙ zero_at n k
+    where
+      map-same : (n : ℕ) (e : E) → word e ≡ 0 → map word (replicate n e) ≡ replicate n 0
+      map-same zero e none = refl
+      map-same (suc n) e none = rw (none) (ap (λ (ws : List ℕ). 0 ∷ ws) (map-same n e none))
+
 -- The first n of these words are those of a file.
 abbrev pub ArePut : Bytes → List ℕ → ℕ → Type 0
 ArePut f words n = (k : ℕ) → k < n → slice_index words k ≡ word f 0 k
@@ -34,8 +46,41 @@ put-more f words i w inside put is k small = elim (cases_lt k i) [
       subst (λ j. slice_index (slice_set words i w) j ≡ word f 0 j) same (get_or-set_same words i w 0 inside ∙ is)
 ]
 
+-- or is the same already,
+pub put-same : (f : Bytes) (words : List ℕ) (i : ℕ) → ArePut f words i → slice_index words i ≡ word f 0 i → ArePut f words (i + 1)
+put-same f words i put is k small = elim (cases_lt k i) [
+  | inl before ↦ put k before
+  | inr last ↦ subst (λ j. slice_index words j ≡ word f 0 j) (let same : i ≡ k = omega (arith, small, last) in same) is
+]
+
+-- The words from the nth on are 0.
+abbrev pub AreClear : List ℕ → ℕ → Type 0
+AreClear words n = (k : ℕ) → n ≤ k → slice_index words k ≡ 0
+
+-- they are still, behind one that was put
+pub clear-behind : (words : List ℕ) (i w : ℕ) → AreClear words i → AreClear (slice_set words i w) (i + 1)
+clear-behind words i w clear k behind = get_or-set_other words i k w 0 (λ same. omega (arith, behind, same)) ∙ clear k (omega (arith, behind))
+
 -- until all are.
 pub put-whole : (f : Bytes) (words : List ℕ) (n : ℕ) → length words ≡ n → ArePut f words n → words ≡ words_in f 0 n
 put-whole f words n long put = same_number_lists words (words_in f 0 n) (long ∙ sym (words_long f 0 n)) (λ k inside.
     let small : k < n = omega (arith, inside, long) in
     put k small ∙ sym (words_at f 0 n k small))
+
+-- the bytes of one more word
+pub bytes-more : (words : List ℕ) (i w : ℕ) → i < length words → w ≡ slice_index words i
+    → table_bytes (take (i + 1) words) ≡ table_bytes (take i words) ++ to_be_bytes w64 w
+bytes-more words i w inside is = rw (is) (ap table_bytes (take_more words i 0 inside)
+    ∙ (flat_map-append (to_be_bytes w64) (take i words) (slice_index words i ∷ [])
+    ∙ ap (λ bytes. table_bytes (take i words) ++ bytes) (append-nil (to_be_bytes w64 (slice_index words i)))))
+
+-- The bytes from the nth on are 0.
+abbrev pub AreZeroes : List ℕ → ℕ → Type 0
+AreZeroes bytes n = drop n bytes ≡ replicate (length bytes - n) 0
+
+pub zeroes-behind : (bytes : List ℕ) (n m : ℕ) → AreZeroes bytes n → AreZeroes bytes (n + m)
+zeroes-behind bytes n m zeroes = sym (drop-drop m n bytes) ∙ (ap (drop m) zeroes ∙ (drop-replicate m (length bytes - n) 0 ∙ ap (λ k. replicate k 0) (omega arith)))
+
+-- those of a word 0 stand there
+pub zero-there : (bytes : List ℕ) (n : ℕ) → AreZeroes bytes n → n + 8 ≤ length bytes → take (n + 8) bytes ≡ take n bytes ++ to_be_bytes w64 0
+zero-there bytes n zeroes room = taken-more bytes (to_be_bytes w64 0) n 8 (sym (ap (take 8) zeroes ∙ take-replicate 8 (length bytes - n) 0 (omega arith)))

@@ -55,6 +55,8 @@ pub trait TableEntry: Copy {
     ghost each: { (entries : List Self) → words entries ≡ map word entries };
 
     ghost few: { MAX_ENTRIES ≡ max_entries kind };
+
+    ghost copies: { (entry copy : Self) → Self.is_clone entry copy → copy ≡ entry };
 }
 
 /// A word of the L1 table: where an L2 table stands.
@@ -125,6 +127,8 @@ impl TableEntry for L1Entry {
     ghost each = { λ es. sym (map-id es) };
 
     ghost few = { refl };
+
+    ghost copies = { λ entry copy is. is };
 }
 
 impl TableEntry for L2Entry {
@@ -162,6 +166,8 @@ impl TableEntry for L2Entry {
     ghost each = { λ es. sym (map-id es) };
 
     ghost few = { refl };
+
+    ghost copies = { λ entry copy is. is };
 }
 
 impl TableEntry for RefTableEntry {
@@ -196,6 +202,8 @@ impl TableEntry for RefTableEntry {
     ghost each = { λ es. sym (map-id es) };
 
     ghost few = { refl };
+
+    ghost copies = { λ entry copy is. is };
 }
 
 // A place, where 0 is none.

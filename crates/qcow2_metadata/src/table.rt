@@ -2,7 +2,7 @@
 //
 // From the sections "Host cluster management" and "Cluster mapping" of the format: the words of a table are big-endian, and
 // stand in a row from the table's place on.
-ghost use Rattle.std.specs.Prelude.{◌≡◌, ℕ, ◌+◌, ◌-◌, ◌*◌, ◌/◌, ◌%◌, ◌^◌, ◌<◌, ◌≤◌, List, length, map, slice_index, OnOk, OnErr, IfOk, IfErr, IsErrOf, IsOkUnless, MatchOption, Some, None, true, false};
+ghost use Rattle.std.specs.Prelude.{◌≡◌, ℕ, ◌+◌, ◌-◌, ◌*◌, ◌/◌, ◌%◌, ◌^◌, ◌<◌, ◌≤◌, List, length, map, replicate, slice_index, OnOk, OnErr, IfOk, IfErr, IsErrOf, IsOkUnless, MatchOption, Some, None, true, false};
 ghost use Rattle.imago_storage.specs.Calls.{CountsFaults, Kept, Reads};
 ghost use Rattle.imago_storage.specs.State.{unit_of};
 ghost use Rattle.imago_storage.specs.Through.{IsAtOnce, Put, PutAtOnce};
@@ -227,7 +227,11 @@ fn entries_in<E: TableEntry>(alloc: Global, bytes: &[u8], header: &Header) -> Re
 {
     let mut entries = vec![in alloc; E::empty(); bytes.len() / 8]?;
     for index in 0..bytes.len() / 8 {
-        entries[index] = E::try_from_plain(word_at(bytes, 8 * index), header)?;
+        let word = word_at(bytes, 8 * index);
+        // Most words of most tables name nothing, which is what stands there.
+        if word != 0 {
+            entries[index] = E::try_from_plain(word, header)?;
+        }
     }
     Ok(entries)
 }
@@ -322,14 +326,16 @@ pub fn spend(pending: Option<PendingClusters>) {
     }
 }
 
-/// Puts the bytes of a table's words into as many as they are.
+/// Puts the bytes of a table's words into as many zeroes.
 fn put_words<T: Table>(table: &T, bytes: &mut [u8])
-    requires { length bytes.old ≡ 8 * length (T.value table.now).words }
+    requires { bytes.old ≡ replicate (8 * length (T.value table.now).words) 0 }
     ensures { bytes.new ≡ table_bytes (T.value table.now).words }
 {
     for index in 0..table.entries() {
         let word = table.get(index).to_plain();
-        bytes[8 * index..8 * index + 8].copy_from_slice(&word.to_be_bytes());
+        if word != 0 {
+            bytes[8 * index..8 * index + 8].copy_from_slice(&word.to_be_bytes());
+        }
     }
 }
 
