@@ -39,8 +39,8 @@ use top_file::TopFile;
 /// The number of the chain that the program opens.
 const CHAIN: u64 = 1;
 
-/// How many bytes of the script are read at once: as many as a pipe holds, for fewer calls of the system.
-const READ_AT_ONCE: usize = 65_536;
+/// How many bytes of the script are read at once: as many as four of the longest lines have, so that most lines are shown whole.
+const READ_AT_ONCE: usize = 262_144;
 
 /// The program's arguments, without its name. One that is no text is a bad one.
 fn words<R: Env + AllocGlobal>(rt: &R) -> Result<Vec<String>, Failure> {

@@ -1,12 +1,15 @@
 -- The bytes of a script that were read, line by line, within its limits.
 use Rattle.std.proofs.Common.{◌≡◌, ◌≢◌, ℕ, ◌+◌, ◌<◌, ◌≤◌, ◌∙◌, List, [], ◌∷◌, ◌++◌, length, take, refl, ap, sym, arith, length-append, add-one}
 use mathlib.Core.List.{append_assoc}
-use Rattle.std.specs.Prelude.{⊤, Option, Some, None, option_map, IfSome, Ok, Err}
+use Rattle.std.specs.Prelude.{⊤, Option, Some, None, option_map, IfSome, Result, Ok, Err}
 use Rattle.std.specs.Io.BufRead.{take_through, drop_through, DropsThrough}
 use Rattle.std.specs.Str.Lines.{lines}
+use Rattle.imago_storage.specs.declared.fault.Fault.{Fault}
 use Rattle.qimg_chain.specs.declared.run.fault.RunFault.{RunFault}
 use Rattle.qimg_chain.specs.declared.run.fault.RunFault.TheVariants as run_fault
+use Rattle.qimg_chain.specs.declared.script.line.Line.{Line}
 use Rattle.qimg_chain.specs.ScriptLimits.{most_bytes, most_lines, AreAnswered, EndsBetween, IsAnswerCount}
+use Rattle.qimg_chain.specs.ScriptReads.{ReadsNext}
 use Rattle.qimg_chain.specs.ScriptRuns.{IsReadingFault, IsTellingFault}
 use Rattle.qimg_chain.proofs.ScriptLines.{CutAlike, line-within, lines-step, through-joined, through-none}
 
@@ -61,38 +64,40 @@ none-taken room [] is = refl
 none-taken room (b ∷ rest) is = cc (rw (add-one) at is)
 
 -- the script has no more lines
-pub read-all : (input left : Option (List ℕ)) (room : ℕ) (texts : List (List ℕ)) (line : List ℕ) (saved : Option (List ℕ)) → ReadSoFar input left room texts
-    → IfSome left (λ xs. line ≡ take_through 10 xs) → lines line ≡ [] → IfSome input (λ bytes. AreAnswered (Ok saved) bytes texts)
-read-all None left room texts line saved so_far is none = tt
-read-all (Some bytes) left room texts line saved r is none =
-    let seen : line ≡ take_through 10 (take (room + 1) r.rest) = rw (r.left_is) at is in
+pub read-all : (input left rest : Option (List ℕ)) (room less : ℕ) (texts : List (List ℕ)) (saved : Option (List ℕ)) → ReadSoFar input left room texts
+    → ReadsNext left rest room less None → IfSome input (λ bytes. AreAnswered (Ok saved) bytes texts)
+read-all None left rest room less texts saved so_far read = tt
+read-all (Some bytes) left rest room less texts saved r read =
+    let seen : read.bytes ≡ take_through 10 (take (room + 1) r.rest) = rw (r.left_is) at read.are in
     record {
       before = r.before;
       rest = r.rest;
       parts = r.parts;
       first = r.first;
       short = omega (arith, r.size);
-      ends = none-taken room r.rest (through-none (take (room + 1) r.rest) (rw (seen) at none));
+      ends = none-taken room r.rest (through-none (take (room + 1) r.rest) (rw (seen) at read.next));
     }
 
 -- the script has one more line, within its bytes
-pub read-more : (input left : Option (List ℕ)) (room less : ℕ) (texts : List (List ℕ)) (line one more : List ℕ) → ReadSoFar input left room texts
-    → IfSome left (λ xs. line ≡ take_through 10 xs) → length line + less ≡ room → lines line ≡ one ∷ lines more
-    → IfSome input (λ bytes. AreAnswered (Err run_fault.Lines) bytes texts)
-read-more None left room less texts line one more so_far is fewer first = tt
-read-more (Some bytes) left room less texts line one more r is fewer first =
-    let read = next-line bytes line left room less texts r is fewer in
+pub read-more : (input left rest : Option (List ℕ)) (room less : ℕ) (texts : List (List ℕ)) (taken : Result Line Fault) → ReadSoFar input left room texts
+    → ReadsNext left rest room less (Some taken) → IfSome input (λ bytes. AreAnswered (Err run_fault.Lines) bytes texts)
+read-more None left rest room less texts taken so_far read = tt
+read-more (Some bytes) left rest room less texts taken r read =
+    let one = next-line bytes read.bytes left room less texts r read.are read.fits in
     record {
       before = r.before;
       rest = r.rest;
       parts = r.parts;
       first = r.first;
       short = omega (arith, r.size);
-      ends = (some r.rest (rw (read.0) at first), omega (arith, length-append r.before (take_through 10 r.rest), ap length read.0, r.size, fewer));
+      ends = (
+        some r.rest read.next.text read.next.rest (rw (one.0) at read.next.first),
+        omega (arith, length-append r.before (take_through 10 r.rest), ap length one.0, r.size, read.fits),
+      );
     }
   where
-    some : (rest : List ℕ) → lines (take_through 10 rest) ≡ one ∷ lines more → rest ≢ []
-    some rest e none = absurd (cc (rw (none) at e))
+    some : (rest one more : List ℕ) → lines (take_through 10 rest) ≡ one ∷ lines more → rest ≢ []
+    some rest one more e none = absurd (cc (rw (none) at e))
 
 -- what ends a script early behind so many lines is no limit of theirs
 pub record EndsEarly (fault : RunFault) (n : ℕ) : Type 0 where

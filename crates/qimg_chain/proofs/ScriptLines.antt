@@ -1,12 +1,15 @@
 -- The lines of a text, cut behind its first line feed.
-use Rattle.std.proofs.Common.{◌≡◌, ◌⊎◌, inl, inr, ℕ, zero, suc, ◌-◌, ◌<◌, ◌∙◌, Bool, true, false, List, [], ◌∷◌, ◌++◌, length, take, refl, ap, sym, arith}
+use Rattle.std.proofs.Common.{◌≡◌, ◌≢◌, ◌⊎◌, inl, inr, All, ℕ, zero, suc, ◌+◌, ◌-◌, ◌<◌, ◌∙◌, Bool, true, false, List, [], ◌∷◌, ◌++◌, length, take, refl, ap, sym, arith}
 use Rattle.std.specs.Prelude.{◌==◌}
 use Rattle.std.specs.List.{slice_split, onto_first}
 use Rattle.std.specs.Io.BufRead.{take_through, drop_through}
 use Rattle.std.specs.Str.Lines.{lines, lines_of_parts, strip_carriage_return}
 use Rattle.std.proofs.lemmas.List.Splits.{length-slice_split}
 use borrow.Author.Tests.{eqb-true}
-use Rattle.qimg_chain.proofs.ScriptParting.{lines_go_on}
+use Rattle.std.specs.Io.{IsEmptyOrEndsWith, StopsAt}
+use Rattle.std.proofs.lemmas.Bool.{ne_eqb}
+use Rattle.std.proofs.lemmas.List.{take_all, take_more}
+use Rattle.qimg_chain.proofs.ScriptParting.{line_here, lines_go_on}
 
 abbrev parts : List ℕ → List (List ℕ)
 parts text = slice_split (λ b. b == 10) text
@@ -87,3 +90,19 @@ through-none text is = elim (cut text) [
         some : (t : Bool) → (length (b ∷ whole) == 0) ≡ t → b ∷ whole ≡ []
         some true is = absurd (omega (arith, eqb-true (length (b ∷ whole)) 0 is))
         some false is = cc (rw (is) at e)
+
+-- what stands before the one line feed of a line that ends with it
+split-front : (front : List ℕ) → All (λ b. b ≢ 10) front → parts (front ++ 10 ∷ []) ≡ front ∷ parts []
+split-front [] none = refl
+split-front (b ∷ front) none =
+    let other : (b == 10) ≡ false = ne_eqb b 10 (none 0 0 (omega arith)) in
+    rw (other) (ap (onto_first b) (split-front front (λ i d inside. none (suc i) d (omega (arith, inside)))))
+
+-- a line with its end is that line alone
+pub lone-line : (bytes : List ℕ) → 0 < length bytes → StopsAt bytes 10 → IsEmptyOrEndsWith bytes 10
+    → lines bytes ≡ strip_carriage_return (take (length bytes - 1) bytes) ∷ lines []
+lone-line bytes some stops ends =
+    let front = take (length bytes - 1) bytes in
+    let whole : front ++ 10 ∷ [] ≡ bytes = ap (λ b. front ++ b ∷ []) (sym (ends some))
+    ∙ (sym (take_more bytes (length bytes - 1) 0 (omega (arith, some))) ∙ take_all (length bytes - 1 + 1) bytes (omega (arith, some))) in
+    line_here bytes front [] (sym (ap parts whole) ∙ split-front front stops)

@@ -3,9 +3,8 @@ use Rattle.std.proofs.Common.{◌≡◌, ℕ, ◌+◌, ◌∙◌, List, [], ◌�
 use Rattle.std.proofs.lemmas.List.{append-nil}
 use mathlib.Core.List.{append_assoc}
 use Rattle.std.specs.Prelude.{map, Option, Some, None, IfSome, OnOk, Result, Ok, Err}
-use Rattle.std.specs.Io.BufRead.{take_through, DropsThrough}
 use Rattle.std.specs.Io.KnownBytes.{Appends}
-use Rattle.std.specs.Str.Lines.{lines}
+use Rattle.imago_storage.specs.declared.fault.Fault.{Fault}
 use Rattle.imago_access.specs.declared.seen.Seen.{Ghosts}
 use Rattle.imago_access.specs.Layer.{IsFree}
 use Rattle.imago_access.specs.Stops.{IsCovered}
@@ -17,8 +16,12 @@ use Rattle.qimg_calls.proofs.Alone.{alone-both, driven-alone}
 use Rattle.qimg_chain.specs.declared.run.fault.RunFault.{RunFault}
 use Rattle.qimg_chain.specs.declared.run.fault.RunFault.TheVariants as run_fault
 use Rattle.qimg_chain.specs.ScriptAnswers.{answer_text}
+use Rattle.qimg_chain.specs.declared.script.answer.Answer.{Answer}
+use Rattle.qimg_chain.specs.declared.script.line.Line.{Line}
+use Rattle.qimg_chain.specs.RunCalls.{Turn}
 use Rattle.qimg_chain.specs.ScriptLimits.{AreAnswered, IsAnswerCount, most_bytes}
-use Rattle.qimg_chain.specs.ScriptRuns.{AreWritten, IsTellingFault, Reply, Standing, standing, Replies, RunsAll, Scripted, calls_of, answers_of, text_of}
+use Rattle.qimg_chain.specs.ScriptReads.{IsTakenAs, ReadsNext}
+use Rattle.qimg_chain.specs.ScriptRuns.{AreWritten, IsTellingFault, Reply, Standing, reply, standing, Replies, RunsAll, Scripted, calls_of, answers_of, text_of}
 use Rattle.qimg_chain.proofs.ScriptBytes.{EndsEarly, ReadSoFar, read-cut, read-then}
 
 abbrev pub text : Reply → List ℕ
@@ -121,28 +124,38 @@ module _ {D St : Type 0} (g : Ghosts D St) (names : D → ℕ → List ℕ) wher
     written = append-none before;
   }
 
+-- what a text is answered with that is taken so
+abbrev pub AnswersTaken : {D St : Type 0} → Ghosts D St → (D → ℕ → List ℕ) → Result Line Fault → Answer → Standing D → Standing D → Type 0
+AnswersTaken g names taken answer now new = (text : List ℕ) → IsTakenAs text taken → (turn : Turn) × Replies g names (reply text turn answer) now new
+
 -- one more line is read and made
 unfoldable pub made-then : {D St : Type 0} {g : Ghosts D St} {names : D → ℕ → List ℕ} {input left : Option (List ℕ)} {room count : ℕ} {old : D × List D} {now : Standing D}
-    → (next : Option (List ℕ)) (less : ℕ) (new : Standing D) (r : Reply) (line rest : List ℕ) → MadeSoFar g names input left room count old now
-    → IfSome left (λ bytes. line ≡ take_through 10 bytes) → DropsThrough left next 10 → length line + less ≡ room → lines line ≡ r.text ∷ lines rest → Replies g names r now new
-    → MadeSoFar g names input next less (count + 1) old new
-made-then {g = g} {names = names} {input = input} {left = left} {room = room} {count = count} {old = old} {now = now} next less new r line rest made is drops fewer first one = record {
-  rests = made.rests;
-  replies = made.replies ++ r ∷ [];
-  runs = runs-then g names made.replies r (standing old None) now new made.runs one;
-  read = subst (ReadSoFar input next less) (sym (map-then made.replies r)) (read-then input left next room less (map text made.replies) line r.text rest made.read is drops fewer first);
-  counted = length-then made.replies r count made.counted;
-}
+    → (next : Option (List ℕ)) (less : ℕ) (new : Standing D) (taken : Result Line Fault) (answer : Answer) → MadeSoFar g names input left room count old now
+    → ReadsNext left next room less (Some taken) → AnswersTaken g names taken answer now new → MadeSoFar g names input next less (count + 1) old new
+made-then {g = g} {names = names} {input = input} {left = left} {room = room} {count = count} {old = old} {now = now} next less new taken answer made read answers =
+    let first = read.next in
+    let one = answers first.text first.taken in
+    let r = reply first.text one.0 answer in
+    record {
+      rests = made.rests;
+      replies = made.replies ++ r ∷ [];
+      runs = runs-then g names made.replies r (standing old None) now new made.runs one.1;
+      read = subst (ReadSoFar input next less) (sym (map-then made.replies r))
+          (read-then input left next room less (map text made.replies) read.bytes first.text first.rest made.read read.are read.drops read.fits first.first);
+      counted = length-then made.replies r count made.counted;
+    }
 
 -- and its answer is written
 pub ran-then : {D St : Type 0} {g : Ghosts D St} {names : D → ℕ → List ℕ} {io : Streams} {count : ℕ} {old : D × List D} {now : Standing D}
-    → (next last : Option (List ℕ)) (less : ℕ) (new : Standing D) (r : Reply) (line rest : List ℕ) → RanSoFar g names io count old now
-    → IfSome io.left (λ bytes. line ≡ take_through 10 bytes) → DropsThrough io.left next 10 → length line + less ≡ io.room → lines line ≡ r.text ∷ lines rest → Replies g names r now new
-    → Appends io.after last (answer_text r.answer ++ 10 ∷ []) → RanSoFar g names (record io { left = next; room = less; after = last }) (count + 1) old new
+    → (next last : Option (List ℕ)) (less : ℕ) (new : Standing D) (taken : Result Line Fault) (answer : Answer) → RanSoFar g names io count old now
+    → ReadsNext io.left next io.room less (Some taken) → AnswersTaken g names taken answer now new
+    → Appends io.after last (answer_text answer ++ 10 ∷ []) → RanSoFar g names (record io { left = next; room = less; after = last }) (count + 1) old new
 unfolding made-then
-ran-then {io = io} next last less new r line rest ran is drops fewer first one tells = record {
-  made = made-then next less new r line rest ran.made is drops fewer first one;
-  written = subst (Appends io.before last) (sym (text-then ran.made.replies r)) (append-both io.before io.after last (text_of ran.made.replies) (answer_text r.answer ++ 10 ∷ []) ran.written tells);
+ran-then {io = io} next last less new taken answer ran read answers tells = record {
+  made = made-then next less new taken answer ran.made read answers;
+  written =
+      let r = reply read.next.text (answers read.next.text read.next.taken).0 answer in
+      subst (Appends io.before last) (sym (text-then ran.made.replies r)) (append-both io.before io.after last (text_of ran.made.replies) (answer_text answer ++ 10 ∷ []) ran.written tells);
 }
 
 -- what a script does that was run so far, and ends so

@@ -18,6 +18,7 @@ pub mod Script
 pub mod ScriptAnswers
 pub mod ScriptLimits
 pub mod ScriptParts
+pub mod ScriptReads
 pub mod ScriptRuns
 pub mod ScriptWords
 pub mod Snapshots

@@ -1,7 +1,6 @@
--- How much of a script is read: its limits, which of its lines are run, and how a line is read part by part.
-use Rattle.std.specs.Prelude.{◌≡◌, ◌≢◌, ⊤, ℕ, ◌<◌, ◌≤◌, All, Bool, true, false, List, [], ◌++◌, length, IfSome, Option, Result, Ok, Err}
-use Rattle.std.specs.Io.BufRead.{DropsThrough, take_through}
-use Rattle.std.specs.Io.KnownBytes.{Consumes}
+-- How much of a script is read: its limits, and which of its lines are run.
+use Rattle.std.specs.Prelude.{◌≡◌, ◌≢◌, ⊤, ℕ, ◌<◌, ◌≤◌, List, [], ◌++◌, length, Option, Result, Ok, Err}
+use Rattle.std.specs.Io.BufRead.{take_through}
 use Rattle.std.specs.Str.Lines.{lines}
 use Rattle.qimg_chain.specs.declared.run.fault.RunFault.{RunFault}
 use Rattle.qimg_chain.specs.declared.run.fault.RunFault.TheVariants as run_fault
@@ -34,11 +33,3 @@ pub record AreAnswered (result : Result (Option (List ℕ)) RunFault) (bytes : L
   pub first : lines bytes ≡ texts ++ lines rest
   pub short : length before ≤ most_bytes
   pub ends : EndsBetween result before rest
-
--- A reader's next bytes are appended: some without a line feed, or the rest of its line.
-pub record ReadsPart (left rest : Option (List ℕ)) (old new : List ℕ) (ended : Bool) : Type 0 where
-  pub part : List ℕ
-  pub appended : new ≡ old ++ part
-  pub taken : Consumes left rest part
-  pub goes_on : ended ≡ false → All (λ b. b ≢ 10) part
-  pub ends : ended ≡ true → IfSome left (λ bytes. part ≡ take_through 10 bytes) × DropsThrough left rest 10

@@ -1,13 +1,12 @@
 //! A script is run over a chain of layers: line by line, with an answer to each. A layer is a node of qemu's backing chain. Scripts are
 //! much as those of `qemu-io`, and imago has none.
-ghost use Rattle.std.specs.Prelude.{◌≡◌, ◌+◌, ◌∷◌, ◌++◌, [], length, IfErr, IfSome, OnOk};
-ghost use Rattle.std.specs.Io.BufRead.{take_through, DropsThrough};
+ghost use Rattle.std.specs.Prelude.{◌≡◌, ℕ, List, ◌∷◌, ◌++◌, [], IfErr, OnOk};
 ghost use Rattle.std.specs.Io.KnownBytes.{Appends};
-ghost use Rattle.std.specs.Io.Take.{take_remaining};
 ghost use Rattle.imago_access.specs.Layer.{IsFree};
 ghost use Rattle.qimg_chain.specs.RunCalls.{Turn};
 ghost use Rattle.qimg_chain.specs.ScriptAnswers.{answer_text};
-ghost use Rattle.qimg_chain.specs.ScriptRuns.{ending, items_of, kept_of, reply, standing, IsReadingFault, IsTellingFault, Replies, Scripted};
+ghost use Rattle.qimg_chain.specs.ScriptReads.{IsTakenAs};
+ghost use Rattle.qimg_chain.specs.ScriptRuns.{ending, items_of, kept_of, reply, standing, IsTellingFault, Replies, Scripted};
 
 mod answers;
 mod calls;
@@ -18,16 +17,16 @@ mod reading;
 mod saved;
 
 use crate::chain::NamesFiles;
-use crate::script::{Answer, parse_line, split_line};
+use crate::script::{Answer, Line};
 pub use answers::answer_line;
 pub use fault::RunFault;
 use imago_access::{FormatAccess, FormatDriverInstance};
-use imago_storage::MemStorage;
+use imago_storage::{Fault, MemStorage};
 pub use opened::{ScriptFault, run_files};
-use reading::read_line;
+use reading::next_line;
 pub use saved::Saved;
 use std::alloc::Global;
-use std::io::{BufRead, Take, Write};
+use std::io::{BufRead, Write};
 
 /// The most lines of a script.
 const MOST_LINES: u32 = 1_048_576;
@@ -35,39 +34,20 @@ const MOST_LINES: u32 = 1_048_576;
 /// The most bytes of a script.
 const MOST_BYTES: u64 = 137_438_953_472;
 
-/// Reads the next line with its end, where there is room for its bytes, and takes these off the room. Nothing is read behind the last line.
-fn next_line<R: BufRead>(
-    input: &mut Take<R>,
-    line: &mut Vec<u8>,
-    room: &mut u64,
-) -> Result<(), RunFault>
-    ensures line { OnOk result (IfSome (take_remaining R.remaining input.old) (λ bytes. line.new.items ≡ take_through 10 bytes)) }
-    ensures rest { OnOk result (DropsThrough (take_remaining R.remaining input.old) (take_remaining R.remaining input.new) 10) }
-    ensures room { OnOk result (length line.new.items + room.new ≡ room.old) }
-    ensures err { IfErr result IsReadingFault }
-{
-    read_line(input, line)?;
-    if line.len() as u64 > *room {
-        return Err(RunFault::Read);
-    }
-    *room -= line.len() as u64;
-    Ok(())
-}
-
-/// The answer to a line, which comes without its end.
+/// The answer to a text, by what it is taken as.
 fn answer_to<D: FormatDriverInstance<Storage = MemStorage> + NamesFiles>(
     alloc: Global,
     chain: &mut FormatAccess<D>,
-    text: &[u8],
+    taken: Result<Line, Fault>,
     saved: &mut Saved,
 ) -> Answer
     requires free { IsFree (D.layer chain.old.0) }
     ensures free { IsFree (D.layer chain.new.0) }
-    ensures replied { (turn : Turn)
-        × Replies D.Seen D.names (reply text.now turn result) (standing chain.old (kept_of (D.image chain.old.0).bytes saved.old))
+    ensures replied { (text : List ℕ) → IsTakenAs text taken → (turn : Turn)
+        × Replies D.Seen D.names (reply text turn result) (standing chain.old (kept_of (D.image chain.old.0).bytes saved.old))
         (standing chain.new (kept_of (D.image chain.new.0).bytes saved.new)) }
 {
-    match parse_line(alloc, text) {
+    match taken {
         Ok(line) => answer_line(alloc, chain, line, saved),
         Err(fault) => Answer::Refused(fault),
     }
@@ -102,15 +82,13 @@ fn run_lines<
     let mut room = MOST_BYTES;
     let mut saved = Saved::Nothing;
     for _ in 0..MOST_LINES {
-        next_line(&mut input, &mut line, &mut room)?;
-        let Some((text, _)) = split_line(&line) else {
+        let Some(taken) = next_line(alloc, &mut input, &mut line, &mut room)? else {
             return Ok(saved);
         };
-        let answer = answer_to(alloc, chain, text, &mut saved);
+        let answer = answer_to(alloc, chain, taken, &mut saved);
         tell(alloc, writer, &answer)?;
     }
-    next_line(&mut input, &mut line, &mut room)?;
-    match split_line(&line) {
+    match next_line(alloc, &mut input, &mut line, &mut room)? {
         Some(_) => Err(RunFault::Lines),
         None => Ok(saved),
     }

@@ -29,4 +29,5 @@ mod words;
 pub use answer::Answer;
 pub use bytes::Bytes;
 pub use input::split_line;
+pub(crate) use input::without_return;
 pub use line::{LONGEST_LINE, Line, parse_line};

@@ -2,12 +2,29 @@
 ghost use Rattle.std.specs.Prelude.{◌≡◌, ◌≢◌, ◌≤◌, [], length, take, All, IfOk, IfErr, IfSome, OnOk, IsTrue, IsFalse};
 ghost use Rattle.std.specs.Io.{IsEmptyOrEndsWith, StopsAt};
 ghost use Rattle.std.specs.Io.BufRead.{take_through, DropsThrough};
-ghost use Rattle.qimg_chain.specs.ScriptLimits.{ReadsPart};
+ghost use Rattle.qimg_chain.specs.ScriptReads.{IsNext, ReadsNext, ReadsPart, ReadsShown};
 ghost use Rattle.qimg_chain.specs.ScriptRuns.{IsReadingFault};
 
 use super::fault::RunFault;
+use crate::script::{Line, parse_line, split_line, without_return};
+use imago_storage::Fault;
 use memchr::memchr;
-use std::io::{BufRead, ErrorKind};
+use std::alloc::Global;
+use std::io::{BufRead, Error, ErrorKind};
+
+/// What comes next in a script: what a text is taken as, or nothing where there is none.
+type Next = Option<Result<Line, Fault>>;
+
+/// How an error stops a script, if it does: a read that was interrupted is made again.
+fn stop_of(error: &Error) -> Option<RunFault>
+    ensures { IfSome result IsReadingFault }
+{
+    match error.kind() {
+        ErrorKind::Interrupted => None,
+        ErrorKind::OutOfMemory => Some(RunFault::Memory),
+        _ => Some(RunFault::Read),
+    }
+}
 
 /// How many of these bytes are of their first line, with its line feed, and whether it ends with them: there, or where there are none.
 fn line_part(bytes: &[u8]) -> (usize, bool)
@@ -30,10 +47,9 @@ fn read_part<R: BufRead>(input: &mut R, line: &mut Vec<u8>) -> Result<bool, RunF
 {
     let shown = match input.fill_buf() {
         Ok(shown) => shown,
-        Err(error) => return match error.kind() {
-            ErrorKind::Interrupted => Ok(false),
-            ErrorKind::OutOfMemory => Err(RunFault::Memory),
-            _ => Err(RunFault::Read),
+        Err(error) => return match stop_of(&error) {
+            Some(fault) => Err(fault),
+            None => Ok(false),
         },
     };
     let (count, ended) = line_part(shown);
@@ -43,9 +59,7 @@ fn read_part<R: BufRead>(input: &mut R, line: &mut Vec<u8>) -> Result<bool, RunF
 }
 
 /// Reads the next line with its end. Nothing is read behind the last one.
-///
-/// `RunFault::Read` where the reader fails, and `RunFault::Memory` for want of memory. A read that was interrupted is made again.
-pub fn read_line<R: BufRead>(input: &mut R, line: &mut Vec<u8>) -> Result<(), RunFault>
+fn read_line<R: BufRead>(input: &mut R, line: &mut Vec<u8>) -> Result<(), RunFault>
     ensures line { OnOk result (IfSome (R.remaining input.old) (λ bytes. line.new.items ≡ take_through 10 bytes)) }
     ensures rest { OnOk result (DropsThrough (R.remaining input.old) (R.remaining input.new) 10) }
     ensures err { IfErr result IsReadingFault }
@@ -57,4 +71,79 @@ pub fn read_line<R: BufRead>(input: &mut R, line: &mut Vec<u8>) -> Result<(), Ru
         }
     }
     Err(RunFault::Read)
+}
+
+/// What a line is taken as, which comes with its end.
+fn next_of(alloc: Global, line: &[u8]) -> Next
+    ensures { IsNext line.now result }
+{
+    match split_line(line) {
+        Some((text, _)) => Some(parse_line(alloc, text)),
+        None => None,
+    }
+}
+
+/// The same of what is known to be one line with its end, which isn't searched then.
+fn next_in(alloc: Global, line: &[u8]) -> Next
+    requires stops { StopsAt line.now 10 }
+    requires ends { IsEmptyOrEndsWith line.now 10 }
+    ensures { IsNext line.now result }
+{
+    if line.is_empty() {
+        return None;
+    }
+    Some(parse_line(alloc, without_return(&line[..line.len() - 1])))
+}
+
+/// Reads the next line where the reader shows it whole, which needs no copy of it. Else nothing is read.
+fn read_shown<R: BufRead>(
+    alloc: Global,
+    input: &mut R,
+    room: &mut u64,
+) -> Result<Option<Next>, RunFault>
+    ensures ok { IfOk result (ReadsShown (R.remaining input.old) (R.remaining input.new) room.old room.new) }
+    ensures err { IfErr result IsReadingFault }
+{
+    let shown = match input.fill_buf() {
+        Ok(shown) => shown,
+        Err(error) => return match stop_of(&error) {
+            Some(fault) => Err(fault),
+            None => Ok(None),
+        },
+    };
+    let (count, ended) = line_part(shown);
+    if !ended {
+        return Ok(None);
+    }
+    if count as u64 > *room {
+        return Err(RunFault::Read);
+    }
+    let next = next_in(alloc, &shown[..count]);
+    input.consume(count);
+    *room -= count as u64;
+    Ok(Some(next))
+}
+
+/// Reads the next line, where there is room for its bytes and its end, and takes these off the room. Nothing is read behind the last line.
+/// A line that the reader doesn't show whole is put together in `line`.
+///
+/// `RunFault::Read` where the reader fails or there is no room, and `RunFault::Memory` for want of memory.
+pub fn next_line<R: BufRead>(
+    alloc: Global,
+    input: &mut R,
+    line: &mut Vec<u8>,
+    room: &mut u64,
+) -> Result<Next, RunFault>
+    ensures ok { IfOk result (ReadsNext (R.remaining input.old) (R.remaining input.new) room.old room.new) }
+    ensures err { IfErr result IsReadingFault }
+{
+    if let Some(next) = read_shown(alloc, input, room)? {
+        return Ok(next);
+    }
+    read_line(input, line)?;
+    if line.len() as u64 > *room {
+        return Err(RunFault::Read);
+    }
+    *room -= line.len() as u64;
+    Ok(next_of(alloc, line))
 }

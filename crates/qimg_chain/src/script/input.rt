@@ -21,7 +21,7 @@ pub fn split_line(input: &[u8]) -> Option<(&[u8], &[u8])>
 }
 
 /// A line without the carriage return at its end.
-fn without_return(line: &[u8]) -> &[u8]
+pub(crate) fn without_return(line: &[u8]) -> &[u8]
     ensures { result.now ≡ strip_carriage_return line.now }
 {
     if line.is_empty() || line[line.len() - 1] != b'\r' {

@@ -1,7 +1,7 @@
-use Rattle.std.proofs.Common.{[], arith, ap, sym, subst, ◌∙◌, length, take, length-take-le}
+use Rattle.std.proofs.Common.{subst, take}
 use Rattle.std.specs.Io.BufRead.{FillKeeps}
-use Rattle.std.proofs.KnownBytes.{Consumes-nil}
-use Rattle.std.proofs.BufReadLemmas.{Consumes_shown, Consumes_through}
+use Rattle.std.proofs.BufReadLemmas.{Consumes_shown}
+use Rattle.qimg_chain.proofs.PartsRead.{through-read}
 use Rattle.qimg_chain.proofs.run.reading.read_part.Goals as goal
 
 pub returns-clause-ok : goal.returns-clause-ok
@@ -15,9 +15,5 @@ returns-clause-ok g c =
       appended = c.in_ok-extend_from_slice.ensures.items;
       taken = moved.0;
       goes_on = count.ensures.goes_on;
-      ends = λ is.
-          let whole = length-take-le count.result.0 c.in-Ok.shown.now count.ensures.inside in
-          Consumes_through 10 (g.R.Read.remaining c.args.input.now) (g.R.Read.remaining c.args.input.now) (g.R.Read.remaining c.consume.new.self) [] (take count.result.0 c.in-Ok.shown.now)
-          (Consumes-nil _) (λ i d lt. absurd (omega arith)) moved.0 (count.ensures.stops is) (count.ensures.ends is)
-          (λ none. moved.1 (ap length (count.ensures.none (sym whole ∙ none))));
+      ends = λ is. through-read (g.R.Read.remaining c.args.input.now) (g.R.Read.remaining c.consume.new.self) c.in-Ok.shown.now count.result.0 count.ensures.inside moved (count.ensures.stops is) (count.ensures.ends is) count.ensures.none;
     }

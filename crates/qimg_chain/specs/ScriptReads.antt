@@ -1,0 +1,45 @@
+-- How the lines of a script are read off its reader, and what each is taken as.
+use Rattle.std.specs.Prelude.{◌≡◌, ◌≢◌, ℕ, ◌+◌, All, Bool, true, false, List, [], ◌∷◌, ◌++◌, length, IfOk, IfErr, IfSome, Option, None, Some, Result}
+use Rattle.std.specs.Io.BufRead.{DropsThrough, take_through}
+use Rattle.std.specs.Io.KnownBytes.{Consumes, Keeps}
+use Rattle.std.specs.Str.Lines.{lines}
+use Rattle.imago_storage.specs.declared.fault.Fault.{Fault}
+use Rattle.qimg_chain.specs.Script.{IsLine, NotLine}
+use Rattle.qimg_chain.specs.declared.script.line.Line.{Line}
+
+-- A reader's next bytes are appended: some without a line feed, or the rest of its line.
+pub record ReadsPart (left rest : Option (List ℕ)) (old new : List ℕ) (ended : Bool) : Type 0 where
+  pub part : List ℕ
+  pub appended : new ≡ old ++ part
+  pub taken : Consumes left rest part
+  pub goes_on : ended ≡ false → All (λ b. b ≢ 10) part
+  pub ends : ended ≡ true → IfSome left (λ bytes. part ≡ take_through 10 bytes) × DropsThrough left rest 10
+
+-- what a text is taken as: the line that it is, or why it is none
+abbrev pub IsTakenAs : List ℕ → Result Line Fault → Type 0
+IsTakenAs text taken = IfOk taken (IsLine text) × IfErr taken (NotLine text)
+
+-- the first text of some bytes is taken so
+pub record IsFirst (bytes : List ℕ) (result : Result Line Fault) : Type 0 where
+  pub text : List ℕ
+  pub rest : List ℕ
+  pub first : lines bytes ≡ text ∷ lines rest
+  pub taken : IsTakenAs text result
+
+-- what comes next in a script, by the bytes of its next line: what its text is taken as, or nothing where there is no line
+abbrev pub IsNext : List ℕ → Option (Result Line Fault) → Type 0
+IsNext bytes None = lines bytes ≡ []
+IsNext bytes (Some taken) = IsFirst bytes taken
+
+-- A reader's next line is read, within the room that is left for a script's bytes.
+pub record ReadsNext (left rest : Option (List ℕ)) (room less : ℕ) (result : Option (Result Line Fault)) : Type 0 where
+  pub bytes : List ℕ
+  pub are : IfSome left (λ all. bytes ≡ take_through 10 all)
+  pub drops : DropsThrough left rest 10
+  pub fits : length bytes + less ≡ room
+  pub next : IsNext bytes result
+
+-- the same, or nothing is taken
+abbrev pub ReadsShown : (left rest : Option (List ℕ)) (room less : ℕ) → Option (Option (Result Line Fault)) → Type 0
+ReadsShown left rest room less None = Keeps left rest × (less ≡ room)
+ReadsShown left rest room less (Some result) = ReadsNext left rest room less result
