@@ -7,7 +7,7 @@ use Rattle.imago_storage.specs.declared.fault.Fault.TheVariants.{BadArgument, Me
 use Rattle.imago_access.specs.declared.format.Format.{Format}
 use Rattle.imago_access.specs.declared.format.Format.TheVariants.{Raw, Qcow2, Vmdk}
 use Rattle.qimg_chain.specs.declared.arguments.LayerArgument.{LayerArgument}
-use Rattle.qimg_chain.specs.Arguments.{AskedLayer, Asked, extra_words, format_word, layer_words, asked_words, AskFor, AreNoFile, IsExtras, IsLayer, WhyNotRead, SayNoLayers, AskForNone, extra_of, layer_of}
+use Rattle.qimg_chain.specs.Arguments.{AskedLayer, Asked, extra_words, format_word, layer_words, asked_words, AskFor, AreNoFile, IsExtras, IsLayer, WhyNotRead, AskForNone, extra_of, layer_of}
 
 -- texts that are equal begin so
 heads : (a b : ℕ) (more others : List ℕ) → a ∷ more ≡ b ∷ others → a ≡ b
@@ -55,10 +55,6 @@ pub record FilesTaken (words rest : List (List ℕ)) (taken : List (List ℕ × 
   pub others : (extras : List (List ℕ × List ℕ)) (layers : List AskedLayer) → words ≡ flat_map extra_words extras ++ flat_map layer_words layers
       → (more : List (List ℕ × List ℕ)) × (rest ≡ flat_map extra_words more ++ flat_map layer_words layers)
 
--- none so far
-pub no-files : (words : List (List ℕ)) → FilesTaken words words []
-no-files words = record { words_are = refl; others = λ extras layers are. (extras, are) }
-
 -- one more
 pub files-more : (words after : List (List ℕ)) (taken : List (List ℕ × List ℕ)) (name path : List ℕ) → FilesTaken words (codes "file" ∷ name ∷ path ∷ after) taken
     → FilesTaken words after (taken ++ (name, path) ∷ [])
@@ -85,10 +81,6 @@ pub record LayersTaken (words rest : List (List ℕ)) (taken : List AskedLayer) 
   pub words_are : words ≡ flat_map layer_words taken ++ rest
   pub others : (layers : List AskedLayer) → words ≡ flat_map layer_words layers → (more : List AskedLayer) × (rest ≡ flat_map layer_words more)
 
--- none so far
-pub no-layers : (words : List (List ℕ)) → LayersTaken words words []
-no-layers words = record { words_are = refl; others = λ layers are. (layers, are) }
-
 -- one more
 pub layers-more : (words rest left : List (List ℕ)) (taken : List AskedLayer) (layer : AskedLayer) → LayersTaken words rest taken → IsLayer rest layer left → LayersTaken words left (taken ++ layer ∷ [])
 layers-more words rest left taken layer before is = record {
@@ -110,11 +102,6 @@ layers-more words rest left taken layer before is = record {
 -- the words end, or the rest isn't layers: so the words are these layers, or none
 pub layers-end : (words rest : List (List ℕ)) (taken : List AskedLayer) → LayersTaken words rest taken → rest ≡ [] → words ≡ flat_map layer_words taken
 layers-end words rest taken all none = all.words_are ∙ (ap (λ behind. flat_map layer_words taken ++ behind) none ∙ append-nil (flat_map layer_words taken))
-
-pub no-more-layers : (words rest : List (List ℕ)) (taken : List AskedLayer) (fault : Fault) → LayersTaken words rest taken → SayNoLayers rest fault → AskForNone words fault
-no-more-layers words rest taken BadArgument all none = λ layers some are. let more = all.others layers are in none more.0 more.1
-no-more-layers words rest taken Memory all none = tt
-no-more-layers words rest taken fault all none = none
 
 -- none at all
 pub no-layer : (words : List (List ℕ)) → words ≡ [] → (layers : List AskedLayer) → layers ≢ [] → words ≡ flat_map layer_words layers → ⊥
@@ -139,22 +126,6 @@ pub two-words : {A : Type 0} (now : A → List ℕ) (xs : List A) (at : ℕ) (a 
 two-words now xs at a b first second lt =
     word-there now xs at a first (omega arith)
     ∙ (ap (λ ws. now a ∷ ws) (word-there now xs (at + 1) b second lt) ∙ ap (λ k. now a ∷ now b ∷ map now (drop k xs)) (omega arith))
-
-pub three-words : {A : Type 0} (now : A → List ℕ) (xs : List A) (at : ℕ) (a b c : A) → a ≡ get_or xs at a → b ≡ get_or xs (at + 1) b → c ≡ get_or xs (at + 2) c → at + 2 < length xs
-    → map now (drop at xs) ≡ now a ∷ now b ∷ now c ∷ map now (drop (at + 3) xs)
-three-words now xs at a b c first second third lt =
-    two-words now xs at a b first second (omega arith)
-    ∙ (ap (λ ws. now a ∷ now b ∷ ws) (word-there now xs (at + 2) c third lt) ∙ ap (λ k. now a ∷ now b ∷ now c ∷ map now (drop k xs)) (omega arith))
-
--- fewer than three are no file, and less than two behind the first are one word
-pub few-no-file : {A : Type 0} (now : A → List ℕ) (xs : List A) (at : ℕ) → at ≤ length xs → length xs - at < 3 → AreNoFile (map now (drop at xs))
-few-no-file now xs at inside few name path behind is =
-    let long : length (map now (drop at xs)) ≡ length (codes "file" ∷ name ∷ path ∷ behind) = ap length is in
-    let short : length (map now (drop at xs)) ≡ length xs - at = length-map (drop at xs) now ∙ length-drop at xs in
-    omega (arith, long, short)
-
-pub other-no-file : (word : List ℕ) (behind : List (List ℕ)) → (word ≡ codes "file" → ⊥) → AreNoFile (word ∷ behind)
-other-no-file word behind none name path more is = let first : word ≡ codes "file" = cc in none first
 
 pub few-no-layer : {A : Type 0} (now : A → List ℕ) (xs : List A) (at : ℕ) → at < length xs → length xs - at < 2 → (layers : List AskedLayer) → map now (drop at xs) ≡ flat_map layer_words layers → ⊥
 few-no-layer now xs at inside few layers are =

@@ -1,82 +1,19 @@
 -- The calls that lines of a script ask for, and their answers.
-use Rattle.std.proofs.Common.{◌≡◌, inl, inr, ℕ, List, [], ◌∷◌, refl, sym, subst, ap}
-use Rattle.std.specs.Prelude.{None, Some, IsFalse, IsSome, IsTrue}
+use Rattle.std.proofs.Common.{◌≡◌, inl, inr, ℕ, List, [], ◌∷◌, refl, ap}
+use Rattle.std.specs.Prelude.{None, Some, IsTrue}
 use Rattle.imago_storage.specs.declared.fault.Fault.{Fault}
 use Rattle.imago_storage.specs.declared.fault.Fault.TheVariants.{Memory}
 use Rattle.imago_access.specs.declared.seen.Seen.{Ghosts}
-use Rattle.qimg_calls.specs.Calls.{Fits, is_of_mapping}
 use Rattle.qimg_calls.specs.Making.{AnswersAlone}
 use Rattle.qimg_calls.specs.declared.call.Call.{Call}
 use Rattle.qimg_calls.specs.declared.call.Answer.{Answer as CallAnswer}
-use Rattle.qimg_calls.specs.declared.call.Answer.TheVariants as answers
 use Rattle.qimg_calls.specs.Held.{holding}
 use Rattle.qimg_chain.specs.RunAnswers.{Answered, IsShort, TellsLine}
 use Rattle.qimg_chain.specs.RunCalls.{IsCallOf, TellsCall, Turn, asks_for_call, one, told_of, unmade}
 use Rattle.qimg_chain.specs.declared.script.answer.Answer.{Answer}
 use Rattle.qimg_chain.specs.declared.script.answer.Answer.TheVariants as told
 use Rattle.qimg_chain.specs.declared.script.line.Line.{Line}
-use Rattle.qimg_chain.specs.declared.script.line.Line.TheVariants.{Size, Read, Write, Zero, Discard, DiscardAny, DiscardBacking, Grow, Shrink, Flush, Check, Plain, Save}
-
--- no call of a script is one of a mapping
-pub other-call : (line : Line) (call : Call) → IsCallOf line call → IsFalse (is_of_mapping call)
-other-call (Read offset n) call is = subst (λ c. IsFalse (is_of_mapping c)) (sym is) refl
-other-call (Write offset bytes) call is = subst (λ c. IsFalse (is_of_mapping c)) (sym is.2) refl
-other-call (Zero offset n) call is = subst (λ c. IsFalse (is_of_mapping c)) (sym is) refl
-other-call (Discard offset n) call is = subst (λ c. IsFalse (is_of_mapping c)) (sym is) refl
-other-call (DiscardAny offset n) call is = subst (λ c. IsFalse (is_of_mapping c)) (sym is) refl
-other-call (DiscardBacking offset n) call is = subst (λ c. IsFalse (is_of_mapping c)) (sym is) refl
-other-call (Grow size mode) call is = subst (λ c. IsFalse (is_of_mapping c)) (sym is) refl
-other-call (Shrink size) call is = subst (λ c. IsFalse (is_of_mapping c)) (sym is) refl
-other-call (Flush) call is = subst (λ c. IsFalse (is_of_mapping c)) (sym is) refl
-other-call (Save) call is = subst (λ c. IsFalse (is_of_mapping c)) (sym is) refl
-other-call Size call is = absurd is
-other-call Check call is = absurd is
-other-call (Plain offset n) call is = absurd is
-
--- nor is one answered with a mapping: what it is answered with can be told
-pub known-answer : (line : Line) (call : Call) (answer : CallAnswer) → IsCallOf line call → Fits call answer → IsSome (told_of answer)
-known-answer line call answers.Done is fits = refl
-known-answer line call (answers.Bytes bytes) is fits = refl
-known-answer line call (answers.Refused fault) is fits = refl
-known-answer (Read offset n) call (answers.Mapped mapping count) is fits = absurd (subst (λ c. Fits c (answers.Mapped mapping count)) is fits)
-known-answer (Read offset n) call (answers.Shallow mapping count) is fits = absurd (subst (λ c. Fits c (answers.Shallow mapping count)) is fits)
-known-answer (Read offset n) call (answers.Prepared storage place count state) is fits = absurd (subst (λ c. Fits c (answers.Prepared storage place count state)) is fits)
-known-answer (Write offset bytes) call (answers.Mapped mapping count) is fits = absurd (subst (λ c. Fits c (answers.Mapped mapping count)) is.2 fits)
-known-answer (Write offset bytes) call (answers.Shallow mapping count) is fits = absurd (subst (λ c. Fits c (answers.Shallow mapping count)) is.2 fits)
-known-answer (Write offset bytes) call (answers.Prepared storage place count state) is fits = absurd (subst (λ c. Fits c (answers.Prepared storage place count state)) is.2 fits)
-known-answer (Zero offset n) call (answers.Mapped mapping count) is fits = absurd (subst (λ c. Fits c (answers.Mapped mapping count)) is fits)
-known-answer (Zero offset n) call (answers.Shallow mapping count) is fits = absurd (subst (λ c. Fits c (answers.Shallow mapping count)) is fits)
-known-answer (Zero offset n) call (answers.Prepared storage place count state) is fits = absurd (subst (λ c. Fits c (answers.Prepared storage place count state)) is fits)
-known-answer (Discard offset n) call (answers.Mapped mapping count) is fits = absurd (subst (λ c. Fits c (answers.Mapped mapping count)) is fits)
-known-answer (Discard offset n) call (answers.Shallow mapping count) is fits = absurd (subst (λ c. Fits c (answers.Shallow mapping count)) is fits)
-known-answer (Discard offset n) call (answers.Prepared storage place count state) is fits = absurd (subst (λ c. Fits c (answers.Prepared storage place count state)) is fits)
-known-answer (DiscardAny offset n) call (answers.Mapped mapping count) is fits = absurd (subst (λ c. Fits c (answers.Mapped mapping count)) is fits)
-known-answer (DiscardAny offset n) call (answers.Shallow mapping count) is fits = absurd (subst (λ c. Fits c (answers.Shallow mapping count)) is fits)
-known-answer (DiscardAny offset n) call (answers.Prepared storage place count state) is fits = absurd (subst (λ c. Fits c (answers.Prepared storage place count state)) is fits)
-known-answer (DiscardBacking offset n) call (answers.Mapped mapping count) is fits = absurd (subst (λ c. Fits c (answers.Mapped mapping count)) is fits)
-known-answer (DiscardBacking offset n) call (answers.Shallow mapping count) is fits = absurd (subst (λ c. Fits c (answers.Shallow mapping count)) is fits)
-known-answer (DiscardBacking offset n) call (answers.Prepared storage place count state) is fits = absurd (subst (λ c. Fits c (answers.Prepared storage place count state)) is fits)
-known-answer (Grow size mode) call (answers.Mapped mapping count) is fits = absurd (subst (λ c. Fits c (answers.Mapped mapping count)) is fits)
-known-answer (Grow size mode) call (answers.Shallow mapping count) is fits = absurd (subst (λ c. Fits c (answers.Shallow mapping count)) is fits)
-known-answer (Grow size mode) call (answers.Prepared storage place count state) is fits = absurd (subst (λ c. Fits c (answers.Prepared storage place count state)) is fits)
-known-answer (Shrink size) call (answers.Mapped mapping count) is fits = absurd (subst (λ c. Fits c (answers.Mapped mapping count)) is fits)
-known-answer (Shrink size) call (answers.Shallow mapping count) is fits = absurd (subst (λ c. Fits c (answers.Shallow mapping count)) is fits)
-known-answer (Shrink size) call (answers.Prepared storage place count state) is fits = absurd (subst (λ c. Fits c (answers.Prepared storage place count state)) is fits)
-known-answer (Flush) call (answers.Mapped mapping count) is fits = absurd (subst (λ c. Fits c (answers.Mapped mapping count)) is fits)
-known-answer (Flush) call (answers.Shallow mapping count) is fits = absurd (subst (λ c. Fits c (answers.Shallow mapping count)) is fits)
-known-answer (Flush) call (answers.Prepared storage place count state) is fits = absurd (subst (λ c. Fits c (answers.Prepared storage place count state)) is fits)
-known-answer (Save) call (answers.Mapped mapping count) is fits = absurd (subst (λ c. Fits c (answers.Mapped mapping count)) is fits)
-known-answer (Save) call (answers.Shallow mapping count) is fits = absurd (subst (λ c. Fits c (answers.Shallow mapping count)) is fits)
-known-answer (Save) call (answers.Prepared storage place count state) is fits = absurd (subst (λ c. Fits c (answers.Prepared storage place count state)) is fits)
-known-answer Size call (answers.Mapped mapping count) is fits = absurd is
-known-answer Size call (answers.Shallow mapping count) is fits = absurd is
-known-answer Size call (answers.Prepared storage place count state) is fits = absurd is
-known-answer Check call (answers.Mapped mapping count) is fits = absurd is
-known-answer Check call (answers.Shallow mapping count) is fits = absurd is
-known-answer Check call (answers.Prepared storage place count state) is fits = absurd is
-known-answer (Plain offset n) call (answers.Mapped mapping count) is fits = absurd is
-known-answer (Plain offset n) call (answers.Shallow mapping count) is fits = absurd is
-known-answer (Plain offset n) call (answers.Prepared storage place count state) is fits = absurd is
+use Rattle.qimg_chain.specs.declared.script.line.Line.TheVariants.{Size, Read, Check, Plain}
 
 -- a line that asks for a call, and doesn't read too much, is answered by it
 pub line-tells : {D St : Type 0} (g : Ghosts D St) (names : D → ℕ → List ℕ) (line : Line) (turn : Turn) (answer : Answer) (c : D × List D) → IsTrue (asks_for_call line) → IsShort line → TellsCall line turn answer → TellsLine g names line turn answer c

@@ -104,10 +104,6 @@ copied_more items x names ss i name so_far lt there is =
     map-append (extra_bytes mem_state) items (x ∷ []) ∙ (λ j. so_far j ++ (is j ∷ []))
     ∙ ap (λ n. with_bytes (take i (map string_bytes names)) 1 ss ++ ((string_bytes name, file_bytes_in ss n) ∷ [])) same ∙ sym (bytes_more names 1 ss i name lt there)
 
--- all names
-pub copied_all : (names : List (String Global)) (ss : List StorageState) (i : ℕ) → length names ≤ i → with_bytes (take i (map string_bytes names)) 1 ss ≡ with_bytes (map string_bytes names) 1 ss
-copied_all names ss i past = ap (λ ns. with_bytes ns 1 ss) (take_all i (map string_bytes names) (omega (arith, past, length_map string_bytes names)))
-
 -- storages that have the bytes that others have
 with_kept : (names : List (List ℕ)) (k : ℕ) (ss ts : List StorageState) → ((n : ℕ) → file_bytes_in ts n ≡ file_bytes_in ss n) → with_bytes names k ts ≡ with_bytes names k ss
 with_kept [] k ss ts same = refl
@@ -165,13 +161,6 @@ module _ {D St : Type 0} (g : Ghosts D St) (names : D → ℕ → List ℕ) wher
   same_length f h [] (y ∷ ys) is = absurd (cc is)
   same_length f h (x ∷ xs) [] is = absurd (cc is)
   same_length f h (x ∷ xs) (y ∷ ys) is = let rest = same_length f h xs ys (same_rest (f x) (h y) (map f xs) (map h ys) is) in omega (arith, rest)
-
-  -- all layers
-  pub layers_all : (ds : List D) (layers : List LayerNames) (i : ℕ) → map said_names layers ≡ map (names_of g names) ds → length layers ≤ i
-      → take i (map (driver_bytes g names) ds) ≡ map (driver_bytes g names) ds
-  layers_all ds layers i is past =
-      let many = same_length said_names (names_of g names) layers ds is in
-      take_all i (map (driver_bytes g names) ds) (omega (arith, many, past, length_map (driver_bytes g names) ds))
 
 -- ---- Why files aren't copied.
 

@@ -33,12 +33,6 @@ bars false true e is = inr cc
 bars false false e is = absurd (cc is)
 
 module _ {E : Type 0} (h : Ghosts E PreparedMappingState) (d : E) where
-  by_bar : (e : Fault) (P : Fault → Type 0) → P Failed → P MissingData → barrier (h.layer d) ≡ Some e → P e
-  by_bar e P failed missing is = elim (bars (h.layer d).failed (h.layer d).fixed.missing e is) [
-    | inl one ↦ subst P (sym one) failed
-    | inr other ↦ subst P (sym other) missing
-  ]
-
   -- ---- Giving a mapping up.
 
   pub cancels : (m : PreparedDataMapping PreparedMappingState) (result : Result Unit (Fault × PreparedDataMapping PreparedMappingState))
