@@ -1,7 +1,8 @@
 // The lines of a script, as its reader shows them.
-ghost use Rattle.std.specs.Prelude.{◌≡◌, ◌≢◌, ◌≤◌, [], length, take, All, IfOk, IfErr, IfSome, OnOk, IsTrue, IsFalse};
+ghost use Rattle.std.specs.Prelude.{◌≡◌, ◌≢◌, ◌≤◌, [], length, take, All, IfOk, IfErr, IfSome, None, OnOk, Some, IsTrue, IsFalse};
 ghost use Rattle.std.specs.Io.{IsEmptyOrEndsWith, StopsAt};
 ghost use Rattle.std.specs.Io.BufRead.{take_through, DropsThrough};
+ghost use Rattle.std.specs.IoError.{error_kind};
 ghost use Rattle.qimg_chain.specs.ScriptReads.{IsNext, ReadsNext, ReadsPart, ReadsShown};
 ghost use Rattle.qimg_chain.specs.ScriptRuns.{IsReadingFault};
 
@@ -17,7 +18,10 @@ type Next = Option<Result<Line, Fault>>;
 
 /// How an error stops a script, if it does: a read that was interrupted is made again.
 fn stop_of(error: &Error) -> Option<RunFault>
-    ensures { IfSome result IsReadingFault }
+    ensures err { IfSome result IsReadingFault }
+    ensures again { result ≡ None → error_kind error.now ≡ ErrorKind.Interrupted }
+    ensures memory { error_kind error.now ≡ ErrorKind.OutOfMemory → result ≡ Some RunFault.Memory }
+    ensures interrupted { error_kind error.now ≡ ErrorKind.Interrupted → result ≡ None }
 {
     match error.kind() {
         ErrorKind::Interrupted => None,
@@ -73,7 +77,7 @@ fn read_line<R: BufRead>(input: &mut R, line: &mut Vec<u8>) -> Result<(), RunFau
     Err(RunFault::Read)
 }
 
-/// What a line is taken as, which comes with its end.
+/// What a line is taken as, which comes with its end if it has one, or nothing where there is no line.
 fn next_of(alloc: Global, line: &[u8]) -> Next
     ensures { IsNext line.now result }
 {
@@ -83,7 +87,7 @@ fn next_of(alloc: Global, line: &[u8]) -> Next
     }
 }
 
-/// The same of what is known to be one line with its end, which isn't searched then.
+/// The same of bytes that are one line with its line feed, or none: they aren't searched for it again.
 fn next_in(alloc: Global, line: &[u8]) -> Next
     requires stops { StopsAt line.now 10 }
     requires ends { IsEmptyOrEndsWith line.now 10 }
@@ -95,7 +99,7 @@ fn next_in(alloc: Global, line: &[u8]) -> Next
     Some(parse_line(alloc, without_return(&line[..line.len() - 1])))
 }
 
-/// Reads the next line where the reader shows it whole, which needs no copy of it. Else nothing is read.
+/// Reads the next line where the reader shows it whole, which needs no copy of it. Else none of it is taken.
 fn read_shown<R: BufRead>(
     alloc: Global,
     input: &mut R,
@@ -124,7 +128,8 @@ fn read_shown<R: BufRead>(
     Ok(Some(next))
 }
 
-/// Reads the next line, where there is room for its bytes and its end, and takes these off the room. Nothing is read behind the last line.
+/// Reads the next line, where there is room for its bytes and its end, and takes these off the room. It answers what the line's text is
+/// taken as, or `None` where the script has ended. Nothing is read behind the last line.
 /// A line that the reader doesn't show whole is put together in `line`.
 ///
 /// `RunFault::Read` where the reader fails or there is no room, and `RunFault::Memory` for want of memory.
