@@ -28,6 +28,7 @@ pub mod TableFacts
 pub mod Untouched
 pub mod TableSteps
 pub mod WordLists
+pub mod Chunks
 pub mod GrowthLemmas
 pub mod L2Words
 pub mod Conservation

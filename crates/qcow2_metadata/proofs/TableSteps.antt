@@ -81,6 +81,15 @@ padded_sound kind layout words n old = each_padded (λ x. IsTrue (word_sound kin
 pub padded_fit : (words : List ℕ) (n : ℕ) → AreFit words → AreFit (padded words n)
 padded_fit words n old = each_padded (λ x. x < 2 ^ 64) words n old (lit< tt)
 
+-- What holds of words and of those behind them holds of all.
+pub each_append : (P : ℕ → Type 0) (words behind : List ℕ) → EachWord P words → EachWord P behind → EachWord P (words ++ behind)
+each_append P words behind first second i inside =
+    let all : i < length words + length behind = omega (arith, length-append words behind, inside) in
+    elim (cases_lt i (length words)) [
+      | inl lt ↦ subst P (sym (get_or-append words behind 0 i lt)) (first i lt)
+      | inr ge ↦ subst P (sym (get_or-append_right words behind (length words) i 0 refl ge)) (second (i - length words) (omega (arith, all, ge)))
+    ]
+
 -- What each word keeps as it is copied, copies have.
 pub each_mapped : (P : ℕ → Type 0) (f : ℕ → ℕ) (words : List ℕ) → ((w : ℕ) → P w → P (f w)) → EachWord P words → EachWord P (map f words)
 each_mapped P f words keeps old i inside =

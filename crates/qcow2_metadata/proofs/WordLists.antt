@@ -1,11 +1,10 @@
 -- Lists of words, as the numbers that contracts see.
-use Rattle.std.proofs.Common.{◌≡◌, ◌∙◌, ◌+◌, ◌-◌, ◌*◌, ◌<◌, ◌≤◌, ap, arith, inl, inr, refl, subst, sym, ℕ, zero, suc, List, [], ◌∷◌, ◌++◌, length, map, take, drop}
+use Rattle.std.proofs.Common.{◌≡◌, ◌∙◌, ◌+◌, ◌-◌, ◌<◌, ◌≤◌, ap, arith, inl, inr, refl, subst, sym, ℕ, zero, suc, List, [], ◌∷◌, ◌++◌, length, map, take, drop}
 use Rattle.std.specs.Prelude.{replicate, slice_index, slice_set}
 use Rattle.std.proofs.lemmas.Bool.{cases_lt}
 use Rattle.std.specs.Int.{to_be_bytes, w64}
 use Rattle.std.proofs.lemmas.Grind.{flat_map-append, same_number_lists}
 use Rattle.std.proofs.lemmas.List.{append-nil, drop-drop, drop-replicate, get_or-set_other, get_or-set_same, length-map, map-append, map-set, take-replicate, take_more}
-use Rattle.imago_storage.proofs.Zeroes.{zero_at}
 use Rattle.qcow2_types.specs.Bytes.{Bytes, word}
 use Rattle.qcow2_types.specs.TableBytes.{table_bytes}
 use Rattle.qcow2_types.proofs.Numbers.NumberBytes.{taken-more}
@@ -26,12 +25,12 @@ module _ {E : Type 0} (word : E → ℕ) (words : List E → List ℕ) (each : (
   words_set es i e = each (slice_set es i e) ∙ (map-set word es i e ∙ ap (λ (ws : List ℕ). slice_set ws i (word e)) (sym (each es)))
 
   -- as many of a word that names nothing
-  pub clear-words : (n k : ℕ) (e : E) → word e ≡ 0 → slice_index (words (replicate n e)) k ≡ 0
-  clear-words n k e none = ap (λ (ws : List ℕ). slice_index ws k) (each (replicate n e) ∙ map-same n e none) ∙ zero_at n k
+  pub clear-words : (n : ℕ) (e : E) → word e ≡ 0 → words (replicate n e) ≡ replicate n 0
+  clear-words n e none = each (replicate n e) ∙ map-same n
     where
-      map-same : (n : ℕ) (e : E) → word e ≡ 0 → map word (replicate n e) ≡ replicate n 0
-      map-same zero e none = refl
-      map-same (suc n) e none = rw (none) (ap (λ (ws : List ℕ). 0 ∷ ws) (map-same n e none))
+      map-same : (n : ℕ) → map word (replicate n e) ≡ replicate n 0
+      map-same zero = refl
+      map-same (suc n) = rw (none) (ap (λ (ws : List ℕ). 0 ∷ ws) (map-same n))
 
 -- The first n of these words are those of a file.
 abbrev pub ArePut : Bytes → List ℕ → ℕ → Type 0

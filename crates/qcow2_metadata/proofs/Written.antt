@@ -93,7 +93,7 @@ place-none H f (Some x) none = absurd cc
 place-none H f None none = refl
 
 -- all of a list of the same length, overwritten
-pub overwritten : (new old : List ℕ) (n : ℕ) → n ≡ length old → length new ≡ length old → take n (new ++ drop (length new) old) ≡ new
+pub overwritten : {X : Type 0} (new old : List X) (n : ℕ) → n ≡ length old → length new ≡ length old → take n (new ++ drop (length new) old) ≡ new
 overwritten new old n is same = let n' : n ≡ length new = omega arith in ap (λ k. take k (new ++ drop (length new) old)) n' ∙ take-append_seam new (drop (length new) old)
 
 -- The fields have 72 bytes at least, and 104 at most.

@@ -2,7 +2,7 @@
 //
 // From the sections "Host cluster management" and "Cluster mapping" of the format: the words of a table are big-endian, and
 // stand in a row from the table's place on.
-ghost use Rattle.std.specs.Prelude.{◌≡◌, ℕ, ◌+◌, ◌-◌, ◌*◌, ◌/◌, ◌%◌, ◌^◌, ◌<◌, ◌≤◌, List, length, map, replicate, slice_index, OnOk, OnErr, IfOk, IfErr, IsErrOf, IsOkUnless, MatchOption, Some, None, true, false};
+ghost use Rattle.std.specs.Prelude.{◌≡◌, ℕ, ◌+◌, ◌-◌, ◌*◌, ◌/◌, ◌%◌, ◌^◌, ◌<◌, ◌≤◌, ◌↔◌, List, length, map, replicate, slice_index, OnOk, OnErr, IfOk, IfErr, IsErrOf, IsOkUnless, IsTrue, MatchOption, Some, None, true, false};
 ghost use Rattle.imago_storage.specs.Calls.{CountsFaults, Kept, Reads};
 ghost use Rattle.imago_storage.specs.State.{unit_of};
 ghost use Rattle.imago_storage.specs.Through.{IsAtOnce, Put, PutAtOnce};
@@ -217,6 +217,44 @@ pub trait Table: Sized {
     ghost few: { MAX_ENTRIES ≡ max_entries Self.InternalEntry.kind };
 }
 
+/// How many words are asked at once whether all are 0.
+const CHUNK_WORDS: usize = 64;
+
+/// Whether all bytes are 0.
+fn is_clear(bytes: &[u8]) -> bool
+    ensures { IsTrue result ↔ ((k : ℕ) → slice_index bytes.now k ≡ 0) }
+{
+    // The loop has no early exit, so that the compiler may take many bytes at a time.
+    let mut bits = 0;
+    for byte in bytes {
+        bits |= *byte;
+    }
+    bits == 0
+}
+
+/// Decodes the words that bytes represent, in an image with this header, into as many empty entries.
+fn decode<E: TableEntry>(bytes: &[u8], header: &Header, entries: &mut [E]) -> Result<(), Fault>
+    requires { E.words entries.old ≡ replicate (length bytes.now / 8) 0 }
+    ensures words { OnOk result (E.words entries.new ≡ words_in (bytes_of bytes.now) 0 (length bytes.now / 8)) }
+    ensures sound { OnOk result (AreSound E.kind (layout_of header.now.fields) (words_in (bytes_of bytes.now) 0 (length bytes.now / 8))) }
+    ensures fit { OnOk result (AreFit (words_in (bytes_of bytes.now) 0 (length bytes.now / 8))) }
+    ensures damaged { OnErr result (HasUnsound E.kind (layout_of header.now.fields)
+        (words_in (bytes_of bytes.now) 0 (length bytes.now / 8))) }
+    ensures refused { IsOkUnless result Fault.DamagedTable }
+{
+    // Most words of most tables are 0, as what stands there already.
+    if is_clear(bytes) {
+        return Ok(());
+    }
+    for index in 0..entries.len() {
+        let word = word_at(bytes, 8 * index);
+        if word != 0 {
+            entries[index] = E::try_from_plain(word, header)?;
+        }
+    }
+    Ok(())
+}
+
 /// The words that bytes represent, in an image with this header.
 fn entries_in<E: TableEntry>(alloc: Global, bytes: &[u8], header: &Header) -> Result<Vec<E>, Fault>
     ensures words { IfOk result (λ entries. E.words entries.items ≡ words_in (bytes_of bytes.now) 0 (length bytes.now / 8)) }
@@ -225,13 +263,12 @@ fn entries_in<E: TableEntry>(alloc: Global, bytes: &[u8], header: &Header) -> Re
     ensures refused { IfErr result (WhyNotDecoded E.kind (layout_of header.now.fields)
         (words_in (bytes_of bytes.now) 0 (length bytes.now / 8))) }
 {
-    let mut entries = vec![in alloc; E::empty(); bytes.len() / 8]?;
-    for index in 0..bytes.len() / 8 {
-        let word = word_at(bytes, 8 * index);
-        // Most words of most tables name nothing, which is what stands there.
-        if word != 0 {
-            entries[index] = E::try_from_plain(word, header)?;
-        }
+    let count = bytes.len() / 8;
+    let mut entries = vec![in alloc; E::empty(); count]?;
+    for chunk in 0..count.div_ceil(CHUNK_WORDS) {
+        let first = chunk * CHUNK_WORDS;
+        let end = count.min(first + CHUNK_WORDS);
+        decode(&bytes[8 * first..8 * end], header, &mut entries[first..end])?;
     }
     Ok(entries)
 }
@@ -333,6 +370,7 @@ fn put_words<T: Table>(table: &T, bytes: &mut [u8])
 {
     for index in 0..table.entries() {
         let word = table.get(index).to_plain();
+        // A word 0 stands there already.
         if word != 0 {
             bytes[8 * index..8 * index + 8].copy_from_slice(&word.to_be_bytes());
         }

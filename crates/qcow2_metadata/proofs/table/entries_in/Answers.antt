@@ -1,84 +1,119 @@
-use Rattle.std.proofs.Common.{◌≡◌, refl, ◌+◌, ◌/◌, ◌^◌, ◌<◌, ◌∙◌, ap, sym, subst, arith, length, true, false, ℕ, List}
-use Rattle.std.specs.Prelude.{replicate, slice_index, IsTrue}
-use Rattle.std.proofs.lemmas.List.{length-replicate, length-set}
+use Rattle.std.proofs.Common.{◌≡◌, ◌+◌, ◌-◌, ◌*◌, ◌/◌, ◌%◌, ◌<◌, ◌≤◌, ◌∙◌, ap, arith, length, min, subst, sym, ℕ}
+use Rattle.std.specs.Prelude.{replicate}
+use Rattle.std.specs.List.{between}
+use Rattle.std.proofs.lemmas.List.{length-replicate}
+use Rattle.std.proofs.lemmas.List.Edits.{length-between}
 use Rattle.imago_storage.proofs.Parts.{passed}
-use Rattle.qcow2_types.specs.Bytes.{bytes_of, word}
+use Rattle.qcow2_types.specs.Bytes.{bytes_of}
 use Rattle.qcow2_types.specs.Header.{layout_of}
-use Rattle.qcow2_metadata.specs.Tables.{WhyNotDecoded, word_sound, words_in}
-use Rattle.qcow2_metadata.proofs.TableFacts.{word_of_bytes, sound_more, each_more, unsound_at}
-use Rattle.qcow2_metadata.proofs.TableSteps.{zero_sound}
-use Rattle.qcow2_metadata.proofs.WordLists.{AreClear, ArePut, clear-behind, clear-words, put-more, put-same, put-whole, words-long, words_set}
+use Rattle.qcow2_types.specs.TableBytes.{AreFit}
+use Rattle.qcow2_metadata.specs.Tables.{AreSound, HasUnsound, WhyNotDecoded, words_in}
+use Rattle.qcow2_metadata.proofs.Chunks.{AreDecoded, all-decoded, chunk-clear, chunk-put, none-decoded, part-count, part-words, put-long, unsound-behind, words-part, words-put}
+use Rattle.qcow2_metadata.proofs.WordLists.{clear-words}
+use Rattle.qcow2_metadata.proofs.Written.{overwritten}
+use borrow.Rule.Slice.PartMut.{put_mid}
+use Rattle.qcow2_metadata.proofs.table.entries_in.Given.{Over}
 use Rattle.qcow2_metadata.proofs.table.entries_in.Goals as goal
 
-pub returns-in_err-entries-2-clause-refused : goal.returns-in_err-entries-2-clause-refused
-returns-in_err-entries-2-clause-refused g c =
+pub loop-chunk-init : goal.loop-chunk-init
+loop-chunk-init g c =
     let f = bytes_of c.args.bytes.now in
     let kind = g.E.TableEntry.kind in
     let layout = layout_of c.args.header.now.fields in
-    let is : c.word_at-word.result ≡ word f 0 c.loop-index.index = c.word_at-word.ensures ∙ sym (word_of_bytes f c.loop-index.index) in
-    let unsound : IsTrue (word_sound kind layout (word f 0 c.loop-index.index)) → false ≡ true =
-    λ h. c.in_err-entries-2.ensures.possible.1 (subst (λ w. IsTrue (word_sound kind layout w)) (sym is) h) in
-    let why = WhyNotDecoded kind layout (words_in f 0 (length c.args.bytes.now / 8)) in
-    passed c.from_residual-in_err-entries-2.result why _ c.from_residual-in_err-entries-2.ensures.1 (subst why (sym c.in_err-entries-2.ensures.refused)
-    (unsound_at kind layout f 0 (length c.args.bytes.now / 8) c.loop-index.index c.loop-index-test.true unsound))
-
-pub loop-index-init : goal.loop-index-init
-loop-index-init g c =
+    let words = g.E.TableEntry.words in
     let entries = c.in_ok-entries.entries.items in
     let n = length c.args.bytes.now / 8 in
+    let none : 0 ≡ min 0 n = omega arith in
     let all : entries ≡ replicate n c.empty.result = c.in_ok-entries.ensures.items_if_clones_equal (λ copy is. g.met.E.TableEntry.copies c.empty.result copy is) in
+    let clear : words entries ≡ replicate n 0 = ap words all ∙ clear-words g.E.TableEntry.word words g.met.E.TableEntry.each n c.empty.result c.empty.ensures in
     record {
       long = ap length all ∙ length-replicate n c.empty.result;
-      words = λ k none. absurd (omega arith);
-      clear = λ k from. ap (λ es. slice_index (g.E.TableEntry.words es) k) all
-          ∙ clear-words g.E.TableEntry.word g.E.TableEntry.words g.met.E.TableEntry.each n k c.empty.result c.empty.ensures;
-      sound = λ i none. absurd (omega arith);
-      fit = λ i none. absurd (omega arith);
+      decoded = subst (λ k. AreDecoded kind layout f n (words entries) k) none (none-decoded kind layout f n (words entries) clear);
     }
 
--- one more word is put, or is 0 as it stands there
-pub loop-index-preserved : goal.loop-index-preserved
-loop-index-preserved g c =
-    let f = bytes_of c.args.bytes.now in
-    let i = c.loop-index.index in
+-- where the chunk stands that comes next
+chunk-range : (chunk count n end : ℕ) → chunk < count → count ≡ n / 64 + min 1 (n % 64) → end ≡ min n (chunk * 64 + 64) → ((chunk * 64 < n) × (chunk * 64 ≤ end)) × (end ≤ n)
+chunk-range chunk count n end inside is end-is = ((omega arith, omega arith), omega arith)
+
+pub decode-requires : goal.decode-requires
+decode-requires g c =
+    let bytes = c.args.bytes.now in
+    let n = length bytes / 8 in
+    let first = c.loop-chunk.chunk * 64 in
+    let end = c.min-end.result in
+    let words = g.E.TableEntry.words in
+    let was = c.loop-chunk.entries.items in
+    let range = chunk-range c.loop-chunk.chunk c.div_ceil-chunk-end.result n end c.loop-chunk-test.true c.div_ceil-chunk-end.ensures c.min-end.ensures in
+    let inside : 8 * end ≤ length bytes = omega (arith, range.1) in
+    let here : min (64 * c.loop-chunk.chunk) n ≡ first = omega (arith, range.0.0) in
+    let before = subst (λ k. AreDecoded g.E.TableEntry.kind (layout_of c.args.header.now.fields) (bytes_of bytes) n (words was) k) here c.loop-chunk.invariant.decoded in
+    rw (c.deref_mut.ensures.value) (words-part g.E.TableEntry.word words g.met.E.TableEntry.each was first end
+    ∙ (chunk-clear g.E.TableEntry.kind (layout_of c.args.header.now.fields) (bytes_of bytes) n (words was) first end before range.0.1 range.1
+    ∙ ap (λ k. replicate k 0) (sym (part-count bytes first end range.0.1 inside))))
+
+pub returns-in_err-decode-clause-refused : goal.returns-in_err-decode-clause-refused
+returns-in_err-decode-clause-refused g c =
+    let bytes = c.args.bytes.now in
+    let f = bytes_of bytes in
+    let n = length bytes / 8 in
+    let first = c.loop-chunk.chunk * 64 in
+    let end = c.min-end.result in
     let kind = g.E.TableEntry.kind in
     let layout = layout_of c.args.header.now.fields in
-    let words : List g.row.E.Denot → List ℕ = g.E.TableEntry.words in
-    let was = c.loop-index.entries.items in
-    let before = c.loop-index.invariant in
-    let is : c.word_at-word.result ≡ word f 0 i = c.word_at-word.ensures ∙ sym (word_of_bytes f i) in
-    let fits = each_more (λ w. w < 2 ^ 64) f 0 i before.fit (subst (λ w. w < 2 ^ 64) is (omega arith)) in
-    elim c.if-word-ne0.branch [
-      | goal.then-word-ne0+in_ok-entries-2 w ↦
-          let entry = w.in_ok-entries-2.field-0 in
-          let value : g.E.TableEntry.word entry ≡ word f 0 i = w.in_ok-entries-2.ensures.value ∙ is in
-          let long = words-long g.E.TableEntry.word words g.met.E.TableEntry.each was in
-          let room : i < length (words was) = omega (arith, long, before.long, c.loop-index-test.true) in
-          let set = words_set g.E.TableEntry.word words g.met.E.TableEntry.each was i entry in
-          rw (w.entries-is) (record {
-            long = length-set was i entry ∙ before.long;
-            words = subst (λ (ws : List ℕ). ArePut f ws (i + 1)) (sym set) (put-more f (words was) i (g.E.TableEntry.word entry) room before.words value);
-            clear = subst (λ (ws : List ℕ). AreClear ws (i + 1)) (sym set) (clear-behind (words was) i (g.E.TableEntry.word entry) before.clear);
-            sound = sound_more kind layout f 0 i before.sound (subst (λ w. IsTrue (word_sound kind layout w)) is (w.in_ok-entries-2.ensures.possible.0 refl));
-            fit = fits;
-          })
-      | goal.else-word-ne0 w ↦
-          let none : c.word_at-word.result ≡ 0 = omega (arith, w.if-word-ne0.false) in
-          let zero-word : word f 0 i ≡ 0 = sym is ∙ none in
-          rw (w.entries-is) (record {
-            long = before.long;
-            words = put-same f (words was) i before.words (before.clear i (omega arith) ∙ sym zero-word);
-            clear = λ k from. before.clear k (omega (arith, from));
-            sound = sound_more kind layout f 0 i before.sound (subst (λ w. IsTrue (word_sound kind layout w)) (sym zero-word) (zero_sound kind layout));
-            fit = fits;
-          })
-    ]
+    let range = chunk-range c.loop-chunk.chunk c.div_ceil-chunk-end.result n end c.loop-chunk-test.true c.div_ceil-chunk-end.ensures c.min-end.ensures in
+    let inside : 8 * end ≤ length bytes = omega (arith, range.1) in
+    let room : first + (end - first) ≤ n = omega (arith, range.0.1, range.1) in
+    let why = WhyNotDecoded kind layout (words_in f 0 n) in
+    let unsound = subst (λ ws. HasUnsound kind layout ws) (part-words bytes first end range.0.1 inside) c.in_err-decode.ensures.damaged in
+    passed c.from_residual-in_err-decode.result why _ c.from_residual-in_err-decode.ensures.1
+    (subst why (sym c.in_err-decode.ensures.refused) (unsound-behind f first kind layout n (end - first) room unsound))
+
+-- the words of one more chunk are put
+pub loop-chunk-preserved : goal.loop-chunk-preserved
+loop-chunk-preserved g c =
+    let bytes = c.args.bytes.now in
+    let f = bytes_of bytes in
+    let n = length bytes / 8 in
+    let first = c.loop-chunk.chunk * 64 in
+    let end = c.min-end.result in
+    let kind = g.E.TableEntry.kind in
+    let layout = layout_of c.args.header.now.fields in
+    let words = g.E.TableEntry.words in
+    let was = c.loop-chunk.entries in
+    let chunk = c.decode.new.entries in
+    let put = put_mid first (end - first) was.items chunk in
+    let range = chunk-range c.loop-chunk.chunk c.div_ceil-chunk-end.result n end c.loop-chunk-test.true c.div_ceil-chunk-end.ensures c.min-end.ensures in
+    let inside : 8 * end ≤ length bytes = omega (arith, range.1) in
+    let here : min (64 * c.loop-chunk.chunk) n ≡ first = omega (arith, range.0.0) in
+    let next : end ≡ min (64 * (c.loop-chunk.chunk + 1)) n = omega (arith, c.min-end.ensures) in
+    let before = subst (λ k. AreDecoded kind layout f n (words was.items) k) here c.loop-chunk.invariant.decoded in
+    let part = part-words bytes first end range.0.1 inside in
+    let long : length chunk ≡ end - first = c.decode.auto.entries ∙ (ap (λ es. length (between first end es)) c.deref_mut.ensures.value
+    ∙ length-between was.items first end (omega (arith, range.1, c.loop-chunk.invariant.long))) in
+    let same : length put ≡ length was.items = put-long was.items chunk first (end - first) (omega (arith, range.0.1, range.1, c.loop-chunk.invariant.long)) long in
+    let decoded = chunk-put kind layout f n (words was.items) first end before range.0.1 range.1 (words chunk) (c.in_ok-decode.ensures.words ∙ part)
+    (subst (λ ws. AreSound kind layout ws) (sym c.in_ok-decode.ensures.words) c.in_ok-decode.ensures.sound)
+    (subst (λ ws. AreFit ws) (sym c.in_ok-decode.ensures.words) c.in_ok-decode.ensures.fit) in
+    rw (c.deref_mut.ensures.value) (rw (overwritten put was.items was.len was.ok.0 same) (record {
+      long = same ∙ c.loop-chunk.invariant.long;
+      decoded = rw (words-put g.E.TableEntry.word words g.met.E.TableEntry.each was.items chunk first (end - first))
+          (subst (λ k. AreDecoded kind layout f n (put_mid first (end - first) (words was.items) (words chunk)) k) next decoded);
+    }))
+
+-- behind the last chunk all words are decoded
+all-chunks : (g : Over) (c : goal.After-loop-chunk g) → AreDecoded g.E.TableEntry.kind (layout_of c.args.header.now.fields) (bytes_of c.args.bytes.now) (length c.args.bytes.now / 8)
+    (g.E.TableEntry.words c.loop-chunk.entries.items) (length c.args.bytes.now / 8)
+all-chunks g c =
+    let n = length c.args.bytes.now / 8 in
+    let end : min (64 * c.loop-chunk.chunk) n ≡ n = omega (arith, c.loop-chunk-test.false, c.div_ceil-chunk-end.ensures) in
+    subst (λ k. AreDecoded g.E.TableEntry.kind (layout_of c.args.header.now.fields) (bytes_of c.args.bytes.now) n (g.E.TableEntry.words c.loop-chunk.entries.items) k) end c.loop-chunk.invariant.decoded
 
 pub returns-clause-words : goal.returns-clause-words
-returns-clause-words g c =
-    let entries = c.loop-index.entries.items in
-    let n = length c.args.bytes.now / 8 in
-    let end : c.loop-index.index ≡ n = omega (arith, c.loop-index-test.false, c.loop-index.auto.index-end) in
-    put-whole (bytes_of c.args.bytes.now) (g.E.TableEntry.words entries) n
-    (words-long g.E.TableEntry.word g.E.TableEntry.words g.met.E.TableEntry.each entries ∙ c.loop-index.invariant.long)
-    (subst (λ k. ArePut (bytes_of c.args.bytes.now) (g.E.TableEntry.words entries) k) end c.loop-index.invariant.words)
+returns-clause-words g c = all-decoded g.E.TableEntry.kind (layout_of c.args.header.now.fields) (bytes_of c.args.bytes.now) (length c.args.bytes.now / 8)
+    (g.E.TableEntry.words c.loop-chunk.entries.items) (all-chunks g c)
+
+pub returns-clause-sound : goal.returns-clause-sound
+returns-clause-sound g c = (all-chunks g c).sound
+
+pub returns-clause-fit : goal.returns-clause-fit
+returns-clause-fit g c = (all-chunks g c).fit
