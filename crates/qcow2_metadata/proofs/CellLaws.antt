@@ -1,12 +1,10 @@
 -- What one more at a counter says of the counters and of the bytes.
-use Rattle.std.proofs.Common.{◌≡◌, ◌≢◌, ℕ, zero, suc, ◌+◌, ◌-◌, ◌*◌, ◌/◌, ◌%◌, ◌<◌, ◌≤◌, ◌^◌, ◌∙◌, inl, inr, List, [], ◌∷◌, ◌++◌, length, get_or, take, drop, ap, sym, arith, refl}
+use Rattle.std.proofs.Common.{◌≡◌, ◌≢◌, ℕ, ◌+◌, ◌-◌, ◌*◌, ◌/◌, ◌%◌, ◌<◌, ◌≤◌, ◌^◌, ◌∙◌, inl, inr, List, take, drop, ap, sym, arith, refl}
 use Rattle.std.proofs.lemmas.Bool.{cases_order}
-use Rattle.std.proofs.lemmas.Nat.{same_from_place, shr_split}
-use Rattle.std.proofs.lemmas.List.{length-take, length-drop, take-take, drop-take, drop-drop, take-append-drop}
+use Rattle.std.proofs.lemmas.Nat.{shr_split}
+use Rattle.std.proofs.lemmas.List.{take-take, drop-take, drop-drop}
 use Rattle.std.specs.Prelude.{◌↔◌, IsOk, OnOk, Result, Ok, Err}
-use Rattle.std.specs.Int.Digits.{number_from_digits_after, AllBelowBase}
 use Rattle.qcow2_metadata.specs.Cells.{big_endian, bit_start, cell, cell_bytes, cell_counters, cell_start, counter, IsRaised}
-use Rattle.qcow2_metadata.proofs.BigEndian.{all_bytes, all_bytes_take}
 use Rattle.qcow2_metadata.proofs.Digits.{raised_digit, raised_above, raised_below, lowered_digit}
 use Rattle.qcow2_metadata.proofs.Widths.{place_ends}
 
@@ -73,48 +71,7 @@ raised_others order i low high r room j ne =
       ]
     ]
 
--- bytes of one length and one number are the same
-pub same_number : (m n : ℕ) (xs ys : List ℕ) → length xs ≡ length ys → AllBelowBase 256 xs → AllBelowBase 256 ys → number_from_digits_after 256 m xs ≡ number_from_digits_after 256 n ys → (m ≡ n) × (xs ≡ ys)
-same_number m n [] [] l p q e = (e, refl)
-same_number m n (x ∷ xs) [] l p q e = absurd (omega arith)
-same_number m n [] (y ∷ ys) l p q e = absurd (omega arith)
-same_number m n (x ∷ xs) (y ∷ ys) l p q e =
-    let rest = same_number (m * 256 + x) (n * 256 + y) xs ys (omega arith) p.1 q.1 e in
-    let front = same_from_place m x n y 256 p.0 q.0 rest.0 in
-    (front.0, cc (front.1, rest.1))
-
-pub all_bytes_drop : (n : ℕ) (bytes : List ℕ) → AllBelowBase 256 bytes → AllBelowBase 256 (drop n bytes)
-all_bytes_drop zero bytes h = h
-all_bytes_drop (suc n) [] h = tt
-all_bytes_drop (suc n) (b ∷ bs) h = all_bytes_drop n bs h.1
-
-parts : (s n : ℕ) (bytes : List ℕ) → bytes ≡ take s bytes ++ (take n (drop s bytes) ++ drop (s + n) bytes)
-parts s n bytes =
-    sym (take-append-drop s bytes)
-    ∙ ap (λ (bs : List ℕ). take s bytes ++ bs) (sym (take-append-drop n (drop s bytes)) ∙ ap (λ (bs : List ℕ). take n (drop s bytes) ++ bs) (drop-drop n s bytes))
-
--- what is raised from two lists to one list is one list
-pub same_raised : (order i : ℕ) (a b c : List ℕ) → IsRaised order a i b → IsRaised order c i b → ((k : ℕ) → get_or a k 0 < 256) → ((k : ℕ) → get_or c k 0 < 256) → c ≡ a
-same_raised order i a b c r q ha hc =
-    let s = cell_start order i in
-    let n = cell_bytes order in
-    let length_is : length c ≡ length a = sym q.same_length ∙ r.same_length in
-    let cells : length (take n (drop s c)) ≡ length (take n (drop s a)) =
-    omega (arith, length-take n (drop s c), length-take n (drop s a), length-drop s c, length-drop s a, length_is) in
-    let numbers : big_endian (cell order c i) ≡ big_endian (cell order a i) = omega (arith, r.cell_number, q.cell_number) in
-    let middle = same_number 0 0 (cell order c i) (cell order a i) cells
-    (all_bytes_take n (drop s c) (all_bytes_drop s c (all_bytes c hc)))
-    (all_bytes_take n (drop s a) (all_bytes_drop s a (all_bytes a ha))) numbers in
-    let front : take s c ≡ take s a = sym q.before ∙ r.before in
-    let back : drop (s + n) c ≡ drop (s + n) a = sym q.after ∙ r.after in
-    let mid : take n (drop s c) ≡ take n (drop s a) = middle.1 in
-    parts s n c ∙ (cc (front, mid, back)) ∙ sym (parts s n a)
-
 -- a fact at `Ok`, from when the call succeeds and what it then leaves
 pub on_ok_where : {T E P Q R : Type 0} (r : Result T E) → (IsOk r ↔ P) → OnOk r Q → (P → Q → R) → OnOk r R
 on_ok_where (Ok x) h q f = f (h.0 refl) q
 on_ok_where (Err e) h q f = tt
-
-pub at_ok : {T E P : Type 0} (r : Result T E) → IsOk r → OnOk r P → P
-at_ok (Ok x) h p = p
-at_ok (Err e) h p = cc

@@ -71,7 +71,3 @@ module _ (words : ℕ) (some : 0 < words) where
     };
     least = least;
   }
-
-  -- none of at most m words is enough where all have more clusters
-  pub enough_past : (counters at q m n : ℕ) → m / words + 1 ≤ q → q * words ≤ n → m < n
-  enough_past counters at q m n past least = let far : m < q * words = clusters_above q m past in omega (arith, far)

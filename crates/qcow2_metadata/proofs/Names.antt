@@ -1,5 +1,5 @@
 -- Names of feature bits in order, and in an entry of their extension.
-use Rattle.std.proofs.Common.{◌≡◌, ℕ, suc, ◌+◌, ◌-◌, ◌*◌, ◌<◌, ◌≤◌, refl, arith, ap, sym, ◌∙◌, List, [], ◌∷◌, ◌++◌, length, get_or, take, drop, lit<, le-ltb}
+use Rattle.std.proofs.Common.{◌≡◌, ℕ, suc, ◌+◌, ◌-◌, ◌*◌, ◌<◌, ◌≤◌, refl, arith, ap, sym, ◌∙◌, List, [], ◌∷◌, ◌++◌, length, get_or, take, drop, lit<}
 use Rattle.std.specs.Prelude.{Bool, true, false, not, ◌&&◌, ◌==◌, nat_lt, if◌then◌else◌, Option, Some, None, unwrap_or, map, take_while, slice_set}
 use Rattle.std.specs.List.{insert, position, position_or_len}
 use Rattle.std.specs.Option.{option_to_list}
@@ -86,12 +86,6 @@ kinds-few : (kind : FeatureType) → kind_of kind < 3
 kinds-few Incompatible = lit< tt
 kinds-few Compatible = lit< tt
 kinds-few Autoclear = lit< tt
-
--- an entry of another kind
-pub entry-unknown : (e : List ℕ) → 2 ≤ length e → 2 < get_or e 0 0 → feature_in e ≡ []
-entry-unknown e long past =
-    let high : nat_lt (get_or e 0 0) 3 ≡ false = le-ltb _ _ (omega (arith, past)) in
-    feature-parts e long ∙ rw high refl
 
 module _ (e name : List ℕ) (long : 2 ≤ length e) (text : name ≡ take_while (λ x. not (x == 0)) (drop 2 e)) where
   named : feature_in e ≡ (if nat_lt (get_or e 0 0) 3 && is_utf8 name then record { kind = get_or e 0 0; bit = get_or e 1 0; name = name } ∷ [] else [])

@@ -13,14 +13,6 @@ place-whole bits (Some c) placed =
     let flat : c * 2 ^ bits ≡ c * 2 ^ bits + 0 = omega arith in
     ap (λ n. n % 2 ^ bits) flat ∙ mod-mul-add c (2 ^ bits) 0 (pow_pos bits)
 
--- and ends far below 2^64
-pub place-below : (bits : ℕ) (cluster : Option ℕ) (n : ℕ) → bits ≤ 21 → n ≡ 2 ^ bits → IsPlaced bits cluster → place_of bits cluster + n ≤ 2 ^ 63
-place-below bits None n few is placed = absurd placed
-place-below bits (Some c) n few is placed =
-    let most : 2 ^ bits ≤ 2 ^ 21 = pow-le-pow_right (omega arith) few in
-    let reach : c * 2 ^ bits ≤ 0x00ff_ffff_ffff_fe00 = placed in
-    omega arith
-
 -- clusters with small numbers are in reach
 pub near_reach : (bits c : ℕ) → bits ≤ 21 → c ≤ 2 ^ 30 → IsInReach bits c
 near_reach bits c few low =

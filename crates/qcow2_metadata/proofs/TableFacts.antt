@@ -11,9 +11,9 @@ use Rattle.std.specs.Prelude.{slice_index, Bool, true, false, Result, Ok, Err, I
 use Rattle.std.proofs.lemmas.List.FromFn.{map-range_with_len_more, get_or-map-range_with_len, length-map-range_with_len}
 use Rattle.std.proofs.lemmas.Bool.{cases_lt}
 use Rattle.std.proofs.Common.{inl, inr}
-use Rattle.imago_storage.specs.Calls.{Reads, Cause}
+use Rattle.imago_storage.specs.Calls.{Reads}
 use Rattle.imago_storage.specs.declared.fault.Fault.{Fault}
-use Rattle.imago_storage.specs.declared.fault.Fault.TheVariants.{Memory, DamagedTable, Storage}
+use Rattle.imago_storage.specs.declared.fault.Fault.TheVariants.{Memory, DamagedTable}
 use Rattle.qcow2_types.specs.Bytes.{Bytes, bytes_of, be, word}
 use Rattle.qcow2_types.proofs.Numbers.Splices.{be-same}
 use Rattle.qcow2_metadata.specs.Tables.{words_in, AreSound, HasUnsound, WhyNotDecoded, WhyNotLoaded, word_sound}
@@ -155,9 +155,3 @@ pub decoded_loaded : (kind : Kind) (layout : Layout) (words : List ℕ) (before 
 decoded_loaded kind layout words before after Memory same why = same
 decoded_loaded kind layout words before after DamagedTable same why = (why, same)
 decoded_loaded kind layout words before after fault same why = absurd why
-
--- and so is why they aren't read
-pub unread_loaded : (kind : Kind) (layout : Layout) (words : List ℕ) (before after : ℕ) (fault : Fault) → Cause before after fault → WhyNotLoaded kind layout words before after fault
-unread_loaded kind layout words before after Memory why = why
-unread_loaded kind layout words before after Storage why = why
-unread_loaded kind layout words before after fault why = absurd why

@@ -3,7 +3,7 @@ use Rattle.std.proofs.Common.{◌≡◌, ◌≢◌, ℕ, suc, ◌+◌, ◌*◌, 
 use Rattle.std.specs.Prelude.{true, ◌==◌, nat_lt, nat_le, ◌⊎◌, IsTrue, if◌then◌else◌}
 use Rattle.std.proofs.lemmas.Bool.{cases_eq, cases_lt, lt-ltb}
 use Rattle.std.proofs.lemmas.Bool.Decides.{nat_tests}
-use Rattle.std.proofs.lemmas.Nat.{mod_below, pow_pos, from_be_bytes-to_be_bytes_2}
+use Rattle.std.proofs.lemmas.Nat.{mod_below, pow_pos}
 use Rattle.std.proofs.Math.Nat.{div-mul-le_self, mul-le-mul_right, div-add-mod}
 use Rattle.qcow2_types.specs.Bytes.{Bytes, be, word, splice, bytes_of}
 use Rattle.qcow2_types.specs.Words.{block_word_sound, is_place}
@@ -22,7 +22,6 @@ use Rattle.qcow2_types.proofs.Counting.Parts.{block-inside, kept-block, touches-
 use Rattle.qcow2_types.proofs.Counting.Sound.{sound-words}
 use Rattle.qcow2_types.proofs.Numbers.Splices.{be-splice-same, be-splice-apart, splice-inside}
 use Rattle.qcow2_types.proofs.Changes.WriteBack.{place-whole}
-use Rattle.std.specs.Int.{w16, to_be_bytes, from_be_bytes}
 
 -- the place of a block is one that a cluster can begin at
 pub block-place : (f : Bytes) (h : Fields) (b : ℕ) → SoundWords f h → b < refcount_table_entries h → IsTrue (is_place h.cluster_bits (block_at f h b))
@@ -247,8 +246,3 @@ counter-raised f H was c order there none =
     let le : refs f H.fields c ≤ count f H.fields c = named-counted f H was c in
     subst (λ n. CounterWritten f (splice f (block_at f H.fields (c / counters_of_block H.fields) + c % counters_of_block H.fields * n) (0 ∷ 1 ∷ [])) H c 1) bytes
     (counter-set f H was c there (0 ∷ 1 ∷ []) (omega arith) (sym bytes) (omega arith))
-
--- two bytes spell their number
-be-of-two : (bytes : List ℕ) → be (bytes_of bytes) 0 2 ≡ from_be_bytes w16 bytes
-unfolding be
-be-of-two bytes = omega arith

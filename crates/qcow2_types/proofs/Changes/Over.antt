@@ -125,12 +125,6 @@ over-first f pre e post clear = fun_ext (λ p. elim (cases_lt p e.0) [
     without : (p : ℕ) → (p < e.0) ⊎ (e.0 + length e.1 ≤ p) → over f (pre ++ e ∷ post) p ≡ over f (pre ++ post) p
     without = without-in pre
 
--- What lies over the same is the same.
-pub over-ahead : (f : Bytes) (pre es es' : List Patch) → over f es ≡ over f es' → over f (pre ++ es) ≡ over f (pre ++ es')
-unfolding over
-over-ahead f [] es es' same = same
-over-ahead f (x ∷ pre) es es' same = ap (λ (b : Bytes). splice b x.0 x.1) (over-ahead f pre es es' same)
-
 -- each word is read again
 pub words-read : (ws : List ℕ) (j : ℕ) → AreFit ws → j < length ws → be (bytes_of (table_bytes ws)) (8 * j) 8 ≡ get_or ws j 0
 words-read [] j fit lt = absurd (omega arith)

@@ -13,16 +13,11 @@ use Rattle.qcow2_types.proofs.Numbers.Sums.{sum-same}
 use Rattle.qcow2_types.proofs.Changes.Frames.{touches-cluster}
 use Rattle.qcow2_types.specs.Frames.{touches}
 use Rattle.qcow2_types.specs.Slots.{slot, over_slots}
-use Rattle.qcow2_types.specs.Versions.{named, of_either}
+use Rattle.qcow2_types.specs.Versions.{of_either}
 
 -- the cached words by number of table and word
 unfoldable pub named_by : Bytes → (ℕ → ℕ → Mapping) → Fields → ℕ → ℕ
 named_by f cached h c = structure f h (meets h c) + over_slots (l2_table f h) h (λ i j. of_either h (meets h c) (slot f h i j) (cached i j))
-
--- the number of two files is that of the one and the other's words
-pub named-view : (f g : Bytes) (h : Fields) (c : ℕ) → named f g h c ≡ named_by f (slot g h) h c
-unfolding named named_by
-named-view f g h c = refl
 
 -- a sum of sums
 sum-plus : (n : ℕ) (f g : ℕ → ℕ) → sum_below n (λ i. f i + g i) ≡ sum_below n f + sum_below n g

@@ -1,18 +1,16 @@
 -- The values of a disk that is one qcow2 file.
-use Rattle.std.proofs.Common.{◌≡◌, ◌≢◌, ℕ, ◌+◌, ◌*◌, ◌/◌, ◌%◌, refl, sym, ◌∙◌, ap, Ok, List, [], ◌∷◌}
+use Rattle.std.proofs.Common.{◌≡◌, ◌≢◌, ℕ, ◌+◌, ◌*◌, ◌/◌, ◌%◌, refl, sym, ◌∙◌, ap, Ok, [], ◌∷◌}
 use Rattle.std.specs.Prelude.{Bool, true, false, cond, nat_lt, IsFalse, if◌then◌else◌}
-use Rattle.std.proofs.Math.Path.{fun_ext}
-use Rattle.imago_storage.specs.Disk.{Value, byte, Disk, free}
+use Rattle.imago_storage.specs.Disk.{byte}
 use Rattle.qcow2_types.specs.Bytes.{Bytes}
-use Rattle.qcow2_types.specs.Words.{data_at, unmapped}
+use Rattle.qcow2_types.specs.Words.{data_at}
 use Rattle.qcow2_types.specs.Header.{Header, header_of, cluster_size, words_of_cluster, has_external_data}
 use Rattle.qcow2_types.specs.Entries.{l2_table}
 use Rattle.qcow2_types.specs.Slots.{slot, guest_slot}
-use Rattle.qcow2_types.specs.Frames.{ShowsAs}
-use Rattle.qcow2_types.specs.Disk.{Layer, at, qcow2, shown, shown_by, host_byte, chain_size, disk_of, in_qcow2}
+use Rattle.qcow2_types.specs.Disk.{at, qcow2, shown, shown_by, host_byte, in_qcow2}
 use Rattle.qcow2_types.specs.Consistency.{IsConsistent}
 use Rattle.qcow2_types.proofs.Counting.Consistent.{header-reading}
-use Rattle.qcow2_types.proofs.Showing.Values.{value-same, entry-slot}
+use Rattle.qcow2_types.proofs.Showing.Values.{entry-slot}
 use Rattle.qcow2_types.proofs.Showing.Shows.{guest-slot-there}
 
 -- the value at a place, with nothing below
@@ -24,30 +22,6 @@ disk-value f external H loads p =
     nothing-below : (b : Bool) → cond b (byte 0) (byte 0) ≡ byte 0
     nothing-below true = refl
     nothing-below false = refl
-
--- the same above other layers, which show through as far as they go
-pub chain-value : (f external : Bytes) (rest : List Layer) (H : Header) → header_of false f ≡ Ok H → (p : ℕ)
-    → at (qcow2 f external ∷ rest) p ≡ shown f external H.fields p (cond (nat_lt p (chain_size rest)) (at rest p) (byte 0))
-chain-value f external rest H loads p = ap (λ r. in_qcow2 f external r p (cond (nat_lt p (chain_size rest)) (at rest p) (byte 0))) loads
-
--- and the size
-pub disk-size : (f external : Bytes) (H : Header) → header_of false f ≡ Ok H → chain_size (qcow2 f external ∷ []) ≡ H.fields.size
-disk-size f external H loads = rw loads refl
-
-module _ (f g external : Bytes) (H : Header) (loads : header_of false f ≡ Ok H) (loads' : header_of false g ≡ Ok H) where
-  -- The value at a place is the same where its guest cluster shows the same.
-  pub disk-value-same : (p : ℕ) → ShowsAs g f H.fields (p / cluster_size H.fields) → at (qcow2 g external ∷ []) p ≡ at (qcow2 f external ∷ []) p
-  disk-value-same p like = disk-value g external H loads' p ∙ (value-same g f external H.fields p (byte 0) like ∙ sym (disk-value f external H loads p))
-
-  -- and the whole disk where each does
-  pub disk-same : ((guest : ℕ) → ShowsAs g f H.fields guest) → disk_of (qcow2 g external ∷ []) ≡ disk_of (qcow2 f external ∷ [])
-  disk-same like =
-      let sizes : chain_size (qcow2 g external ∷ []) ≡ chain_size (qcow2 f external ∷ []) = disk-size g external H loads' ∙ sym (disk-size f external H loads) in
-      let values : at (qcow2 g external ∷ []) ≡ at (qcow2 f external ∷ []) = fun_ext (λ p. disk-value-same p (like (p / cluster_size H.fields))) in
-      ap (λ n. sized n (at (qcow2 g external ∷ []))) sizes ∙ ap (sized (chain_size (qcow2 f external ∷ []))) values
-    where
-      sized : ℕ → (ℕ → Value) → Disk
-      sized size value = record { size = size; value = value; hold = λ _. free }
 
 module _ (f external : Bytes) (H : Header) (was : IsConsistent f H) where
   -- a consistent image loads for reading

@@ -7,7 +7,7 @@ use Rattle.qcow2_types.specs.Bytes.{Bytes, be, word, splice, sum_below}
 use Rattle.qcow2_types.specs.Words.{data_at, unmapped, mapping_of}
 use Rattle.qcow2_types.specs.Header.{layout_of}
 use Rattle.qcow2_types.specs.Entries.{l2_table}
-use Rattle.qcow2_types.specs.Counts.{count, counter, block_at}
+use Rattle.qcow2_types.specs.Counts.{count, counter}
 use Rattle.qcow2_types.specs.References.{structure, contents, of_table, refs}
 use Rattle.qcow2_types.specs.Consistency.{IsConsistent}
 use Rattle.qcow2_types.specs.Disk.{at, qcow2}
@@ -33,11 +33,6 @@ written = splice raised 3600 (9 ∷ [])
 -- and with guest cluster 2 mapped to it
 abbrev named_there : Bytes
 named_there = splice written 2064 (to_be_bytes w64 0x8000_0000_0000_0e00)
-
--- the block of cluster 7
-block_0 : block_at (of_pieces image) image_fields 0 ≡ 1024
-unfolding word be of_pieces image image_fields
-block_0 = refl
 
 -- cluster 7 isn't counted
 count_7 : count (of_pieces image) image_fields 7 ≡ 0
