@@ -5,7 +5,7 @@ use Rattle.qcow2_alloc.specs.MakingBlocks.{WhyNotNamed}
 use Rattle.qcow2_alloc.specs.Quiet.{IsSound, counted}
 use Rattle.qcow2_alloc.specs.State.{lent}
 use Rattle.qcow2_alloc.proofs.Searching.FreeClusters.{uncounted-free}
-use Rattle.qcow2_alloc.proofs.Blocks.BlockCreationCalls.{begins-none, first-counted, unmade-place, unforgotten}
+use Rattle.qcow2_alloc.proofs.Blocks.BlockCreationCalls.{begins-none, first-counted, unmade-memory, unmade-place, unforgotten}
 use Rattle.qcow2_alloc.proofs.Blocks.OwnBlocks.{own-uncounted, own-made-at}
 use Rattle.qcow2_alloc.proofs.Faults.{handed-on}
 use Rattle.qcow2_alloc.proofs.allocation.Allocator.make_own_block.Goals as goal
@@ -30,6 +30,12 @@ returns-in_err-check_place-clause-makes g c = rw (handed-on _ _ c.from_residual.
     let some = first-counted m sound in
     omega (arith, at, some))
     (subst (λ b. WhyNotNamed table b d c.in_err-check_place.field-0.0) c.cluster_bits.ensures.value c.in_err-check_place.ensures.err))
+
+pub returns-in_err-block-clause-makes : goal.returns-in_err-block-clause-makes
+returns-in_err-block-clause-makes g c = rw (handed-on _ _ c.from_residual-in_err-block.ensures.1) (λ pending.
+    let state = g.S.Storage.state in
+    let s = lent (table_of c.args.self.now) c.args.caches.now c.args.file.now pending in
+    unmade-memory state c.args.index s c.args.caches.now c.args.file.now (begins-none state c.args.index s) c.in_err-block.field-0.0 c.in_err-block.ensures.err)
 
 pub returns-clause-makes : goal.returns-clause-makes
 returns-clause-makes g c = λ pending.
