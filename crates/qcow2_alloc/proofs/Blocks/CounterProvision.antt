@@ -46,9 +46,57 @@ ready_so answer = Ok answer
 abbrev pub not_ready : Fault → Result Readiness Fault
 not_ready fault = Err fault
 
+-- What the lemmas below say of numbers and answers, over what they take alone: a search there would read all that is known of an image.
+unchanged : (n : ℕ) → n ≤ n
+unchanged n = omega arith
+
+behind : (n : ℕ) → n < n + 1
+behind n = omega arith
+
+not-more : (new old : ℕ) → new ≡ old → old ≡ 0 → 0 < new → ⊥
+not-more new old same none more = omega arith
+
+some-more : (new old more : ℕ) → new ≡ old + more → old ≡ 0 → 0 < new → 0 < more
+some-more new old more is none some = omega arith
+
+some-of : (n : ℕ) → n ≢ 0 → 0 < n
+some-of n some = omega arith
+
+longer-than : (a b n : ℕ) → a ≤ n → n < b → a < b
+longer-than a b n le lt = omega arith
+
+one-index : (i n : ℕ) → n ≤ i → i < n + 1 → i ≡ n
+one-index i n above below = omega arith
+
+before-all : (c k n : ℕ) → n ≤ c / k * k → n ≤ c
+before-all c k n le = let shape = div-add-mod' c k in omega (arith, le, shape)
+
+nearer : (bits a b : ℕ) → a ≤ b → IsInReach bits b → IsInReach bits a
+nearer bits a b le reach = let more = mul-le-mul_right (2 ^ bits) le in omega (arith, reach, more)
+
+ready-apart : Ready ≡ NoPlace → ⊥
+ready-apart is = cc is
+
+ok-apart : (r : Result Unit Fault) → r ≡ Ok tt → r ≡ Err CacheFull → ⊥
+ok-apart r ok full = let e = sym ok ∙ full in cc e
+
+limit-apart : (r : Result Unit Fault) (number : ℕ) → r ≡ Err (Limit number) → r ≡ Err CacheFull → ⊥
+limit-apart r number limit full = let e = sym limit ∙ full in cc e
+
+same-fault : (r : Result Unit Fault) (fault : Fault) → r ≡ Err fault → r ≡ Err CacheFull → not_ready fault ≡ Err CacheFull
+same-fault r fault is at = let e = sym is ∙ at in cc e
+
+of-ok : {P : Type 0} (r : Result Unit Fault) → r ≡ Ok tt → OnOk r P → P
+of-ok (Ok done) is p = p
+of-ok (Err fault) is p = absurd (cc is)
+
+of-cause : (P : Fault → Type 0) (before after : ℕ) (r : Result Unit Fault) → r ≡ Ok tt → MatchResult r (λ _. after ≡ before) P → after ≡ before
+of-cause P before after (Ok done) is same = same
+of-cause P before after (Err fault) is same = absurd (cc is)
+
 -- What isn't refused for want of a place is refused for another cause.
 pub never-limit : (sound : Type 0) (loose : Bool → Type 0) (full full' : ℕ → Type 0) (before after : ℕ) (fault : Fault) → ((number : ℕ) → fault ≢ Limit number) → HasCause (allocating_causes sound loose full before after) fault → HasCause (allocating_causes sound loose full' before after) fault
-never-limit sound loose full full' before after fault other why = cause-weaker (record { before = omega arith; after = omega arith; damaged = λ wrong. wrong; counter = λ wrong. wrong; full = λ none. none; limit = λ number told. absurd (other number told.0) }) fault (cause-told _ fault why)
+never-limit sound loose full full' before after fault other why = cause-weaker (record { before = unchanged before; after = unchanged after; damaged = λ wrong. wrong; counter = λ wrong. wrong; full = λ none. none; limit = λ number told. absurd (other number told.0) }) fault (cause-told _ fault why)
 
 -- The fault with this number is that of a limit.
 pub limit-numbered : (fault : Fault) → number_of fault ≡ 12 → (number : ℕ) × (fault ≡ Limit number)
@@ -73,13 +121,13 @@ module _ {S : Type 0} (state : S → StorageState) (mark cluster : ℕ) (s : Ima
   }
 
   pub word-stands : cluster / k < length s.table.words → ReadiesWord state mark cluster s (ready_so Ready) s
-  word-stands inside = record { did = stands Ready; there = λ yes. inside; barred = λ order keeps sound no. cc no; near = λ order keeps sound c none more. absurd (omega (arith, none, more)) }
+  word-stands inside = record { did = stands Ready; there = λ yes. inside; barred = λ order keeps sound no. absurd (ready-apart no); near = λ order keeps sound c none more. absurd (not-more _ _ refl none more) }
 
   -- The table has grown,
   module _ (past : length s.table.words ≤ cluster / k) (result : Result Unit Fault) (s' : ImageState S) (grows : GrowsTable state mark (cluster / k) s result s') where
     grown-list : (r : Result Unit Fault) → OnOk r (IsGrownLength (words_of_cluster s.file.header.fields) k (cluster / k) (length s'.table.words)) → OnOk r (s'.pending ≡ s.pending ++ table_run s.file.header.fields) → OnErr r (s'.pending ≡ s.pending)
         → IsLengthenedByTable s.file.header.fields s.table s'.table s.pending s'.pending
-    grown-list (Ok done) grown waits kept = inr (let above = grown.enough.above in omega (arith, above, past), waits)
+    grown-list (Ok done) grown waits kept = inr (longer-than _ _ _ past grown.enough.above, waits)
     grown-list (Err fault) grown waits kept = inl kept
 
     no-leak : (result ≡ Err CacheFull → ⊥) → (c : ℕ) → grows.leaked c ≡ 0
@@ -90,34 +138,21 @@ module _ {S : Type 0} (state : S → StorageState) (mark cluster : ℕ) (s : Ima
       did = record {
         leaked = λ _. 0;
         leaks = leaks-none _ _ (ready_so Ready);
-        step = allocating-as state (WasNotCutOff result) (WasNotCutOff (ready_so Ready)) grows.leaked (λ _. 0) s s' (λ whole. subst (λ (r : Result Unit Fault). WasNotCutOff r) (sym ok) tt) (no-leak (λ full. let e = sym ok ∙ full in cc)) grows.step;
+        step = allocating-as state (WasNotCutOff result) (WasNotCutOff (ready_so Ready)) grows.leaked (λ _. 0) s s' (λ whole. subst (λ (r : Result Unit Fault). WasNotCutOff r) (sym ok) tt) (no-leak (ok-apart result ok)) grows.step;
         list = grown-list result grows.enough grows.waits grows.kept;
-        cause = by-cause _ result ok grows.cause;
+        cause = of-cause _ _ _ result ok grows.cause;
       };
-      there = λ yes. (by-length result ok grows.enough).enough.above;
-      barred = λ order keeps sound no. cc no;
+      there = λ yes. (of-ok result ok grows.enough).enough.above;
+      barred = λ order keeps sound no. absurd (ready-apart no);
       near = λ order keeps sound c none more. inr (in-room order keeps sound c none more);
     }
       where
         in-room : order_of s.caches ≡ L2DependsOnRb → IsTrue (state s.file.image).shape.keeps → IsSound (metadata state s) → (c : ℕ) → counted (metadata state s) c ≡ 0 → 0 < counted (metadata state s') c
             → IsInRoomToGrow (metadata state s) mark (cluster / k) c
         in-room order keeps sound c none more =
-            let grown = by-growth result ok (grows.grown order keeps sound) in
-            let counts = grown.counts c in
-            let inside = covered-inside c grown.first grown.total (omega (arith, counts, none, more)) in
+            let grown = of-ok result ok (grows.grown order keeps sound) in
+            let inside = covered-inside c grown.first grown.total (some-more _ _ _ (grown.counts c) none more) in
             (past, grown.first, grown.total, grown.clusters, grown.room, inside.0, inside.1)
-          where
-            by-growth : {P : Type 0} (r : Result Unit Fault) → r ≡ Ok tt → OnOk r P → P
-            by-growth (Ok done) is p = p
-            by-growth (Err fault) is p = absurd (cc is)
-
-        by-length : (r : Result Unit Fault) → r ≡ Ok tt → OnOk r (IsGrownLength (words_of_cluster s.file.header.fields) k (cluster / k) (length s'.table.words)) → IsGrownLength (words_of_cluster s.file.header.fields) k (cluster / k) (length s'.table.words)
-        by-length (Ok done) is grown = grown
-        by-length (Err fault) is grown = absurd (cc is)
-
-        by-cause : (P : Fault → Type 0) (r : Result Unit Fault) → r ≡ Ok tt → MatchResult r (λ _. (state s'.file.image).faults ≡ (state s.file.image).faults) P → (state s'.file.image).faults ≡ (state s.file.image).faults
-        by-cause P (Ok done) is same = same
-        by-cause P (Err fault) is same = absurd (cc is)
 
     -- or has no place,
     pub word-barred : (number : ℕ) → result ≡ Err (Limit number) → ReadiesWord state mark cluster s (ready_so NoPlace) s'
@@ -125,13 +160,13 @@ module _ {S : Type 0} (state : S → StorageState) (mark cluster : ℕ) (s : Ima
       did = record {
         leaked = λ _. 0;
         leaks = leaks-none _ _ (ready_so NoPlace);
-        step = allocating-as state (WasNotCutOff result) (WasNotCutOff (ready_so NoPlace)) grows.leaked (λ _. 0) s s' (λ whole. subst (λ (r : Result Unit Fault). WasNotCutOff r) (sym limit) tt) (no-leak (λ full. let e = sym limit ∙ full in cc)) grows.step;
+        step = allocating-as state (WasNotCutOff result) (WasNotCutOff (ready_so NoPlace)) grows.leaked (λ _. 0) s s' (λ whole. subst (λ (r : Result Unit Fault). WasNotCutOff r) (sym limit) tt) (no-leak (limit-apart result number limit)) grows.step;
         list = grown-list result grows.enough grows.waits grows.kept;
         cause = cause.1;
       };
-      there = λ yes. cc yes;
+      there = λ yes. absurd (ready-apart (sym yes));
       barred = λ order keeps sound no. inr (past, number, cause.0 order keeps sound);
-      near = λ order keeps sound c none more. absurd (let same = grows.barred order keeps sound number limit c in omega (arith, same, none, more));
+      near = λ order keeps sound c none more. absurd (not-more _ _ (grows.barred order keeps sound number limit c) none more);
     }
       where
         cause : (order_of s.caches ≡ L2DependsOnRb → IsTrue (state s.file.image).shape.keeps → IsSound (metadata state s) → NoPlaceToGrow (metadata state s) mark (cluster / k) number) × ((state s'.file.image).faults ≡ (state s.file.image).faults)
@@ -144,7 +179,7 @@ module _ {S : Type 0} (state : S → StorageState) (mark cluster : ℕ) (s : Ima
     word-refused fault is other = record {
       did = record {
         leaked = grows.leaked;
-        leaks = record { none = λ full. grows.leaks.none (λ at. full (let e = sym is ∙ at in cc)); pinned = grows.leaks.pinned };
+        leaks = record { none = λ full. grows.leaks.none (λ at. full (same-fault result fault is at)); pinned = grows.leaks.pinned };
         step = allocating-as state (WasNotCutOff result) (WasNotCutOff (not_ready fault)) grows.leaked grows.leaked s s' (λ whole. subst (λ (r : Result Unit Fault). WasNotCutOff r) (sym is) whole) (λ c. refl) grows.step;
         list = grown-list result grows.enough grows.waits grows.kept;
         cause = never-limit _ _ _ _ _ _ fault other (subst (λ (r : Result Unit Fault). FailsFor (allocating_causes (IsGuarded state s) (IsLoose s.table s.caches)
@@ -160,7 +195,7 @@ module _ {S : Type 0} (state : S → StorageState) (mark cluster : ℕ) (s : Ima
   module _ (mid : ImageState S) where
     -- There was no place for one,
     pub counter-barred : ReadiesWord state mark cluster s (ready_so NoPlace) mid → ReadiesCounter state mark cluster s (ready_so NoPlace) mid
-    counter-barred word = record { did = word.did; there = λ yes. cc yes; barred = word.barred; near = word.near }
+    counter-barred word = record { did = word.did; there = λ yes. absurd (ready-apart (sym yes)); barred = word.barred; near = word.near }
 
     module _ (word : ReadiesWord state mark cluster s (ready_so Ready) mid) (reach : IsInReach s.file.header.fields.cluster_bits cluster) (table' : TableValue) (new : MetadataCaches S) (after : ImageFile S) where
       header-moved : (P : Header → Type 0) → P (with_refcount_table s.file.header word.did.step.moved.0 word.did.step.moved.1) → P mid.file.header
@@ -168,21 +203,19 @@ module _ {S : Type 0} (state : S → StorageState) (mark cluster : ℕ) (s : Ima
 
       near : (i : ℕ) → cluster / k ≤ i → i < cluster / k + 1 → IsInReach mid.file.header.fields.cluster_bits (i * counters_of_block mid.file.header.fields)
       near i above below = header-moved (λ (H : Header). IsInReach H.fields.cluster_bits (i * counters_of_block H.fields)) (
-          let le : cluster / k * k ≤ cluster = (let shape = div-add-mod' cluster k in omega (arith, shape)) in
-          let more = mul-le-mul_right (2 ^ s.file.header.fields.cluster_bits) le in
-          let at : i ≡ cluster / k = omega (arith, above, below) in
-          subst (λ j. IsInReach s.file.header.fields.cluster_bits (j * k)) (sym at) (omega (arith, reach, more)))
+          subst (λ j. IsInReach s.file.header.fields.cluster_bits (j * k)) (sym (one-index i (cluster / k) above below))
+          (nearer s.file.header.fields.cluster_bits (cluster / k * k) cluster (before-all cluster k (cluster / k * k) (unchanged (cluster / k * k))) reach))
 
       never-far : (number : ℕ) → ((i : ℕ) × (cluster / k ≤ i) × (i < cluster / k + 1) × (number ≤ i * counters_of_block mid.file.header.fields) × (IsInReach mid.file.header.fields.cluster_bits number → ⊥)) → ⊥
-      never-far number (i, above, below, le, far) = let there = near i above below in let more = mul-le-mul_right (2 ^ mid.file.header.fields.cluster_bits) le in far (omega (arith, there, more))
+      never-far number (i, above, below, le, far) = far (nearer mid.file.header.fields.cluster_bits number _ le (near i above below))
 
       both : (ok' : Type 0) → Allocating state ok' (λ _. 0) mid (lent table' new after mid.pending) → Allocating state ok' (λ _. 0) s (lent table' new after mid.pending)
-      both ok' two = allocating-as state ok' ok' (λ c. leaked_by (ready_so Ready) word.did.leaked c + 0) (λ _. 0) s (lent table' new after mid.pending) (λ o. o) (λ c. omega arith)
+      both ok' two = allocating-as state ok' ok' (λ c. leaked_by (ready_so Ready) word.did.leaked c + 0) (λ _. 0) s (lent table' new after mid.pending) (λ o. o) (λ c. refl)
           (allocating-then state ⊤ ok' (leaked_by (ready_so Ready) word.did.leaked) (λ _. 0) s mid (lent table' new after mid.pending) tt word.did.step two)
 
       blocks-behind : IsLengthenedByTable s.file.header.fields s.table mid.table s.pending mid.pending → length table'.words ≡ length mid.table.words → IsLengthenedByTable s.file.header.fields s.table table' s.pending mid.pending
       blocks-behind (inl same) long = inl same
-      blocks-behind (inr (longer, waits)) long = inr (omega (arith, longer, long), waits)
+      blocks-behind (inr (longer, waits)) long = inr (subst (λ n. length s.table.words < n) (sym long) longer, waits)
 
       holds-still : IsGuarded state s → IsGuarded state mid
       holds-still holds = let quiet = word.did.step.quiet holds.1 in (keeps_on (state s.file.image) (state mid.file.image) quiet.shape holds.0, word.did.step.order ∙ holds.1, (quiet.holds holds.0 holds.2 tt).0)
@@ -200,20 +233,15 @@ module _ {S : Type 0} (state : S → StorageState) (mark cluster : ℕ) (s : Ima
           list = blocks-behind word.did.list blocks.long;
           cause = blocks.cause ∙ word.did.cause;
         };
-        there = λ yes. blocks.named (cluster / k) (omega arith) (omega arith);
-        barred = λ order keeps sound no. cc no;
+        there = λ yes. blocks.named (cluster / k) (unchanged (cluster / k)) (behind (cluster / k));
+        barred = λ order keeps sound no. absurd (ready-apart no);
         near = λ order keeps sound c none more. elim (cases_eq (counted (metadata state mid) c) 0) [
-          | inr made-before ↦ word.near order keeps sound c none (omega (arith, made-before))
+          | inr made-before ↦ word.near order keeps sound c none (some-of _ made-before)
           | inl still ↦
               let held = holds-still (keeps, order, sound) in
-              let own = (fills held.1 held.0 held.2).own c (λ same. omega (arith, same, still, more)) in
+              let own = (fills held.1 held.0 held.2).own c (λ same. not-more _ _ same still more) in
               let size : counters_of_block mid.file.header.fields ≡ k = ap (λ (H : Header). counters_of_block H.fields) word.did.step.moved.2 in
-              let low = own.1 in
-              let high = own.2 in
-              let at : own.0 ≡ cluster / k = omega (arith, low, high) in
-              let le : c ≤ cluster / k * k = subst (λ i. c ≤ i * k) at (subst (λ x. c ≤ own.0 * x) size own.3) in
-              let shape = div-add-mod' cluster k in
-              inl (omega (arith, le, shape))
+              inl (before-all cluster k c (subst (λ i. c ≤ i * k) (one-index own.0 (cluster / k) own.1 own.2) (subst (λ x. c ≤ own.0 * x) size own.3)))
         ];
       }
 
