@@ -33,7 +33,6 @@ use Rattle.qcow2_alloc.specs.State.{ImageState, lent, metadata}
 use Rattle.qcow2_alloc.proofs.Searching.SearchesBeforeCounts.{sound-safe, counter-there}
 use Rattle.qcow2_alloc.proofs.Blocks.BlockNames.{meets-one}
 use Rattle.qcow2_alloc.proofs.Memory.Patches.{place-there}
-use Rattle.qcow2_alloc.proofs.Quiet.QuietCounters.{here-one}
 use Rattle.qcow2_alloc.proofs.Quiet.QuietThen.{structure-in-memory, contents-then}
 
 -- A word that was written names the block's cluster.

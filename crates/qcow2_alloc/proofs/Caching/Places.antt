@@ -4,7 +4,7 @@ use Rattle.std.specs.Prelude.{nat_eq}
 use Rattle.std.specs.List.{AllByRecursion}
 use Rattle.std.specs.Option.{option_map}
 use Rattle.std.specs.Map.{keys_of, lookup, lookup_entry, remove_entry, set_value}
-use Rattle.std.proofs.lemmas.Bool.{cases_Bool, eqb-true, eqb-false}
+use Rattle.std.proofs.lemmas.Bool.{cases_Bool, eqb-true}
 use Rattle.qcow2_alloc.specs.declared.async_lru_cache.Slot.{Slot}
 use Rattle.qcow2_alloc.specs.Cache.{hit}
 
@@ -64,24 +64,3 @@ away-of-all key (e ∷ es) none = elim (cases_Bool (nat_eq key e.0)) [
 pub slot-of : {V : Type 0} (found : Option (Slot V)) (v : V) → option_map (λ s. s.value) found ≡ Some v → (s : Slot V) × (found ≡ Some s) × (s.value ≡ v)
 slot-of None v there = absurd (cc)
 slot-of (Some s) v there = (s, refl, cc)
-
-key-own : (key : ℕ) → nat_eq key key ≡ true
-key-own key = elim (cases_Bool (nat_eq key key)) [
-  | inl t ↦ t
-  | inr f ↦ absurd (eqb-false key key f refl)
-]
-
-module _ {V : Type 0} (key : ℕ) (es : List (ℕ × Slot V)) (old : V) (there : option_map (λ s. s.value) (lookup (nat_eq key) es) ≡ Some old) where
-  found : (s : Slot V) × (lookup (nat_eq key) es ≡ Some s) × (s.value ≡ old)
-  found = slot-of (lookup (nat_eq key) es) old there
-
-  p : Place key es found.0
-  p = place-of-key key es found.0 found.1
-
-  -- What is used is there with its last value,
-  pub lookup-hit : (v : V) → option_map (λ s. s.value) (lookup (nat_eq key) (hit (nat_eq key) es v)) ≡ Some v
-  lookup-hit v = rw (place-hit key es found.0 p v) (rw (key-own key) refl)
-
-  -- and only that matters where it is used again.
-  pub hit-again : (v w : V) → hit (nat_eq key) (hit (nat_eq key) es v) w ≡ hit (nat_eq key) es w
-  hit-again v w = rw (place-hit key es found.0 p v) (rw (key-own key) (sym (place-hit key es found.0 p w)))

@@ -3,7 +3,7 @@ use Rattle.std.proofs.Common.{◌≡◌, ℕ, ◌<◌, ◌≤◌, refl, arith, a
 use Rattle.std.specs.Prelude.{◌⊎◌, map, nat_eq, OnOk, OnErr}
 use Rattle.std.specs.Option.{option_map_or}
 use Rattle.std.specs.List.{AllByRecursion}
-use Rattle.std.specs.Map.{lookup, remove_entry, set_value}
+use Rattle.std.specs.Map.{lookup, remove_entry}
 use Rattle.std.proofs.lemmas.Bool.{cases_Bool, cases_lt, eqb-true, lt-ltb, le-ltb}
 use Rattle.imago_storage.specs.State.{StorageState}
 use Rattle.imago_storage.specs.Calls.{Kept}
@@ -52,22 +52,12 @@ module _ {X : Type 0} (P : ℕ × X → Type 0) where
     | inr t ↦ all-at key es x (rw t at there) all.1
   ]
 
-  -- of the others where one is removed,
+  -- and of the others where one is removed.
   pub all-removed : (test : ℕ → Bool) (es : List (ℕ × X)) → AllByRecursion P es → AllByRecursion P (remove_entry test es)
   all-removed test [] all = tt
   all-removed test (e ∷ es) all = elim (cases_Bool (test e.0)) [
     | inl t ↦ rw t all.1
     | inr t ↦ rw t (all.0, all-removed test es all.1)
-  ]
-
-  -- and of all where one is replaced by another of which it holds.
-  pub all-set : (key : ℕ) (es : List (ℕ × X)) (w : X) → P (key, w) → AllByRecursion P es → AllByRecursion P (set_value (nat_eq key) es w)
-  all-set key [] w new all = tt
-  all-set key (e ∷ es) w new all = elim (cases_Bool (nat_eq key e.0)) [
-    | inl t ↦
-        let own : key ≡ e.0 = eqb-true key e.0 t in
-        rw t (subst (λ (n : ℕ). P (n, w)) own new, all.1)
-    | inr t ↦ rw t (all.0, all-set key es w new all.1)
   ]
 
 -- A list in which one is replaced by another that is the same under a map.

@@ -22,11 +22,6 @@ use Rattle.qcow2_alloc.proofs.Blocks.BlockNames.{count-none, meets-one}
 use Rattle.qcow2_alloc.proofs.Memory.Patches.{all-weaker, place-there, places-differ}
 use Rattle.qcow2_alloc.proofs.Growth.TableSwitches.{words-at, there-weighs}
 
-sum-zeroes : (n : ℕ) → sum_below n (λ _. 0) ≡ 0
-unfolding sum_below
-sum-zeroes zero = refl
-sum-zeroes (suc n) = let below = sum-zeroes n in omega (arith, below)
-
 -- Two runs in a row are one.
 covers-two : (c s a n : ℕ) → covers c (run_of s a) + covers c (run_of (s + a) n) ≡ covers c (run_of s (a + n))
 covers-two c s a n = grind (arith, nat_tests)

@@ -41,7 +41,7 @@ use Rattle.qcow2_alloc.proofs.Memory.EntryKinds.{block_kind, blocks_with}
 use Rattle.qcow2_alloc.proofs.Memory.MemoryImage.{safe-memory}
 use Rattle.qcow2_alloc.proofs.Memory.MemoryWords.{block-same, places-in-memory}
 use Rattle.qcow2_alloc.proofs.Memory.Patches.{place-there, block-length, shaped-in}
-use Rattle.qcow2_alloc.proofs.Caching.Places.{Place, place-of-key, place-hit, slot-of, lookup-hit, hit-again}
+use Rattle.qcow2_alloc.proofs.Caching.Places.{Place, place-of-key, place-hit, slot-of}
 
 -- Where g' has the words of g, what is named by f or by what is over it is the same.
 module _ (f g g' : Bytes) (h : Fields) (places : SamePlaces f g h) (keeps : KeepsSlots g g' h) where
