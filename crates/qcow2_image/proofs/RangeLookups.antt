@@ -19,17 +19,19 @@ use Rattle.qcow2_types.specs.Header.{Fields, Header, cluster_size}
 use Rattle.qcow2_types.specs.Words.{Mapping, data_at, zeroes, packed, damaged}
 use Rattle.qcow2_types.specs.Words as words
 use Rattle.qcow2_alloc.specs.Causes.{HasCause}
-use Rattle.qcow2_image.specs.HeldHomes.{run-from}
-use Rattle.qcow2_image.specs.Holding.{Holding, HoldsRun, claim_held, held_home, home_or, homes_with, in_run}
+use Rattle.qcow2_image.specs.HeldHomes.{run-from, run-guest}
+use Rattle.qcow2_image.specs.Holding.{Holding, HoldsRun, IsUncopied, claim_held, held_home, home_or, homes_with, in_run}
 use Rattle.qcow2_image.specs.Homes.{mapped}
 use Rattle.qcow2_image.specs.ImageLayer.{home_by, homes, shallow_of}
 use Rattle.qcow2_image.specs.Looking.{Follows, IsWholeRun, IsWholeRunIn, answer_at, writable_place_of}
+use Rattle.qcow2_image.specs.Rooms.{HoldsIn, Sees, rest_of}
 use Rattle.qcow2_image.specs.Writing.{IsHomeAt, telling_causes}
 use Rattle.qcow2_image.specs.Seen.{IsSeen, file_of, homes_of, layer_of, memory_of}
 use Rattle.qcow2_image.specs.Steps.{KeepsImage}
 use Rattle.qcow2_image.specs.Unspent.{holding_in}
 use Rattle.qcow2_image.specs.declared.mode.OpenMode.{OpenMode}
 use Rattle.qcow2_image.specs.declared.qcow2.Qcow2.{Qcow2}
+use Rattle.qcow2_image.proofs.Preparations.FreshRuns.{uncopied-homeless}
 use Rattle.qcow2_image.proofs.WritePlaces.{in-range, range-in}
 use Rattle.qcow2_image.proofs.Steps.{layer-by, memory-is}
 
@@ -170,13 +172,17 @@ module _ (hold : Holding) (offset most : ℕ) where
   abbrev found : ℕ × ℕ
   found = (hold.place + (offset - hold.offset), min most (hold.length - (offset - hold.offset)))
 
+  run-in : in_run hold offset ≡ true → (i : ℕ) → i < found.1 → in_run hold (offset + i) ≡ true
+  run-in is i lt =
+      let run = in-range hold.offset hold.length offset is in
+      let k : ℕ = offset + i - hold.offset in
+      subst (λ p. in_run hold p ≡ true) (omega (arith, run.0)) (range-in hold.offset hold.length k (omega (arith, run.0, run.1, lt)))
+
   run-on : in_run hold offset ≡ true → (i : ℕ) → i < found.1 → held_home hold (offset + i) ≡ Some (0, found.0 + i)
   run-on is i lt =
       let run = in-range hold.offset hold.length offset is in
-      let k : ℕ = offset + i - hold.offset in
-      let in-it : in_run hold (offset + i) ≡ true = subst (λ p. in_run hold p ≡ true) (omega (arith, run.0)) (range-in hold.offset hold.length k (omega (arith, run.0, run.1, lt))) in
       let same : hold.place + (offset + i - hold.offset) ≡ hold.place + (offset - hold.offset) + i = omega (arith, run.0) in
-      rw in-it (ap (λ a. Some (0, a)) same)
+      rw (run-in is i lt) (ap (λ a. Some (0, a)) same)
 
 -- the run goes on there,
 abbrev GoesOn : Holding → (ℕ → Option (ℕ × ℕ)) → ℕ → ℕ × ℕ → Type 0
@@ -215,3 +221,44 @@ pub free-nowhere : (hold : Option Holding) (offset most : ℕ) (answer : Option 
     → IfSome answer P
 free-nowhere None offset most answer P free is = subst (λ o. IfSome o P) (sym is) tt
 free-nowhere (Some hold) offset most answer P free is = absurd (cc free)
+
+-- A place of the run of a mapping can't be written by its word,
+run-wordless : {S : Type 0} (g : Ghosts S) (d : Qcow2 S g) (hold : Holding) → HoldsIn g d.tables hold → (p : ℕ) → in_run hold p ≡ true
+    → homes_of g d p ≡ None
+run-wordless g d hold holds p is =
+    let h : Fields = d.tables.file.header.fields in
+    let guest = run-guest (rest_of g d.tables holds.space) hold holds.held p is in
+    let k : ℕ = p / cluster_size h - hold.guest in
+    let there : hold.guest + k ≡ p / cluster_size h = omega (arith, guest.0) in
+    let word = subst (λ x. IsUncopied (entry (file_of g d.tables) h x)) there (holds.held.uncopied k (omega (arith, guest.0, guest.1))) in
+    uncopied-homeless d.mode.writable (memory_of g d.tables) h p
+    (subst (λ m. IsUncopied (entry m h (p / cluster_size h))) (sym (memory-is g d.tables)) word)
+
+-- so that a range is mapped where all of it is held.
+module _ {S : Type 0} (g : Ghosts S) (d : Qcow2 S g) (guest place n : ℕ) where
+  abbrev IsHeldWhole : Option Holding → Type 0
+  IsHeldWhole hold = HoldsRun hold guest n (Some (place, n))
+
+  whole-run : (hold : Holding) → IsHeldWhole (Some hold) → (i : ℕ) → i < n → in_run hold (guest + i) ≡ true
+  whole-run hold whole i lt = elim (cases_Bool (in_run hold guest)) [
+    | inr off ↦ let none : Some (place, n) ≡ None = rw off at whole in absurd (cc none)
+    | inl so ↦
+        let run : Some (place, n) ≡ Some (found hold guest n) = rw so at whole in
+        let both : ◌≡◌ {A = ℕ × ℕ} (place, n) (found hold guest n) = cc run in
+        run-in hold guest n so i (omega (arith, lt, ap (λ (x : ℕ × ℕ). x.1) both))
+  ]
+
+  wordless : (hold : Option Holding) → IsHeldWhole hold → IfSome hold (HoldsIn g d.tables) → (i : ℕ) → i < n
+      → homes_of g d (guest + i) ≡ None
+  wordless None whole holds i lt = let none : Some (place, n) ≡ None = whole in absurd (cc none)
+  wordless (Some hold) whole holds i lt = run-wordless g d hold holds (guest + i) (whole-run hold whole i lt)
+
+  pub held-home : IsHeldWhole (holding_in g d.unspent) → Sees g d → IsHomeAt (layer_of g d) guest place n
+  held-home whole sees = elim sees.sure [
+    | inl untouched ↦
+        let none : Some (place, n) ≡ None = subst (λ u. IsHeldWhole (holding_in g u)) untouched.0 whole in
+        absurd (cc none)
+    | inr was ↦
+        held-goes-on (holding_in g d.unspent) (homes_of g d) guest n (Some (place, n)) whole
+        (wordless (holding_in g d.unspent) whole was.held)
+  ]

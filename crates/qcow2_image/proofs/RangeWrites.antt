@@ -50,7 +50,7 @@ use Rattle.qcow2_image.specs.Leaking.{KeepsLeaks, counts_in, names_in, waiting_i
 use Rattle.qcow2_image.specs.ImageLayer.{blank_of, cells, home_by, homes, meaning_of, qcow2_fixed, qcow2_meaning}
 use Rattle.qcow2_image.specs.Homes.{mapped, memory_is}
 use Rattle.qcow2_clusters.specs.Naming.{TakesNone}
-use Rattle.qcow2_image.specs.Rooms.{HasCluster, HoldsIn, IsSafe, ReadsNone, is_sound, rest_of, was_safe, searched_from}
+use Rattle.qcow2_image.specs.Rooms.{HasCluster, HoldsIn, IsSafe, ReadsNone, Sees, is_sound, rest_of, was_safe, searched_from}
 use Rattle.qcow2_image.specs.Seen.{IsOfFile, IsSeen, file_of, homes_of, layer_of, memory_of}
 use Rattle.qcow2_image.specs.Unspent.{holding_in}
 use Rattle.qcow2_image.specs.Writing.{IsHomeAt, MemorySpares, WritesAt, telling_causes}
@@ -333,7 +333,7 @@ spared-unless g place bytes old mid new e looked w runs is = absurd (cc is)
 module _ (R : RattleType) (st : Ghosts R.Denot) (sd : mir.Syntax.Dict) (dd : mir.Syntax.Dict) (old mid new : Qcow2 R.Denot st) (guest place : ℕ)
     (bytes : List ℕ) (result : Result Unit Fault) (looked : KeepsImage {T = Bool} st old (Ok true) mid)
     (w : WritesNoting st guest place bytes mid result new) (runs : old.failed ≡ false) (some : length bytes ≡ 0 → ⊥)
-    (yes : IsSeen st old.tables → IsHomeAt (layer_of st old) guest place (length bytes)) where
+    (yes : Sees st old → IsHomeAt (layer_of st old) guest place (length bytes)) where
   abbrev sees : SeenGhosts (Qcow2 R.Denot st) PreparedMappingState
   sees = ghosts R st sd dd
 
@@ -380,7 +380,8 @@ module _ (R : RattleType) (st : Ghosts R.Denot) (sd : mir.Syntax.Dict) (dd : mir
 
   -- Each place of the range is written where it is, by the words of the file or in the run.
   in-of : IsSafe st old → (i : ℕ) → i < length bytes → (guest + i < H.fields.size) × IsWrittenIn (file_of st old.tables) H.fields hold (guest + i) (place + i)
-  in-of safe i lt = written-in st old safe (guest + i) (place + i) (yes safe.seen i lt)
+  in-of safe i lt =
+      written-in st old safe (guest + i) (place + i) (yes (record { seen = safe.seen; sure = inr (was_safe st old safe) }) i lt)
 
   each-of : IsSafe st old → (i : ℕ) → i < length bytes → IsWrittenAt (file_of st old.tables) H.fields (guest + i) (place + i)
   each-of safe i lt = written-at (file_of st old.tables) H.fields hold (guest + i) (place + i) (unshown-in st old safe) (in-of safe i lt).1
@@ -660,7 +661,7 @@ module _ (R : RattleType) (st : Ghosts R.Denot) (sd : mir.Syntax.Dict) (dd : mir
 
   pub writes-mapped : WritesMapped sees guest place bytes result old new
   writes-mapped = record {
-    mapped = λ seen. on-ok result _ (λ more. (0, yes seen.seen));
+    mapped = λ seen. on-ok result _ (λ more. (0, yes seen));
     empty = λ none. absurd (some none);
     like = like-written;
     ok = ok-written result w.put.answer w.notes w.failed;

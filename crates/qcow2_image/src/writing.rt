@@ -1,6 +1,6 @@
 // Writes where the places of a disk are. A place is an offset for qemu and imago. What a word marks as copied has `QCOW_OFLAG_COPIED`, or
 // the copied bit.
-ghost use Rattle.std.specs.Prelude.{◌≡◌, ◌<◌, ◌≤◌, ◌+◌, ◌^◌, false, None, length, IsTrue, IsFalse, IfOk, IfErr, IfSome};
+ghost use Rattle.std.specs.Prelude.{◌≡◌, ◌<◌, ◌≤◌, ◌+◌, ◌^◌, ◌↔◌, false, Some, None, length, IsTrue, IsFalse, IfOk, IfErr, IfSome};
 ghost use Rattle.imago_access.specs.Failing.{Fails, RefusesLookup};
 ghost use Rattle.imago_access.specs.Mappings.{IsMappedRun};
 ghost use Rattle.imago_access.specs.Parts.{IsMappedAt};
@@ -8,6 +8,7 @@ ghost use Rattle.imago_access.specs.Layer.{IsFree};
 ghost use Rattle.qcow2_alloc.specs.Causes.{HasCause};
 ghost use Rattle.qcow2_image.specs.Holding.{HoldsRun, Notes};
 ghost use Rattle.qcow2_image.specs.Looking.{IsWholeRunIn, writable_place_of};
+ghost use Rattle.qcow2_image.specs.Rooms.{Sees};
 ghost use Rattle.qcow2_image.specs.Unspent.{holding_in};
 ghost use Rattle.qcow2_image.specs.Steps.{KeepsImage};
 ghost use Rattle.qcow2_image.specs.Writing.{IsHomeAt, WritesAt, telling_causes};
@@ -70,7 +71,19 @@ impl<S: Storage> Qcow2<S> {
         }
     }
 
-    // Whether a range is mapped from a place of the image file on, and can be written there.
+    // Whether a range lies as a whole in the run that a prepared mapping holds, from a place of the image file on.
+    fn holds_at(&self, guest: u64, place: u64, length: u64) -> bool
+        ensures held { IsTrue result ↔ HoldsRun (holding_in S.Storage self.now.unspent) guest length (Some (place, length)) }
+        ensures near { IsTrue result → place + length ≤ 2 ^ 60 }
+    {
+        match self.held_run(guest, length) {
+            Some((at, count)) => at == place && count == length,
+            None => false,
+        }
+    }
+
+    // Whether a range is mapped from a place of the image file on, and can be written there. What is held can't be written by its words,
+    // so that no table is looked up where that is all of the range.
     pub(crate) fn is_mapped_at(
         &mut self,
         guest: u64,
@@ -81,7 +94,7 @@ impl<S: Storage> Qcow2<S> {
         requires fits { guest + length < 2 ^ 64 }
         requires runs { self.old.failed ≡ false }
         ensures yes { let d = ⟦<Qcow2<S> as Seen>⟧ in
-            IsSeen S.Storage self.old.tables → IfOk result (λ is. IsTrue is → IsHomeAt (d.layer self.old) guest place length) }
+            Sees S.Storage self.old → IfOk result (λ is. IsTrue is → IsHomeAt (d.layer self.old) guest place length) }
         ensures no { let d = ⟦<Qcow2<S> as Seen>⟧ in
             IsSeen S.Storage self.old.tables → IfOk result (λ is. IsFalse is → IsMappedAt (d.layer self.old) guest place length → ⊥) }
         ensures near { IfOk result (λ is. IsTrue is → 0 < length → place + length ≤ 2 ^ 60) }
@@ -89,6 +102,9 @@ impl<S: Storage> Qcow2<S> {
         ensures failed { IfErr result (Fails ⟦<Qcow2<S> as Seen>⟧ self.old self.new) }
         ensures cause { IsSeen S.Storage self.old.tables → IfErr result (HasCause (telling_causes S.Storage self.old self.new)) }
     {
+        if self.holds_at(guest, place, length) {
+            return Ok(true);
+        }
         let mut done = 0;
         while done < length {
             match self.home_run(guest + done, length - done)? {

@@ -4,7 +4,7 @@ use Rattle.imago_access.specs.Layer.{Layer}
 use Rattle.imago_access.proofs.ImageCauses.{failed_behind}
 use Rattle.qcow2_image.specs.Writing.{IsHomeAt}
 use Rattle.qcow2_image.specs.Seen.{layer_of}
-use Rattle.qcow2_image.proofs.RangeLookups.{home-both, homeless-unmapped, elsewhere-unmapped, kept-seen, why-told}
+use Rattle.qcow2_image.proofs.RangeLookups.{held-home, home-both, homeless-unmapped, elsewhere-unmapped, kept-seen, why-told}
 use Rattle.qcow2_image.proofs.Steps.{keeps-as, keeps-both}
 use Rattle.qcow2_alloc.proofs.Faults.{handed-on}
 use Rattle.qcow2_image.proofs.qcow2.Qcow2.is_mapped_at.Goals as goal
@@ -32,6 +32,16 @@ loop-done-preserved g c =
           (subst (λ (l : Layer). IsHomeAt l (c.args.guest + c.loop-done.done) c.in-Some.at c.in-Some.count) same.0
           (rw is at (next.home same.1))),
     )
+
+pub returns-then-holds_at-clause-yes : goal.returns-then-holds_at-clause-yes
+returns-then-holds_at-clause-yes g c = λ sees is.
+    held-home g.S.Storage c.args.self.now c.args.guest c.args.place c.args.length
+    ((rw c.if-holds_at.true at c.holds_at.ensures.held.0) refl) sees
+
+pub returns-clause-yes : goal.returns-clause-yes
+returns-clause-yes g c = λ sees is.
+    let end : c.loop-done.done ≡ c.args.length = omega (arith, c.loop-done.invariant.0, c.loop-done-test.false) in
+    subst (IsHomeAt (layer_of g.S.Storage c.args.self.now) c.args.guest c.args.place) end (c.loop-done.invariant.3 sees.seen)
 
 pub returns-in-None-clause-no : goal.returns-in-None-clause-no
 returns-in-None-clause-no g c = λ seen no.
