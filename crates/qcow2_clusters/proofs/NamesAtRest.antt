@@ -2,6 +2,7 @@
 -- and what is written then.
 use Rattle.std.proofs.Common.{◌≡◌, ◌≢◌, ℕ, ◌+◌, ◌-◌, ◌*◌, ◌/◌, ◌%◌, ◌<◌, ◌≤◌, refl, arith, ap, sym, subst, ◌∙◌, true, List, length, Result, Ok, Err, inl, inr}
 use Rattle.std.specs.Prelude.{⊤, ◌++◌, IfErr, IsTrue, OnOk}
+use Rattle.std.specs.List.{AllByRecursion}
 use Rattle.imago_storage.specs.State.{StorageState}
 use Rattle.imago_storage.specs.Calls.{IsFaultless, Later}
 use Rattle.imago_storage.specs.declared.fault.Fault.{Fault}
@@ -27,6 +28,7 @@ use Rattle.qcow2_alloc.specs.Memory.{Cached}
 use Rattle.qcow2_alloc.specs.Opening.{IsL1Of}
 use Rattle.qcow2_alloc.specs.Quiet.{IsQuiet, IsSound, IsUsed, Metadata, Quietly, in_memory, counted}
 use Rattle.qcow2_alloc.specs.Freeing.{IsMarked}
+use Rattle.qcow2_alloc.specs.Safety.{AreTablesClean, IsCachedTable}
 use Rattle.qcow2_alloc.proofs.Flushing.FlushRefusals.{never-refused, writing-implies}
 use Rattle.qcow2_alloc.proofs.Causes.{cause-weaker}
 use Rattle.qcow2_alloc.proofs.Memory.SafeLaws.{clean-memory}
@@ -35,19 +37,20 @@ use Rattle.qcow2_alloc.proofs.Quiet.QuietShows.{in-cluster}
 use Rattle.qcow2_alloc.proofs.Quiet.QuietThen.{quietly-then}
 use Rattle.qcow2_alloc.proofs.Searching.FreeClusters.{clean-counts}
 use Rattle.qcow2_steps.proofs.QuietValues.{data-used, quiet-entries}
-use Rattle.qcow2_clusters.specs.Naming.{AreNameable, Listed, NamesIn, NamesRun, NamesWords, given_for_run, listing, naming_run}
+use Rattle.qcow2_clusters.specs.Naming.{AreNameable, LeavesTable, Listed, NamesIn, NamesRun, NamesWords, given_for_run, listing, naming_run}
 use Rattle.qcow2_clusters.specs.Progress.{Kind, Progresses, both, handing}
-use Rattle.qcow2_clusters.specs.Rest.{AreEmpty, Clusters, HasEntries, IsReady, nothing_cached, resting, storage}
-use Rattle.qcow2_clusters.specs.Settling.{Settles}
+use Rattle.qcow2_clusters.specs.Rest.{AreEmpty, Clusters, HasEntries, IsReady, lent, nothing_cached, resting, storage}
+use Rattle.qcow2_clusters.specs.Settling.{KeepsCachedTables, Settles}
 use Rattle.qcow2_clusters.specs.Room.{mark_in}
 use Rattle.qcow2_clusters.proofs.ProgressSums.{progresses-halted, progresses-in-memory, progresses-then, progresses-weaker, quiet-progresses, wider-both, wider-handing, wider-same}
 use Rattle.qcow2_clusters.proofs.EndsAtRest.{settled-cause, settled-faultless}
-use Rattle.qcow2_clusters.proofs.LoneTables.{found-alone, lone_table, never-full, only-read, refused-empty, used-alone, used-read}
+use Rattle.qcow2_clusters.proofs.LoneTables.{found-alone, lone_table, never-full, only-read, refused-empty, used-alone, used-keys, used-one, used-read}
 use Rattle.qcow2_clusters.proofs.RunNames.{Standing, image, stands, words-layout}
 use Rattle.qcow2_clusters.proofs.ClusterNames.{table-fine, table-near}
 use Rattle.qcow2_clusters.proofs.StartsAtRest.{begun-quietly, l1-stays}
 use Rattle.qcow2_clusters.proofs.RoomAfterAllocations.{marked-as}
 use Rattle.qcow2_clusters.proofs.FewerWaiting.{fewer-sound}
+use Rattle.qcow2_clusters.proofs.Settlement.{kept-count, kept-keys}
 
 -- What is shown of a sound image in a storage that keeps what is written.
 progresses-ready : (ok : Type 0) (kind : Kind) (s : StorageState) (m : Metadata) (s' : StorageState) (m' : Metadata) → s'.shape ≡ s.shape → Later s s'
@@ -57,6 +60,19 @@ progresses-ready ok kind s m s' m' shape later progress = record {
   later = later;
   passes = λ keeps sound. (progress keeps sound).passes keeps sound;
   holds = λ keeps sound. (progress keeps sound).holds keeps sound;
+}
+
+-- Where naming was refused, and nothing is cached, no table is left.
+pub leaves-none : {S : Type 0} (state : S → StorageState) (table guest x n : ℕ) (c : Clusters S) (fault : Fault) (result : Result Unit Fault)
+    (c' : Clusters S) → OnOk result (result ≡ Err fault) → AreEmpty c'.caches → LeavesTable state table guest x n c result c'
+leaves-none state table guest x n c fault (Ok done) c' same empty = absurd (let bad : Ok done ≡ Err fault = same in cc)
+leaves-none state table guest x n c fault (Err e) c' same empty = record {
+  clean = subst AreTablesClean (sym empty) tt;
+  loose = subst (λ (k : Cached). AllByRecursion (λ e. e.1.pins ≡ 0) k.tables) (sym empty) tt;
+  alone = subst (λ (k : Cached). AllByRecursion (λ e. e.0 ≡ table) k.tables) (sym empty) tt;
+  there = tt;
+  none = ap (λ (k : Cached). k.tables) empty;
+  fit = λ ready able. tt;
 }
 
 module _ {S : Type 0} (state : S → StorageState) (table guest x n : ℕ) (c c' : Clusters S) (mid : MetadataCaches S) (between : ImageFile S)
@@ -466,3 +482,42 @@ module _ {S : Type 0} (state : S → StorageState) (table guest x n : ℕ) (c c'
 
       pub names-by : UsesTable state table Does (cached_file c.caches c.file) done (cached_file mid between) → NamesRun state table guest x n c result c'
       names-by used = names-begun settles (begun-by done refl used)
+
+      -- What is written in the end is a sound image, where that succeeds.
+      abbrev to-write : Metadata
+      to-write = metadata_of state between mid (table_of c'.space.allocator) c'.space.to_free.entries
+
+      sound-so : (named : Result Unit Fault) → done ≡ named → UsesTable state table Does (cached_file c.caches c.file) named (cached_file mid between)
+          → Ready → result ≡ Ok tt → IsTrue s1.shape.keeps × IsSound to-write
+      sound-so named is (inl r) ready ok = absurd (refused-never r.0 r.2 (is ∙ r.1) held settles ready ok)
+      sound-so (Ok v) is (inr u) ready ok = (
+        keeps_on s0 s1 u.found.going.shape ready.0.keeps,
+        set-sound (Ok v) u held some near fits u.used.ok.1 allocator is settles ready,
+      )
+      sound-so (Err fault) is (inr u) ready ok = elim u.used.err [
+        | inl memory ↦ absurd (unput-never (Err fault) u held (is ∙ ap (λ e. Err e) memory) settles ok)
+        | inr damaged ↦ absurd (damaged.1 (ap (λ (t : TableValue). t.layout.cluster_bits)
+            (used-read state table c.caches c.file rest u.mid between u.found u.table u.there)))
+      ]
+
+      -- So the table that stays cached then is the file's.
+      pub keeps-by : (new : MetadataCaches S) → KeepsCachedTables state between mid result c'.file new
+          → UsesTable state table Does (cached_file c.caches c.file) done (cached_file mid between)
+          → LeavesTable state table guest x n c result (lent c'.file new c'.space)
+      keeps-by new kept used = record {
+        clean = kept.clean;
+        loose = kept.loose;
+        alone = kept-keys state between mid c'.file new table result kept (used-keys state table c.caches c.file rest Does done mid between used);
+        there = on-ok settles result _ (λ ok.
+            let whole : Ok tt ≡ done = subst (λ r. OnOk r (r ≡ done)) ok settles.ok in
+            let same = subst (λ r. OnOk r (length (cached_in new).tables ≡ length (cached_in mid).tables)) ok
+            (kept-count state between mid c'.file new result kept) in
+            same ∙ used-one state table c.caches c.file rest Does tt mid between
+            (subst (λ r. UsesTable state table Does (cached_file c.caches c.file) r (cached_file mid between)) (sym whole) used));
+        none = kept.none;
+        fit = λ ready able. on-ok settles result _ (λ ok.
+            let both = sound-so done refl used (ready, able) ok in
+            subst (λ r. OnOk r (Fitting new)) ok (kept.fit (table_of c'.space.allocator) c'.space.to_free.entries both.0 both.1));
+      } where
+        Fitting : MetadataCaches S → Type 0
+        Fitting caches = AllByRecursion (λ e. IsCachedTable m2.file c'.file.header.fields e.0 e.1.value) (cached_in caches).tables

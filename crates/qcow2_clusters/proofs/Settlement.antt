@@ -1,7 +1,8 @@
 -- What is cached is written, and then dropped.
-use Rattle.std.proofs.Common.{◌≡◌, ℕ, refl, arith, ap, sym, subst, ◌∙◌, List, [], ◌∷◌, Result, Ok, Err, inl, inr}
-use Rattle.std.specs.Prelude.{⊤, IsTrue, OnOk, map}
+use Rattle.std.proofs.Common.{◌≡◌, ℕ, refl, arith, ap, sym, subst, ◌∙◌, false, List, [], ◌∷◌, Result, Ok, Err, inl, inr}
+use Rattle.std.specs.Prelude.{⊤, IsTrue, OnOk, length, map}
 use Rattle.std.specs.List.{AllByRecursion}
+use Rattle.std.proofs.lemmas.List.{length-map}
 use Rattle.imago_storage.specs.Calls.{IsFaultless, Kept}
 use Rattle.imago_storage.specs.State.{StorageState}
 use Rattle.imago_storage.specs.declared.fault.Fault.{Fault}
@@ -19,12 +20,13 @@ use Rattle.qcow2_alloc.specs.declared.file.ImageFile.{ImageFile}
 use Rattle.qcow2_alloc.specs.Allocators.{metadata_of}
 use Rattle.qcow2_alloc.specs.Cache.{kept_pinned}
 use Rattle.qcow2_alloc.specs.Caches.{HasRoomOf, cached_in}
+use Rattle.qcow2_alloc.specs.CachesLending.{with_tables}
 use Rattle.qcow2_alloc.specs.Causes.{HasCause, FailsFor}
 use Rattle.qcow2_alloc.specs.Going.{Always, AreBlocksInReach, AreTablesInReach, Going, InTurn, IsMild, IsNoShorter, WasNotCutOff, WritesBlocks, WritesTables, writing_causes}
 use Rattle.qcow2_alloc.specs.declared.cache.CacheDependency.{CacheDependency}
-use Rattle.qcow2_alloc.specs.Memory.{Cached, memory, written_block, written_table}
+use Rattle.qcow2_alloc.specs.Memory.{Cached, memory, written, written_block, written_table}
 use Rattle.qcow2_alloc.specs.Quiet.{IsIn, IsQuiet, IsSound, Metadata, Quietly, counted}
-use Rattle.qcow2_alloc.specs.Safety.{AreBlocksClean, AreTablesClean, IsLeft, IsSettled, Safe}
+use Rattle.qcow2_alloc.specs.Safety.{AreBlocksClean, AreTablesClean, IsCachedTable, IsLeft, IsSettled, Safe}
 use Rattle.qcow2_alloc.proofs.Caching.Empty.{empty-safe}
 use Rattle.qcow2_alloc.proofs.Caching.Admission.{blocks-none, is-order, tables-none}
 use Rattle.qcow2_alloc.proofs.Flushing.WriteSequences.{kept-same}
@@ -32,7 +34,7 @@ use Rattle.qcow2_alloc.proofs.Memory.SafeLaws.{clean-memory, safe-reach}
 use Rattle.qcow2_alloc.proofs.Quiet.QuietAnnouncements.{written-whole}
 use Rattle.qcow2_alloc.proofs.Quiet.QuietFlushes.{going-quietly, quietly-weaker, stays-quiet}
 use Rattle.qcow2_clusters.specs.Rest.{AreEmpty, nothing_cached}
-use Rattle.qcow2_clusters.specs.Settling.{AreUnpinned, Settles, at_rest}
+use Rattle.qcow2_clusters.specs.Settling.{AreUnpinned, KeepsCachedTables, Settles, at_rest, without_tables}
 
 -- None of these entries is pinned.
 abbrev pub Unpinned : {V : Type 0} → List (ℕ × Slot V) → Type 0
@@ -42,6 +44,16 @@ Unpinned es = AllByRecursion (λ e. e.1.pins ≡ 0) es
 pub unpinned-dropped : {V : Type 0} (es : List (ℕ × Slot V)) → Unpinned es → kept_pinned es ≡ []
 unpinned-dropped [] none = refl
 unpinned-dropped (e ∷ es) none = rw none.0 (unpinned-dropped es none.1)
+
+-- Where each was cached by one key before a change, each is behind it.
+keys-same : (key : ℕ) (xs ys : List (ℕ × Slot TableValue)) → map written_table xs ≡ map written_table ys
+    → AllByRecursion (λ e. e.0 ≡ key) ys → AllByRecursion (λ e. e.0 ≡ key) xs
+keys-same key [] ys same alone = tt
+keys-same key (x ∷ xs) [] same alone = absurd (cc)
+keys-same key (x ∷ xs) (y ∷ ys) same alone =
+    let head : written_table x ≡ written_table y = (let e = same in cc) in
+    let tail : map written_table xs ≡ map written_table ys = (let e = same in cc) in
+    (ap (λ (e : ℕ × Slot TableValue). e.0) head ∙ alone.0, keys-same key xs ys tail alone.1)
 
 -- and none is once they are written.
 module _ {V Y : Type 0} (f : ℕ × Slot V → Y) (pins : Y → ℕ) (is : (e : ℕ × Slot V) → pins (f e) ≡ e.1.pins) where
@@ -232,4 +244,69 @@ module _ {S T : Type 0} (state : S → StorageState) (given : Result T Fault) (b
       cut = λ cut. absurd (cut whole);
       ok = tt;
       answer = inr (fault, refl, counts);
+    }
+
+module _ {S : Type 0} where
+  -- Nothing is pinned once all is written,
+  pub loose-flushed : (old flushed : MetadataCaches S) → written (cached_in flushed) ≡ written (cached_in old) → AreUnpinned old → AreUnpinned flushed
+  loose-flushed old flushed kept loose = record {
+    tables = unpinned-tables (cached_in flushed).tables (cached_in old).tables (ap (λ (w : Cached). w.tables) kept) loose.tables;
+    blocks = unpinned-blocks (cached_in flushed).blocks (cached_in old).blocks (ap (λ (w : Cached). w.blocks) kept) loose.blocks;
+  }
+
+  -- so that no block stays where blocks are dropped:
+  pub blocks-dropped : (flushed new : MetadataCaches S) → AreUnpinned flushed → (cached_in new).blocks ≡ kept_pinned (cached_in flushed).blocks
+      → (cached_in new).blocks ≡ []
+  blocks-dropped flushed new loose dropped = dropped ∙ unpinned-dropped (cached_in flushed).blocks loose.blocks
+
+  -- then without its tables nothing is cached,
+  pub without-tables-empty : (new : MetadataCaches S) → (cached_in new).blocks ≡ [] → AreEmpty (without_tables new)
+  without-tables-empty new none = ap (λ (es : List (ℕ × Slot Block)). record { tables = []; blocks = es }) none
+
+  -- and where no table is, that is the same.
+  pub without-none : (caches : MetadataCaches S) → (cached_in caches).tables ≡ [] → caches ≡ without_tables caches
+  without-none caches none = ap (with_tables caches) none
+
+module _ {S : Type 0} (state : S → StorageState) (before : ImageFile S) (old : MetadataCaches S) (after : ImageFile S) (new : MetadataCaches S) where
+  -- Where nothing is cached any more, no table is kept,
+  pub none-kept : (result : Result Unit Fault) → (result ≡ done_so → ⊥) → AreEmpty new → KeepsCachedTables state before old result after new
+  none-kept (Ok done) refused empty = absurd (refused refl)
+  none-kept (Err fault) refused empty = record {
+    clean = subst AreTablesClean (sym empty) tt;
+    loose = subst (λ (c : Cached). Unpinned c.tables) (sym empty) tt;
+    none = ap (λ (c : Cached). c.tables) empty;
+    same = tt;
+    fit = λ table pending keeps sound. tt;
+  }
+
+  -- and no other is than was cached before,
+  pub kept-keys : (key : ℕ) (result : Result Unit Fault) → KeepsCachedTables state before old result after new
+      → AllByRecursion (λ e. e.0 ≡ key) (cached_in old).tables → AllByRecursion (λ e. e.0 ≡ key) (cached_in new).tables
+  kept-keys key (Ok done) kept alone = keys-same key (cached_in new).tables (cached_in old).tables kept.same alone
+  kept-keys key (Err fault) kept alone = subst (AllByRecursion (λ e. e.0 ≡ key)) (sym kept.none) tt
+
+  -- so many are, where a change succeeded,
+  pub kept-count : (result : Result Unit Fault) → KeepsCachedTables state before old result after new
+      → OnOk result (length (cached_in new).tables ≡ length (cached_in old).tables)
+  kept-count (Ok done) kept = sym (length-map (cached_in new).tables written_table)
+      ∙ ap (λ (es : List (ℕ × Slot TableValue)). length es) kept.same ∙ length-map (cached_in old).tables written_table
+  kept-count (Err fault) kept = tt
+
+  -- and where all was written, those that stay fit the file.
+  module _ (flushed : MetadataCaches S) (header : after.header ≡ before.header) (loose : AreUnpinned old)
+      (written : map written_table (cached_in flushed).tables ≡ map written_table (cached_in old).tables)
+      (stay : (cached_in new).tables ≡ (cached_in flushed).tables) (clean : AreTablesClean (cached_in flushed))
+      (going : Going before.header old.order Always (done_so ≡ done_so) (state before.image) (cached_in old) (state after.image) (cached_in flushed)) where
+    abbrev Fit : Header → List (ℕ × Slot TableValue) → Type 0
+    Fit H es = AllByRecursion (λ e. IsCachedTable (bytes_of (state after.image).bytes) H.fields e.0 e.1.value) es
+
+    pub tables-kept : KeepsCachedTables state before old done_so after new
+    tables-kept = record {
+      clean = subst (AllByRecursion (λ e. e.1.value.modified ≡ false)) (sym stay) clean;
+      loose = subst Unpinned (sym stay) (unpinned-tables (cached_in flushed).tables (cached_in old).tables written loose.tables);
+      none = tt;
+      same = ap (map written_table) stay ∙ written;
+      fit = λ table pending keeps sound.
+          subst (λ H. Fit H (cached_in new).tables) (sym header)
+          (subst (Fit before.header) (sym stay) (going.holds keeps sound.safe tt (inl refl)).safe.tables);
     }

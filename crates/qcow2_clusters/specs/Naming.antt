@@ -1,6 +1,7 @@
 -- How guest clusters in a row come to name clusters in a row that were reserved, or that they kept for their zeroes.
 use Rattle.std.specs.Prelude.{◌≡◌, ◌≢◌, ◌⊎◌, ⊤, ◌+◌, ◌*◌, ◌/◌, ◌%◌, ◌^◌, ◌<◌, ◌≤◌, ℕ, zero, suc, List, [], ◌∷◌, ◌++◌}
-use Rattle.std.specs.Prelude.{Option, Some, None, Result, Ok, Err, OnOk, IfErr, true}
+use Rattle.std.specs.Prelude.{Option, Some, None, Result, Ok, Err, OnOk, OnErr, IfErr, length, true}
+use Rattle.std.specs.List.{AllByRecursion}
 use Rattle.imago_storage.specs.State.{StorageState}
 use Rattle.imago_storage.specs.declared.fault.Fault.{Fault}
 use Rattle.imago_storage.specs.declared.fault.Fault.TheVariants.{DamagedTable, Memory}
@@ -12,10 +13,12 @@ use Rattle.qcow2_types.specs.Words as words
 use Rattle.qcow2_types.specs.Frames.{Same}
 use Rattle.qcow2_metadata.specs.Allocations.{Conserves, allocation_of, freed, holds, newly, replaced}
 use Rattle.qcow2_metadata.specs.Tables.{TableValue, mapping_in, with_word}
+use Rattle.qcow2_alloc.specs.Caches.{cached_in}
 use Rattle.qcow2_alloc.specs.Causes.{HasCause}
 use Rattle.qcow2_alloc.specs.FreeList.{FreeList}
 use Rattle.qcow2_alloc.specs.Going.{IsNoShorter, writing_causes}
 use Rattle.qcow2_alloc.specs.Quiet.{IsUsed, Metadata}
+use Rattle.qcow2_alloc.specs.Safety.{AreTablesClean, IsCachedTable}
 use Rattle.qcow2_steps.specs.Data.{IsKeptFor}
 use Rattle.qcow2_steps.specs.Words.{GivesWord, IsOfWord, IsReserved}
 use Rattle.qcow2_clusters.specs.Progress.{Kind, Progresses, both, handing}
@@ -138,3 +141,14 @@ pub record NamesRun {S : Type 0} (state : S → StorageState) (table guest x n :
       (d * cluster_size c.file.header.fields) (cluster_size c.file.header.fields))
   pub cause : IfErr result (HasCause (writing_causes (IsReady state c × AreNameable n (resting state c) table guest x)
       (storage state c).faults (storage state c').faults))
+
+-- The table stays cached where they come to name them, as the file has it then, and no other is. Refused, none is.
+pub record LeavesTable {S : Type 0} (state : S → StorageState) (table guest x n : ℕ) (c : Clusters S) (result : Result Unit Fault)
+    (c' : Clusters S) : Type 0 where
+  pub clean : AreTablesClean (cached_in c'.caches)
+  pub loose : AllByRecursion (λ e. e.1.pins ≡ 0) (cached_in c'.caches).tables
+  pub alone : AllByRecursion (λ e. e.0 ≡ table) (cached_in c'.caches).tables
+  pub there : OnOk result (length (cached_in c'.caches).tables ≡ 1)
+  pub none : OnErr result ((cached_in c'.caches).tables ≡ [])
+  pub fit : IsReady state c → AreNameable n (resting state c) table guest x → OnOk result
+      (AllByRecursion (λ e. IsCachedTable (resting state c').file c'.file.header.fields e.0 e.1.value) (cached_in c'.caches).tables)

@@ -1,9 +1,10 @@
 -- How changes end at rest.
-use Rattle.std.specs.Prelude.{◌≡◌, ◌⊎◌, ℕ, List, IsTrue, Result, Err, OnOk}
+use Rattle.std.specs.Prelude.{◌≡◌, ◌⊎◌, ℕ, List, [], map, IsTrue, Result, Err, OnOk, OnErr}
 use Rattle.std.specs.List.{AllByRecursion}
 use Rattle.imago_storage.specs.State.{StorageState}
 use Rattle.imago_storage.specs.Calls.{IsFaultless, Kept}
 use Rattle.imago_storage.specs.declared.fault.Fault.{Fault}
+use Rattle.qcow2_types.specs.Bytes.{bytes_of}
 use Rattle.qcow2_types.specs.Pending.{FreeEntry}
 use Rattle.qcow2_metadata.specs.Tables.{TableValue}
 use Rattle.qcow2_alloc.specs.declared.cache.CacheDependency.TheVariants.{Unset}
@@ -14,7 +15,9 @@ use Rattle.qcow2_alloc.specs.Caches.{cached_in, HasRoomOf}
 use Rattle.qcow2_alloc.specs.Causes.{HasCause}
 use Rattle.qcow2_alloc.specs.Going.{AreBlocksInReach, AreTablesInReach, IsNoShorter, WasNotCutOff, writing_causes}
 use Rattle.qcow2_alloc.specs.Quiet.{IsSound, Metadata, Quietly, counted}
-use Rattle.qcow2_alloc.specs.Safety.{AreBlocksClean, AreTablesClean}
+use Rattle.qcow2_alloc.specs.CachesLending.{with_tables}
+use Rattle.qcow2_alloc.specs.Memory.{written_table}
+use Rattle.qcow2_alloc.specs.Safety.{AreBlocksClean, AreTablesClean, IsCachedTable}
 use Rattle.qcow2_clusters.specs.Rest.{AreEmpty, nothing_cached}
 
 -- nothing of the caches is pinned
@@ -47,3 +50,18 @@ pub record Settles {S T : Type 0} (state : S → StorageState) (given : Result T
   pub answer : (result ≡ given) ⊎ ((fault : Fault) × (result ≡ Err fault)
       × HasCause (writing_causes (AreTablesInReach (cached_in old) × AreBlocksInReach (cached_in old)) (state before.image).faults
       (state after.image).faults) fault)
+
+-- the caches without their L2 tables
+abbrev pub without_tables : {S : Type 0} → MetadataCaches S → MetadataCaches S
+without_tables caches = with_tables caches []
+
+-- The L2 tables that were cached stay so where a change succeeded, and are what the file has then; else none is cached.
+pub record KeepsCachedTables {S : Type 0} (state : S → StorageState) (before : ImageFile S) (old : MetadataCaches S)
+    (result : Result Unit Fault) (after : ImageFile S) (new : MetadataCaches S) : Type 0 where
+  pub clean : AreTablesClean (cached_in new)
+  pub loose : AllByRecursion (λ e. e.1.pins ≡ 0) (cached_in new).tables
+  pub none : OnErr result ((cached_in new).tables ≡ [])
+  pub same : OnOk result (map written_table (cached_in new).tables ≡ map written_table (cached_in old).tables)
+  pub fit : (table : TableValue) (pending : List FreeEntry) → IsTrue (state before.image).shape.keeps
+      → IsSound (metadata_of state before old table pending) → OnOk result
+      (AllByRecursion (λ e. IsCachedTable (bytes_of (state after.image).bytes) after.header.fields e.0 e.1.value) (cached_in new).tables)

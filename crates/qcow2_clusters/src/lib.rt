@@ -1,5 +1,6 @@
-//! Single changes of an image's clusters, each begun and ended at rest: with nothing cached, and nothing that waits in memory to be
-//! written. What a word of a table names, its entry references for qemu and imago. A stop is a crash or a power cut.
+//! Single changes of an image's clusters, each begun and ended at rest: with nothing cached, but for the table behind `name_run`, and
+//! nothing that waits in memory to be written. What a word of a table names, its entry references for qemu and imago. A stop is a crash
+//! or a power cut.
 //!
 //! Each call says what the image becomes, and which files a stop of the machine may leave in it.
 #![tactic(auto)]

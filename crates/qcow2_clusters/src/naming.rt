@@ -6,9 +6,10 @@ ghost use Rattle.qcow2_metadata.specs.Places.{IsInReach};
 ghost use Rattle.qcow2_alloc.specs.Allocators.{UsesTable};
 ghost use Rattle.qcow2_alloc.specs.Caches.{cached_file};
 ghost use Rattle.qcow2_clusters.specs.Rest.{AreEmpty, HasEntries, lent};
-ghost use Rattle.qcow2_clusters.specs.Naming.{NamesIn, NamesRun, NamesWord, NamesWords, PutsOff, listing};
+ghost use Rattle.qcow2_clusters.specs.Naming.{LeavesTable, NamesIn, NamesRun, NamesWord, NamesWords, PutsOff, listing};
+ghost use Rattle.qcow2_clusters.specs.Settling.{without_tables};
 
-use crate::settling::settle;
+use crate::settling::{settle, settle_keeping_tables};
 use crate::space::Space;
 use imago_storage::{Fault, Storage};
 use qcow2_alloc::{ClustersToFreeList, ImageFile, MetadataCaches};
@@ -124,7 +125,8 @@ fn name_in_table<S: Storage>(
 
 /// Has guest clusters in a row, of one L2 table, which is in this cluster, each name its own of host clusters in a row as its data, as
 /// copied. What a word named before, if anything, waits to be freed then, but for the host cluster itself, which its guest cluster may have
-/// kept for its zeroes. The bytes of the host clusters stay what they are. Nothing may be cached before, and nothing is then.
+/// kept for its zeroes. The bytes of the host clusters stay what they are. Nothing may be cached before; then the table is, as it was
+/// written, and nothing else. Refused, nothing is.
 ///
 /// It refuses with `Fault::Memory` and `Fault::Storage`, and with `Fault::DamagedTable` where the table has a word without meaning, or is
 /// out of reach, which no sound image has. A refusal leaves a file in which each place shows what it did or, in these guest clusters, the
@@ -145,7 +147,10 @@ pub fn name_run<S: Storage>(
     requires any { 0 < count }
     requires reach { IsInReach file.old.header.fields.cluster_bits (cluster + (count - 1)) }
     requires row { let words = l2_entries file.old.header.fields.cluster_bits in guest % words + count ≤ words }
-    ensures { NamesRun S.state table guest cluster count (lent file.old caches.old space.old) result (lent file.new caches.new space.new) }
+    ensures names { NamesRun S.state table guest cluster count (lent file.old caches.old space.old) result
+        (lent file.new (without_tables caches.new) space.new) }
+    ensures leaves { LeavesTable S.state table guest cluster count (lent file.old caches.old space.old) result
+        (lent file.new caches.new space.new) }
 {
     let named = name_in_table(
         file,
@@ -156,5 +161,8 @@ pub fn name_run<S: Storage>(
         cluster,
         count,
     );
-    settle(file, caches, named)
+    match named {
+        Ok(()) => settle_keeping_tables(file, caches),
+        Err(fault) => settle(file, caches, Err(fault)),
+    }
 }

@@ -1,10 +1,10 @@
-// Ends changes at rest: what is modified is written, and then nothing is cached. A change is cut off by what qemu tells as `-ENOMEM` or
-// `-EIO`, and imago as an error of memory or of input and output.
-ghost use Rattle.std.specs.Prelude.{MatchBool};
+// Ends changes at rest: what is modified is written, and then nothing is cached, or L2 tables alone. A change is cut off by what qemu tells
+// as `-ENOMEM` or `-EIO`, and imago as an error of memory or of input and output.
+ghost use Rattle.std.specs.Prelude.{MatchBool, Ok};
 ghost use Rattle.qcow2_alloc.specs.Caches.{HasRoomOf};
 ghost use Rattle.qcow2_alloc.specs.Going.{WasNotCutOff};
 ghost use Rattle.qcow2_clusters.specs.Rest.{AreEmpty};
-ghost use Rattle.qcow2_clusters.specs.Settling.{AreUnpinned, Settles};
+ghost use Rattle.qcow2_clusters.specs.Settling.{AreUnpinned, KeepsCachedTables, Settles, without_tables};
 
 use imago_storage::{Fault, Storage};
 use qcow2_alloc::{ImageFile, MetadataCaches};
@@ -43,4 +43,25 @@ pub(crate) fn settle<S: Storage, T: Drop>(
     drop_cached(caches);
     flushed?;
     given
+}
+
+// Ends a change that succeeded as `settle` does, but that the L2 tables stay cached where all that is modified was written.
+pub(crate) fn settle_keeping_tables<S: Storage>(
+    file: &mut ImageFile<S>,
+    caches: &mut MetadataCaches<S>,
+) -> Result<(), Fault>
+    requires loose { AreUnpinned caches.old }
+    ensures settles { Settles S.state (Ok tt) file.old caches.old result file.new (without_tables caches.new) }
+    ensures kept { KeepsCachedTables S.state file.old caches.old result file.new caches.new }
+{
+    match caches.flush_all(file) {
+        Ok(()) => {
+            let _blocks = caches.invalidate_rb();
+            Ok(())
+        }
+        Err(fault) => {
+            drop_cached(caches);
+            Err(fault)
+        }
+    }
 }

@@ -61,7 +61,7 @@ use Rattle.qcow2_image.specs.Unspent.{holding_in}
 use Rattle.qcow2_image.specs.declared.allocating.Placed.{Placed}
 use Rattle.qcow2_image.specs.declared.qcow2.Qcow2.{Qcow2}
 use Rattle.qcow2_image.specs.declared.tables.Tables.{Tables}
-use Rattle.qcow2_image.proofs.FileWords.{place-in-file, place-named, some-offset, top-long, top-word}
+use Rattle.qcow2_image.proofs.FileWords.{place-in-file, place-named, some-offset, tables-same, top-long, top-word}
 use Rattle.qcow2_image.proofs.DiskEffects.{Spares, WhyNoSpace, keeps-disk-same, keeps-image-disk, later-refused, progress-keeps, safe-sound, space-keeps, space-refused, whole-below, keeps-disk-both}
 use Rattle.qcow2_image.proofs.Leaks.{advanced-leaks, leaks-all, leaks-both, leaks-but, leaks-loaded, leaks-then}
 use Rattle.qcow2_image.proofs.ZeroClusters.{apart-some, kept-at-rest, kept-in, kept-is}
@@ -166,11 +166,7 @@ progresses-as ok ok' kind s s' m m' from p = record {
   holds = λ keeps sound whole. p.holds keeps sound (from whole);
 }
 
--- The words of one L1 table say where the L2 tables are, of both files,
-tables-same : (f f' : Bytes) (h h' : Fields) (top : TableValue) → IsL1Of f h top → IsL1Of f' h' top → (i : ℕ) → l2_table f' h' i ≡ l2_table f h i
-tables-same f f' h h' top one two i = place-in-file f' h' top two i ∙ sym (place-in-file f h top one i)
-
--- also where the refcount table has moved.
+-- The words of an L1 table are those of the file also where the refcount table has moved.
 l1-moved : (f : Bytes) (H H' : Header) (top : TableValue) → MovedTable H H' → IsL1Of f H.fields top → IsL1Of f H'.fields top
 unfolding l1_table_sound
 l1-moved f H H' top moved of =

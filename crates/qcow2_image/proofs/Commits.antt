@@ -1,10 +1,11 @@
 -- What a commit leaves of the image whose prepared mapping it spends.
-use Rattle.std.proofs.Common.{◌≡◌, ℕ, ◌+◌, ◌-◌, ◌*◌, ◌/◌, ◌%◌, ◌<◌, ◌≤◌, refl, arith, ap, sym, subst, ◌∙◌, inl, inr, Bool, true, false, List, Option, Some, None, Result, Ok, Err}
+use Rattle.std.proofs.Common.{◌≡◌, ℕ, ◌+◌, ◌-◌, ◌*◌, ◌/◌, ◌%◌, ◌<◌, ◌≤◌, mul-pos, refl, arith, ap, sym, subst, ◌∙◌, inl, inr, Bool, true, false, cond, List, [], ◌∷◌, Option, Some, None, Result, Ok, Err}
 use Rattle.std.proofs.lemmas.Bool.{cases_Bool, cases_lt, le-ltb, lt-ltb}
-use Rattle.std.proofs.lemmas.Nat.{div-add-mod'}
-use Rattle.std.specs.Prelude.{◌⊎◌, IsTrue, IsSome, IfSome, IfErr, OnOk, EachIndex, slice_index, length, ltb, ◌&&◌, if◌then◌else◌}
+use Rattle.std.proofs.lemmas.Nat.{div-add-mod', pow_pos}
+use Rattle.std.specs.Prelude.{◌⊎◌, IsTrue, IsSome, IfSome, IfErr, OnOk, EachIndex, slice_index, length, ltb, nat_lt, ◌&&◌, if◌then◌else◌}
 use Rattle.std.specs.List.{AllByRecursion}
-use Rattle.imago_storage.specs.State.{Shape}
+use Rattle.std.proofs.lemmas.List.Sums.{sum_by-cons}
+use Rattle.imago_storage.specs.State.{Shape, StorageState}
 use Rattle.imago_storage.specs.Disk.{Value, byte}
 use Rattle.imago_storage.specs.Passing.{Passes}
 use Rattle.imago_storage.specs.declared.fault.Fault.{Fault}
@@ -20,16 +21,19 @@ use Rattle.imago_access.proofs.Stopping.{passes_weaker}
 use Rattle.qcow2_types.specs.Bytes.{Bytes, bytes_of}
 use Rattle.qcow2_types.specs.Header.{Fields, Header, cluster_size, words_of_cluster}
 use Rattle.qcow2_types.specs.Words.{Mapping, data_at}
-use Rattle.qcow2_types.specs.Entries.{entry}
+use Rattle.qcow2_types.specs.Entries.{entry, l2_table}
 use Rattle.qcow2_types.specs.Consistency.{IsConsistent}
 use Rattle.qcow2_types.proofs.Counting.Consistent.{header-reading}
 use Rattle.qcow2_metadata.proofs.TableSteps.{past_end}
 use Rattle.qcow2_alloc.specs.Allocators.{table_of, mark_of}
 use Rattle.qcow2_alloc.specs.Causes.{HasCause}
 use Rattle.qcow2_alloc.specs.Going.{WasNotCutOff, writing_causes}
+use Rattle.qcow2_alloc.specs.Caches.{HasRoomOf, cached_in}
+use Rattle.qcow2_alloc.specs.Finding.{pinned_in}
 use Rattle.qcow2_alloc.specs.Memory.{Cached}
 use Rattle.qcow2_alloc.specs.Opening.{IsL1Of}
 use Rattle.qcow2_alloc.specs.Quiet.{Metadata, IsSound, in_memory}
+use Rattle.qcow2_alloc.specs.Safety.{IsCachedTable}
 use Rattle.qcow2_alloc.proofs.Flushing.FlushRefusals.{writing-implies}
 use Rattle.qcow2_alloc.proofs.Causes.{cause-weaker}
 use Rattle.qcow2_alloc.proofs.Memory.SafeLaws.{clean-memory}
@@ -37,12 +41,16 @@ use Rattle.qcow2_steps.specs.Advancing.{Advances, MayBeLeft}
 use Rattle.qcow2_steps.specs.Values.{own_value, own_value_by}
 use Rattle.qcow2_steps.specs.Data.{IsKeptFor}
 use Rattle.qcow2_steps.specs.Words.{IsReserved}
+use Rattle.qcow2_alloc.specs.declared.async_lru_cache.Slot.{Slot}
 use Rattle.qcow2_alloc.specs.declared.cache.MetadataCaches.{MetadataCaches}
-use Rattle.qcow2_clusters.specs.Naming.{AreNameable, NamesRun, naming_run}
+use Rattle.qcow2_alloc.specs.declared.file.ImageFile.{ImageFile}
+use Rattle.qcow2_clusters.specs.Naming.{AreNameable, IsUnder, LeavesTable, NamesRun, naming_run}
 use Rattle.qcow2_clusters.specs.Progress.{Kind, Progresses}
 use Rattle.qcow2_clusters.specs.declared.space.Space.{Space}
 use Rattle.qcow2_clusters.proofs.RunNames.{run-gives, run-sets}
 use Rattle.qcow2_clusters.specs.Rest.{Clusters, IsReady, lent, nothing_cached, resting}
+use Rattle.qcow2_clusters.specs.Settling.{without_tables}
+use Rattle.qcow2_image.specs.Caching.{IsClean, IsUnpinned}
 use Rattle.qcow2_image.specs.Committing.{CommitsUnspent, NamesHost, NamesWith, SpendsUnspent, answer_of, failed_behind_any, held_behind, reserved_of}
 use Rattle.qcow2_image.specs.Holding.{Holding, IsOwnAs, IsUncopied, claim_held, copied_to, held_home, held_of, held_place, held_with, home_or, homes_with, in_clusters, in_run, written_to}
 use Rattle.qcow2_image.specs.HeldHomes.{clusters-from, clusters-of, free-homes, held-at, run-from, run-guest}
@@ -50,7 +58,7 @@ use Rattle.qcow2_image.specs.Homes.{cluster-there}
 use Rattle.qcow2_image.proofs.Preparations.FreshRuns.{uncopied-homeless}
 use Rattle.qcow2_image.specs.ImageLayer.{blank_of, cell_by, cells, home_by, homes, qcow2_fixed}
 use Rattle.qcow2_image.specs.Rooms.{HasCluster, HasRoom, HoldsIn, IsSafe, is_sound, rest_of}
-use Rattle.qcow2_image.specs.Seen.{IsOfFile, IsSeen, file_of, homes_of, layer_of, memory_of}
+use Rattle.qcow2_image.specs.Seen.{IsSeen, IsTableAt, file_of, homes_of, layer_of, memory_of}
 use Rattle.qcow2_image.specs.Unspent.{holding, holding_in}
 use Rattle.qcow2_image.specs.declared.mappings.Reserved.{Reserved}
 use Rattle.qcow2_image.specs.declared.qcow2.PreparedMappingState.{PreparedMappingState}
@@ -58,7 +66,9 @@ use Rattle.qcow2_image.specs.declared.qcow2.Qcow2.{Qcow2}
 use Rattle.qcow2_image.specs.declared.tables.Tables.{Tables}
 use Rattle.qcow2_image.specs.declared.unspent.Unspent.{Unspent}
 use Rattle.qcow2_image.proofs.DiskEffects.{cell-shown, cell_of, may-left, rest-memory, safe-sound, seen_as}
+use Rattle.qcow2_image.proofs.FileWords.{tables-same}
 use Rattle.qcow2_image.proofs.Steps.{memory-is}
+use Rattle.qcow2_image.proofs.TableSearches.{tables-of-file}
 use Rattle.qcow2_alloc.specs.Freeing.{IsMarked}
 use Rattle.qcow2_alloc.specs.declared.allocation.Allocator.{Allocator}
 use Rattle.qcow2_image.proofs.SearchStart.{counted-at-rest, counted-in-file}
@@ -174,7 +184,7 @@ module _ {S : Type 0} (g : Ghosts S) (claim : ℕ) (old new : Qcow2 S g)
     c = lent old.tables.file with-space.caches holds.space
 
     abbrev c' : Clusters S
-    c' = lent new.tables.file new.tables.caches with-space.between
+    c' = lent new.tables.file (without_tables new.tables.caches) with-space.between
 
     -- what is given, set, handed out and taken
     abbrev pub kind : Kind
@@ -423,12 +433,38 @@ module _ {S : Type 0} (g : Ghosts S) (claim : ℕ) (old new : Qcow2 S g)
       consistent-now : IsConsistent f' new.tables.file.header
       consistent-now = advances.sound.safe.consistent
 
+      l1-now : IsL1Of f' h' new.tables.l1
+      l1-now = with-space.names.l1 able ready (subst WasNotCutOff (sym ok) tt) new.tables.l1 (subst (IsL1Of f h) (sym s.names.l1) safe.seen.l1)
+
+      -- The table is named as it was.
+      table-there : IsTableAt f' h' (hold.table * cluster_size h')
+      table-there = by (holds.held.under 0 holds.held.any) where
+        row : ℕ
+        row = (hold.guest + 0) / words_of_cluster h
+
+        place-same : l2_table f' h' row ≡ l2_table f h row
+        place-same = tables-same f f' h h' new.tables.l1 (subst (IsL1Of f h) (sym s.names.l1) safe.seen.l1) l1-now row
+
+        by : IsUnder before hold.table (hold.guest + 0) → IsTableAt f' h' (hold.table * cluster_size h')
+        by under = record {
+          row = row;
+          in_l1 = subst (λ k. row < k.l1_entries) (sym fields-same) under.inside;
+          is_there = λ none.
+              let apart = under.some in
+              let long = mul-pos {m = hold.table} (omega (arith, apart)) (pow_pos h.cluster_bits) in
+              let nowhere = sym under.there ∙ sym place-same ∙ none in
+              omega (arith, long, nowhere);
+          at = place-same ∙ under.there ∙ ap (λ k. hold.table * cluster_size k) (sym fields-same);
+        }
+
       seen-now : IsSeen g new.tables
       seen-now = record {
         loads = header-reading f' new.tables.file.header consistent-now.readable.loads;
         inside = consistent-now.readable.data_inside;
-        l1 = with-space.names.l1 able ready (subst WasNotCutOff (sym ok) tt) new.tables.l1 (subst (IsL1Of f h) (sym s.names.l1) safe.seen.l1);
-        tables = subst (λ (k : Cached). AllByRecursion (IsOfFile f' h') k.tables) (sym with-space.names.rests.empty) tt;
+        l1 = l1-now;
+        tables = tables-of-file f' h' hold.table table-there (cached_in new.tables.caches).tables with-space.kept.alone
+            (subst (λ r. OnOk r (AllByRecursion (λ e. IsCachedTable f' h' e.0 e.1.value) (cached_in new.tables.caches).tables)) ok (with-space.kept.fit ready able))
+            with-space.kept.clean;
       }
 
       rest-now : rest_of g new.tables with-space.after ≡ after
@@ -472,10 +508,38 @@ spends-by g claim old mid u taken named tables names new is result answer bytes 
   tables-same : mid.tables ≡ old.tables
   tables-same = ap (λ (d : Qcow2 _ g). d.tables) taken.2
 
+-- What is cached once a cluster is named waits for nothing, and isn't pinned.
+none-pinned : {V : Type 0} (es : List (ℕ × Slot V)) → AllByRecursion (λ e. e.1.pins ≡ 0) es → pinned_in es ≡ 0
+none-pinned [] none = refl
+none-pinned (e ∷ es) none =
+    let own : pinned_in (e ∷ es) ≡ cond (nat_lt 0 e.1.pins) 1 0 + pinned_in es = sum_by-cons (λ x. cond (nat_lt 0 x.1.pins) 1 0) e es in
+    let free : nat_lt 0 e.1.pins ≡ false = ap (nat_lt 0) none.0 in
+    let rest = own ∙ ap (λ b. cond b 1 0 + pinned_in es) free in
+    let others = none-pinned es none.1 in
+    omega (arith, rest, others)
+
+module _ {S : Type 0} (state : S → StorageState) (table guest x n : ℕ) (c : Clusters S) (result : Result Unit Fault) (file : ImageFile S)
+    (caches : MetadataCaches S) (space : Space) (names : NamesRun state table guest x n c result (lent file (without_tables caches) space))
+    (kept : LeavesTable state table guest x n c result (lent file caches space)) where
+  no-blocks : caches.rb.slots.entries ≡ []
+  no-blocks = ap (λ (k : Cached). k.blocks) names.rests.empty
+
+  pub named-clean : IsClean (cached_in caches)
+  named-clean = (kept.clean, subst (AllByRecursion (λ e. e.1.value.modified ≡ false)) (sym no-blocks) tt)
+
+  pub named-loose : (old : MetadataCaches S) → HasRoomOf old c.caches → IsUnpinned old → IsUnpinned caches
+  named-loose old room free = (
+    none-pinned caches.l2.slots.entries kept.loose,
+    subst (λ es. pinned_in es ≡ 0) (sym no-blocks) refl,
+    subst (λ k. 0 < k) (sym (names.rests.room.tables ∙ room.tables)) free.2,
+    subst (λ k. 0 < k) (sym (names.rests.room.blocks ∙ room.blocks)) free.3,
+  )
+
 -- What naming a host cluster is by the call that does it, where words can name the cluster.
 module _ {S : Type 0} (g : Ghosts S) (r : Reserved) (guest : ℕ) (old new : Tables S g) (result : Result Unit Fault) (space : Space)
     (caches : MetadataCaches S) (between after : Space) (there : old.space ≡ Some space)
-    (names : NamesRun g.state r.table guest r.host r.count (lent old.file caches space) result (lent new.file new.caches between)) (l1 : new.l1 ≡ old.l1)
+    (names : NamesRun g.state r.table guest r.host r.count (lent old.file caches space) result (lent new.file (without_tables new.caches) between))
+    (kept : LeavesTable g.state r.table guest r.host r.count (lent old.file caches space) result (lent new.file new.caches between)) (l1 : new.l1 ≡ old.l1)
     (there' : new.space ≡ Some after) (allocator : after.allocator ≡ between.allocator)
     (entries : after.to_free.entries ≡ between.to_free.entries)
     (let_go : OnOk result (after.to_free.held ≡ held_behind r.is_kept between.to_free.held)) where
@@ -495,8 +559,10 @@ module _ {S : Type 0} (g : Ghosts S) (r : Reserved) (guest : ℕ) (old new : Tab
       caches = caches;
       between = between;
       after = after;
-      names = subst (λ x. NamesRun g.state r.table guest r.host r.count (lent old.file caches x) result (lent new.file new.caches between))
+      names = subst (λ x. NamesRun g.state r.table guest r.host r.count (lent old.file caches x) result (lent new.file (without_tables new.caches) between))
           (some-same known space (sym is ∙ there)) names;
+      kept = subst (λ x. LeavesTable g.state r.table guest r.host r.count (lent old.file caches x) result (lent new.file new.caches between))
+          (some-same known space (sym is ∙ there)) kept;
       there = there';
       allocator = allocator;
       entries = entries;

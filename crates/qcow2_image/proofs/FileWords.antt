@@ -135,3 +135,7 @@ entry-of-file f h top t guest table of named fits layout words below =
 pub entry-of-unsound : (f : Bytes) (h : Fields) (top : TableValue) (guest table : ℕ) → IsL1Of f h top → place_of_table top.words h.cluster_bits guest ≡ Some table
     → ((HasUnsound l2_words (layout_of h) (words_in f (table * cluster_size h) (words_of_cluster h)) → ⊥) → ⊥) → entry f h guest ≡ damaged
 entry-of-unsound f h top guest table of named some = entry-of-named f h top of guest table named ∙ rw (unsound-table f h (table * cluster_size h) some) refl
+
+-- The words of one L1 table say where the L2 tables are, of both files.
+pub tables-same : (f f' : Bytes) (h h' : Fields) (top : TableValue) → IsL1Of f h top → IsL1Of f' h' top → (i : ℕ) → l2_table f' h' i ≡ l2_table f h i
+tables-same f f' h h' top one two i = place-in-file f' h' top two i ∙ sym (place-in-file f h top one i)

@@ -1,9 +1,10 @@
 -- What a search of a table, and its use, leave of what is true of each cached table.
-use Rattle.std.proofs.Common.{◌≡◌, ℕ, ◌*◌, refl, ap, sym, subst, ◌∙◌, List, [], ◌∷◌, ◌++◌, length, Some, None, Result, Ok, Err, inl, inr}
-use Rattle.std.specs.Prelude.{◌⊎◌, OnOk, OnErr, IsSome, Bool, Option, map, nat_eq, nat_lt}
+use Rattle.std.proofs.Common.{◌≡◌, ◌≢◌, ℕ, ◌*◌, refl, ap, sym, subst, ◌∙◌, List, [], ◌∷◌, ◌++◌, length, Some, None, Result, Ok, Err, inl, inr}
+use Rattle.std.specs.Prelude.{◌⊎◌, OnOk, OnErr, IsSome, Bool, Option, false, map, nat_eq, nat_lt}
 use Rattle.std.specs.List.{AllByRecursion}
 use Rattle.std.specs.Option.{option_map, option_map_or}
 use Rattle.std.specs.Map.{lookup, remove_entry}
+use Rattle.std.proofs.Math.Nat.{zero-mul}
 use Rattle.std.proofs.lemmas.Bool.{cases_Bool}
 use Rattle.imago_storage.specs.declared.fault.Fault.{Fault}
 use Rattle.qcow2_types.specs.Bytes.{Bytes}
@@ -12,6 +13,7 @@ use Rattle.qcow2_metadata.specs.Tables.{TableValue, table_in, words_in}
 use Rattle.qcow2_alloc.specs.Cache.{hit, victim}
 use Rattle.qcow2_alloc.specs.Finding.{Sought, with_room}
 use Rattle.qcow2_alloc.specs.Memory.{written_table}
+use Rattle.qcow2_alloc.specs.Safety.{IsCachedTable}
 use Rattle.qcow2_alloc.specs.declared.async_lru_cache.Slot.{Slot}
 use Rattle.qcow2_alloc.proofs.Caching.Places.{Place, place-of-key, place-hit, slot-of}
 use Rattle.qcow2_image.specs.Seen.{IsOfFile, IsTableAt}
@@ -87,3 +89,19 @@ of-search f h cap key es es' answer named sought all = elim (found-or-not (looku
     | inl written ↦ of-written f h es' es written all
     | inr room ↦ subst (AllByRecursion (IsOfFile f h)) (sym room) (all-with-room (IsOfFile f h) cap es all)
   ]
+
+-- A table that is cached alone is of the file where an L1 word names its cluster, if it fits and isn't modified.
+pub tables-of-file : (f : Bytes) (h : Fields) (table : ℕ) → IsTableAt f h (table * cluster_size h) → (es : List (ℕ × Slot TableValue))
+    → AllByRecursion (λ e. e.0 ≡ table) es → AllByRecursion (λ e. IsCachedTable f h e.0 e.1.value) es
+    → AllByRecursion (λ e. e.1.value.modified ≡ false) es → AllByRecursion (IsOfFile f h) es
+tables-of-file f h table there [] alone fit clean = tt
+tables-of-file f h table there (e ∷ es) alone fit clean =
+    let here : IsTableAt f h (e.0 * cluster_size h) = subst (λ k. IsTableAt f h (k * cluster_size h)) (sym alone.0) there in
+    let some : e.0 ≢ 0 = λ none. here.is_there (here.at ∙ ap (λ k. k * cluster_size h) none ∙ zero-mul (cluster_size h)) in (
+      record {
+        named = here;
+        layout = fit.0.layout;
+        words = fit.0.clean clean.0 (here.row, here.in_l1, here.at, some);
+      },
+      tables-of-file f h table there es alone.1 fit.1 clean.1,
+    )

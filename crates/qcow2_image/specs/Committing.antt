@@ -9,8 +9,9 @@ use Rattle.qcow2_metadata.specs.Places.{IsInReach}
 use Rattle.qcow2_alloc.specs.declared.cache.MetadataCaches.{MetadataCaches}
 use Rattle.qcow2_alloc.specs.Causes.{HasCause}
 use Rattle.qcow2_alloc.specs.Going.{IsNoShorter, WasNotCutOff, writing_causes}
-use Rattle.qcow2_clusters.specs.Naming.{NamesRun}
+use Rattle.qcow2_clusters.specs.Naming.{LeavesTable, NamesRun}
 use Rattle.qcow2_clusters.specs.Rest.{lent}
+use Rattle.qcow2_clusters.specs.Settling.{without_tables}
 use Rattle.qcow2_clusters.specs.declared.space.Space.{Space}
 use Rattle.qcow2_image.specs.Holding.{claim_held}
 use Rattle.qcow2_image.specs.Unspent.{holding_in}
@@ -44,7 +45,9 @@ pub record NamesWith {S : Type 0} (g : Ghosts S) (r : Reserved) (guest : ℕ) (o
   pub caches : MetadataCaches S
   pub between : Space
   pub after : Space
-  pub names : NamesRun g.state r.table guest r.host r.count (lent old.file caches space) result (lent new.file new.caches between)
+  pub names : NamesRun g.state r.table guest r.host r.count (lent old.file caches space) result
+      (lent new.file (without_tables new.caches) between)
+  pub kept : LeavesTable g.state r.table guest r.host r.count (lent old.file caches space) result (lent new.file new.caches between)
   pub there : new.space ≡ Some after
   pub allocator : after.allocator ≡ between.allocator
   pub entries : after.to_free.entries ≡ between.to_free.entries
