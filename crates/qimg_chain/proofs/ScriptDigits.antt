@@ -1,5 +1,5 @@
 -- Bytes as digits, pair by pair.
-use Rattle.std.proofs.Common.{◌≡◌, ℕ, ◌+◌, ◌-◌, ◌*◌, ◌%◌, ◌<◌, ◌≤◌, ◌++◌, inl, inr, Bool, true, false, Option, Some, None, Ok, Err, List, length, drop, take, slice_index, slice_set, unwrap_or, refl, sym, ap, ◌∙◌, arith}
+use Rattle.std.proofs.Common.{◌≡◌, ℕ, ◌+◌, ◌-◌, ◌*◌, ◌%◌, ◌<◌, ◌≤◌, ◌++◌, inl, inr, Bool, true, false, Option, Some, None, Ok, Err, List, length, drop, take, slice_index, slice_set, MatchOption, refl, sym, ap, ◌∙◌, arith}
 use Rattle.std.specs.Prelude.{◌&&◌, nat_lt}
 use Rattle.std.specs.Result.{result_ok}
 use Rattle.std.proofs.lemmas.List.{drop-drop, drop_at, get_or-drop, get_or_append_left, length-append, length-drop}
@@ -15,16 +15,16 @@ AreDecoded word out i = decode_pairs 0 word ≡ prepend (take i out) (decode_pai
 
 -- what a digit is read as
 abbrev pub IsReadAs : ℕ → ℕ → Type 0
-IsReadAs digit value = value ≡ unwrap_or (hex_digit_value digit) 16
+IsReadAs digit value = MatchOption (hex_digit_value digit) (16 ≤ value) (λ v. value ≡ v)
 
-a-digit : (o : Option ℕ) (v : ℕ) → v ≡ unwrap_or o 16 → v < 16 → o ≡ Some v
+a-digit : (o : Option ℕ) (v : ℕ) → MatchOption o (16 ≤ v) (λ w. v ≡ w) → v < 16 → o ≡ Some v
 a-digit (Some w) v is small = ap Some (sym is)
 a-digit None v is small = absurd (omega (arith, is, small))
 
 value-small : (c v : ℕ) → hex_digit_value c ≡ Some v → v < 16
 value-small c v is = grind arith
 
-no-digit : (c : ℕ) (o : Option ℕ) (v : ℕ) → hex_digit_value c ≡ o → v ≡ unwrap_or o 16 → 16 ≤ v → o ≡ None
+no-digit : (c : ℕ) (o : Option ℕ) (v : ℕ) → hex_digit_value c ≡ o → MatchOption o (16 ≤ v) (λ w. v ≡ w) → 16 ≤ v → o ≡ None
 no-digit c (Some w) v found is great = absurd (omega (arith, is, great, value-small c w found))
 no-digit c None v found is great = refl
 

@@ -12,7 +12,7 @@ use lib.Dec.{eqb}
 use Rattle.qimg_chain.specs.ScriptWords.{words_of, number_of, bytes_of, mode_of, mode_word}
 use Rattle.qimg_chain.specs.ScriptParts.{lone_line, shrink_line, range_line, mode_or_range_line, numbered_line, line_of, NotSaid}
 use Rattle.qimg_chain.specs.Script.{IsNumber, HasTwo, IsWritten, IsLine, NotLine}
-use Rattle.qimg_chain.proofs.ScriptSpelling.{words_again}
+use Rattle.qimg_chain.proofs.ScriptSpelling.{last_word, words_again}
 use Rattle.qimg_chain.specs.declared.script.line.Line.{Line}
 use Rattle.qimg_chain.specs.declared.script.line.Line.TheVariants.{Size, Read, Write, Zero, Discard, DiscardAny, DiscardBacking, Grow, Shrink, Flush, Check, Plain, Save}
 
@@ -141,6 +141,10 @@ line_written (name ∷ first ∷ second ∷ []) line e =
     let m = made (numbered_line name second) (number_of first) line e in
     numbered_written name first second m.0 line m.1 m.2
 line_written (name ∷ first ∷ second ∷ third ∷ more) line e = absurd cc
+
+-- The last of three words that are read as a line is one word.
+pub last_read : (name first second : List ℕ) (line : Line) → line_of (name ∷ first ∷ second ∷ []) ≡ Some line → words_of second ≡ second ∷ []
+last_read name first second line e = last_word name first second line (line_written (name ∷ first ∷ second ∷ []) line e)
 
 -- Words are read as the line that they write.
 written_line : (line : Line) (words : List (List ℕ)) → IsWritten line words → line_of words ≡ Some line

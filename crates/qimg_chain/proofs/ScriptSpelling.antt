@@ -1,5 +1,5 @@
 -- Words of a line hold no space, so that what they are joined to is cut into them again.
-use Rattle.std.proofs.Common.{◌≡◌, ℕ, Bool, true, false, cond, not, List, [], ◌∷◌, ◌++◌, length, Some, None, Result, Ok, Err, refl, ap, ◌∙◌}
+use Rattle.std.proofs.Common.{◌≡◌, ℕ, Bool, true, false, cond, not, List, [], ◌∷◌, ◌++◌, length, Some, None, Result, Ok, Err, refl, ap, subst, ◌∙◌}
 use Rattle.std.specs.Prelude.{codes}
 use Rattle.std.specs.List.{All, AllPass, list_all, join_with_byte}
 use Rattle.std.specs.Char.{is_ascii_digit}
@@ -94,6 +94,35 @@ ranged : (command : List ℕ) (words : List (List ℕ)) (offset count : ℕ) →
     HasTwo command (IsNumber offset) (IsNumber count) words → words_of (join_with_byte 32 words) ≡ words
 ranged command words offset count plain h =
     with_two command words plain (λ word e. number_spaceless word offset e) (λ word e. number_spaceless word count e) h
+
+last_of : {First Second : List ℕ → Type 0} (command name first second : List ℕ) → ((word : List ℕ) → Second word → IsSpaceless word) →
+    HasTwo command First Second (name ∷ first ∷ second ∷ []) → words_of second ≡ second ∷ []
+last_of command name first second spaceless h =
+    let are = h.words_are in
+    let same : h.second ≡ second = cc in
+    one_word second (subst IsSpaceless same (spaceless h.second h.is_second))
+
+last_ranged : (command name first second : List ℕ) (offset count : ℕ) →
+    HasTwo command (IsNumber offset) (IsNumber count) (name ∷ first ∷ second ∷ []) → words_of second ≡ second ∷ []
+last_ranged command name first second offset count h = last_of command name first second (λ word e. number_spaceless word count e) h
+
+-- The last of three words that write a line is one word.
+pub last_word : (name first second : List ℕ) (line : Line) → IsWritten line (name ∷ first ∷ second ∷ []) → words_of second ≡ second ∷ []
+last_word name first second Size h = absurd cc
+last_word name first second (Read offset count) h = last_ranged (codes "read") name first second offset count h
+last_word name first second (Write offset bytes) h =
+    last_of (codes "write") name first second (λ word e. bytes_spaceless word bytes e) h
+last_word name first second (Zero offset count) h = last_ranged (codes "zero") name first second offset count h
+last_word name first second (Discard offset count) h = last_ranged (codes "discard") name first second offset count h
+last_word name first second (DiscardAny offset count) h = last_ranged (codes "discard-any") name first second offset count h
+last_word name first second (DiscardBacking offset count) h = last_ranged (codes "discard-backing") name first second offset count h
+last_word name first second (Grow size m) h =
+    last_of (codes "grow") name first second (λ word e. rw e (literal (mode_word m) (mode_plain m))) h
+last_word name first second (Shrink size) h = let are = h.words_are in absurd cc
+last_word name first second Flush h = absurd cc
+last_word name first second Check h = absurd cc
+last_word name first second (Plain offset count) h = last_ranged (codes "plain") name first second offset count h
+last_word name first second Save h = absurd cc
 
 -- The words of a line's text are those that it was written by.
 pub words_again : (line : Line) (words : List (List ℕ)) → IsWritten line words → words_of (join_with_byte 32 words) ≡ words

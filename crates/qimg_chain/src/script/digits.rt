@@ -1,23 +1,23 @@
 // Bytes as hexadecimal digits, two of each.
-ghost use Rattle.std.specs.Prelude.{◌≡◌, ◌*◌, ◌<◌, None, Ok, length, slice_index, unwrap_or, IsTrue, IsFalse};
+ghost use Rattle.std.specs.Prelude.{◌≡◌, ◌*◌, ◌<◌, ◌≤◌, None, Ok, length, slice_index, IsTrue, IsFalse, MatchOption};
 ghost use Rattle.std.specs.Result.{result_ok};
 ghost use Rattle.hex.specs.Hex.{decode_of, encode_lower, hex_digit_value, lower_digits};
 
-/// The value of a digit of either case, or 16.
+/// The value of a digit of either case, or at least 16. There is no branch in it, so that many digits are read with few operations.
 #[inline]
 fn value(digit: u8) -> u8
-    ensures { result ≡ unwrap_or (hex_digit_value digit) 16 }
+    ensures { MatchOption (hex_digit_value digit) (16 ≤ result) (λ value. result ≡ value) }
 {
-    let number = digit.wrapping_sub(b'0');
-    // Without the bit 32, which tells lower case, letters are one range: so many digits are read with fewer operations.
-    let letter = (digit - digit / 32 % 2 * 32).wrapping_sub(b'A');
-    if number < 10 {
-        number
-    } else if letter < 6 {
-        letter + 10
-    } else {
-        16
-    }
+    // The digits up to 9 come to stand last of all bytes, where what stands before them is taken for 16 or more.
+    let number = digit
+        .wrapping_add(255 - b'9')
+        .saturating_sub(6)
+        .wrapping_sub(240);
+    // Without the bit 32, which tells lower case, letters are one range, from 0 here.
+    let letter = (digit - digit / 32 % 2 * 32)
+        .wrapping_sub(b'A')
+        .saturating_add(10);
+    number.min(letter)
 }
 
 /// Puts the bytes that digits of either case write into as many bytes as there are. It answers whether all are digits: else the bytes may

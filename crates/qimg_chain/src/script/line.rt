@@ -76,16 +76,20 @@ fn line_of(alloc: Global, text: &[u8]) -> Result<Line, Fault>
     }
 }
 
-/// Reads a line from its command and the arguments behind it.
+/// Reads a line from its command and the arguments behind it. A second one that says something holds no space: only one that says nothing
+/// is searched for a third behind it.
 #[tactic(auto, unfolding(crate::specs::ScriptParts::line_of))]
 fn line_with(alloc: Global, name: &[u8], arguments: &[u8]) -> Result<Line, Fault>
     ensures ok { IfOk result (λ line. line_of (name.now ∷ words_of arguments.now) ≡ Some line) }
     ensures err { IfErr result (NotSaid (name.now ∷ words_of arguments.now)) }
 {
     match cut(arguments, b' ') {
-        Some((first, second)) => match cut(second, b' ') {
-            Some(_) => Err(Fault::BadCommand),
-            None => line_with_two(alloc, name, first, second),
+        Some((first, second)) => match line_with_two(alloc, name, first, second) {
+            Ok(line) => Ok(line),
+            Err(fault) => match cut(second, b' ') {
+                Some(_) => Err(Fault::BadCommand),
+                None => Err(fault),
+            },
         },
         None => match shrink_line(name, arguments) {
             Some(line) => Ok(line),
