@@ -172,7 +172,8 @@ impl<S: Storage> Qcow2<S> {
     /// refused, and the storage dropped then:
     ///
     /// - by the first of the header's rules that the file breaks, as `Header::load` has them: with `Fault::DamagedHeader`,
-    ///   `Fault::Unsupported` or `Fault::Limit`; to be written it may have neither the dirty nor the corrupt bit, nor any autoclear bit;
+    ///   `Fault::Unsupported` or `Fault::Limit`; to be written it may have neither the dirty nor the corrupt bit, nor any autoclear bit,
+    ///   nor a backing file's name in its first 64 bytes;
     /// - with `Fault::Unsupported` where the data is in an external file, which isn't carried yet;
     /// - with `Fault::DamagedTable` where a word of the L1 table has no meaning, or, to be written, one of the refcount table;
     /// - with `Fault::Memory`, and with `Fault::Storage` where the storage may fail.
