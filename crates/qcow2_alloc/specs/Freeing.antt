@@ -17,7 +17,7 @@ use Rattle.qcow2_alloc.specs.FreeList.{entry_at, listed, shortened}
 use Rattle.qcow2_alloc.specs.Going.{IsNoShorter, WasNotCutOff}
 use Rattle.qcow2_alloc.specs.Quiet.{Metadata, Quietly, counted, metadata_in}
 use Rattle.qcow2_alloc.specs.Safety.{IsCalm}
-use Rattle.qcow2_alloc.specs.State.{ImageState, metadata, IsKept, WhereKept}
+use Rattle.qcow2_alloc.specs.State.{AllocatorState, metadata, IsKept, WhereKept}
 
 -- Fewer blocks are pinned than there is room for, so that any can be loaded.
 abbrev pub HasSpareRoom : {S : Type 0} → MetadataCaches S → Type 0
@@ -61,16 +61,16 @@ IsWholeOrCalm result old new = WasNotCutOff result ⊎ IsCalm old new
 
 -- Clusters were counted down, and what waits to be freed is less by them. The mark stays, or falls to a cluster that waited and was freed.
 -- What contracts see of an image: its file, its caches, the mark, and what waits to be freed.
-pub record Frees {S : Type 0} (state : S → StorageState) (mark : ℕ) (s : ImageState S) (result : Result Unit Fault) (s' : ImageState S)
-    (mark' : ℕ) : Type 0 where
+pub record Frees {S : Type 0} (state : S → StorageState) (s : AllocatorState S) (result : Result Unit Fault)
+    (s' : AllocatorState S) : Type 0 where
   pub faults : WasNotCutOff result → IsFaultless (state s.file.image) (state s'.file.image)
   pub quiet : Quietly (IsWholeOrCalm result (state s.file.image) (state s'.file.image)) (λ _. 0) (λ _. 0) (state s.file.image)
-      (metadata state s) (state s'.file.image) (metadata state s')
-  pub marked : WhereKept state s
-      (IsWholeOrCalm result (state s.file.image) (state s'.file.image) → IsMarked (metadata state s) mark
-      → IsMarked (metadata state s') mark')
-  pub lower : mark' ≤ mark
-  pub fallen : (mark' ≡ mark) ⊎ (listed s'.pending mark' < listed s.pending mark')
+      (metadata state s.image) (state s'.file.image) (metadata state s'.image)
+  pub marked : WhereKept state s.image
+      (IsWholeOrCalm result (state s.file.image) (state s'.file.image) → IsMarked (metadata state s.image) s.mark
+      → IsMarked (metadata state s'.image) s'.mark)
+  pub lower : s'.mark ≤ s.mark
+  pub fallen : (s'.mark ≡ s.mark) ⊎ (listed s'.pending s'.mark < listed s.pending s'.mark)
   pub header : s'.file.header ≡ s.file.header
   -- Whatever it answers, the file gets no shorter.
   pub no_shorter : IsNoShorter (state s.file.image) (state s'.file.image)
@@ -78,7 +78,7 @@ pub record Frees {S : Type 0} (state : S → StorageState) (mark : ℕ) (s : Ima
   pub room : KeepsTables s.caches s'.caches
   pub less : (c : ℕ) → listed s'.pending c ≤ listed s.pending c
   pub fewer : length s'.pending ≤ length s.pending
-  pub cause : FailsFor (freeing_causes (IsKept state s) (HasSpareRoom s.caches) (state s.file.image).faults
+  pub cause : FailsFor (freeing_causes (IsKept state s.image) (HasSpareRoom s.caches) (state s.file.image).faults
       (state s'.file.image).faults) result
 
 -- the entries of guest data

@@ -17,7 +17,7 @@ use Rattle.qcow2_alloc.specs.Going.{WasNotCutOff, IsMild}
 use Rattle.qcow2_alloc.specs.Growing.{lacks, lacking, IsFirstRoom}
 use Rattle.qcow2_alloc.specs.MakingRoom.{run_of, rank}
 use Rattle.qcow2_alloc.specs.Quiet.{Metadata, counted}
-use Rattle.qcow2_alloc.specs.State.{ImageState, metadata, IsGuarded, WhereGuarded}
+use Rattle.qcow2_alloc.specs.State.{AllocatorState, metadata, IsGuarded, WhereGuarded}
 
 -- the clusters of the refcount table of an image, if there are any
 abbrev pub table_run : Fields → List FreeEntry
@@ -88,19 +88,20 @@ pub record Leaks {T : Type 0} (sound : Type 0) (loose : Bool → Type 0) (result
 -- The refcount table grows until it holds an index, while blocks are written before tables. The old table waits to be freed then. Refused
 -- without being cut off, table, header and list are what they were, and of a sound image nothing is counted otherwise unless the cache is
 -- full of what is pinned.
-pub record GrowsTable {S : Type 0} (state : S → StorageState) (mark at : ℕ) (s : ImageState S) (result : Result Unit Fault)
-    (s' : ImageState S) : Type 0 where
+pub record GrowsTable {S : Type 0} (state : S → StorageState) (at : ℕ) (s : AllocatorState S) (result : Result Unit Fault)
+    (s' : AllocatorState S) : Type 0 where
   pub leaked : ℕ → ℕ
-  pub leaks : Leaks (IsGuarded state s) (IsLoose s.table s.caches) result leaked
-  pub step : Allocating state (WasNotCutOff result) leaked s s'
-  pub grown : WhereGuarded state s (OnOk result (TableGrown mark at (metadata state s) (metadata state s')))
-  pub barred : WhereGuarded state s
-      ((number : ℕ) → result ≡ Err (Limit number) → (c : ℕ) → counted (metadata state s') c ≡ counted (metadata state s) c)
+  pub leaks : Leaks (IsGuarded state s.image) (IsLoose s.table s.caches) result leaked
+  pub step : Allocating state (WasNotCutOff result) leaked s.image s'.image
+  pub grown : WhereGuarded state s.image (OnOk result (TableGrown s.mark at (metadata state s.image) (metadata state s'.image)))
+  pub barred : WhereGuarded state s.image
+      ((number : ℕ) → result ≡ Err (Limit number) → (c : ℕ) → counted (metadata state s'.image) c ≡ counted (metadata state s.image) c)
   pub enough : OnOk result
       (IsGrownLength (words_of_cluster s.file.header.fields) (counters_of_block s.file.header.fields) at (length s'.table.words))
+  pub mark : s'.mark ≡ s.mark
   pub waits : OnOk result (s'.pending ≡ s.pending ++ table_run s.file.header.fields)
   pub kept : OnErr result (s'.pending ≡ s.pending)
   pub stays : IfErr result (λ fault. IsMild fault → (s'.table ≡ s.table) × (s'.file.header ≡ s.file.header))
-  pub cause : FailsFor (allocating_causes (IsGuarded state s) (IsLoose s.table s.caches)
-      (λ number. WhereGuarded state s (NoPlaceToGrow (metadata state s) mark at number))
+  pub cause : FailsFor (allocating_causes (IsGuarded state s.image) (IsLoose s.table s.caches)
+      (λ number. WhereGuarded state s.image (NoPlaceToGrow (metadata state s.image) s.mark at number))
       (state s.file.image).faults (state s'.file.image).faults) result

@@ -22,7 +22,7 @@ use Rattle.qcow2_alloc.specs.Going.{WasNotCutOff, IsMild}
 use Rattle.qcow2_alloc.specs.GrowingTables.{IsLengthenedByTable, IsTakenFor, Leaks, NoPlaceToGrow, TableGrown, table_run}
 use Rattle.qcow2_alloc.specs.Quiet.{Metadata, IsSound, IsQuiet, Quietly, counted, named_at_all, waiting, one_at}
 use Rattle.qcow2_alloc.specs.ReadyingRuns.{handed_by, mark_behind, IsRunCounted, IsRunTold}
-use Rattle.qcow2_alloc.specs.State.{ImageState, lent, metadata, IsKept, WhereKept}
+use Rattle.qcow2_alloc.specs.State.{AllocatorState, ImageState, MarkedMetadata, lent, marked_metadata, metadata, with_mark, IsKept, WhereKept}
 
 -- Caches that had room to spare have it still, and the refcount table names what is pinned where it did; there is as much room, and the L2
 -- tables are kept; and nothing of the header has changed but perhaps the refcount table's place.
@@ -34,36 +34,37 @@ pub record StaysInShape {S : Type 0} (s s' : ImageState S) : Type 0 where
 -- The refcount table grows until it holds an index: first it is announced that blocks are written before tables. The old table waits to be
 -- freed then. A sound image stays sound, and its disk as it is, stops included. Refused without being cut off, table, header and list are
 -- what they were, and nothing is counted otherwise unless the cache is full of what is pinned.
-pub record GrowsReftable {S : Type 0} (state : S → StorageState) (mark at : ℕ) (s : ImageState S) (result : Result Unit Fault)
-    (s' : ImageState S) : Type 0 where
+pub record GrowsReftable {S : Type 0} (state : S → StorageState) (at : ℕ) (s : AllocatorState S) (result : Result Unit Fault)
+    (s' : AllocatorState S) : Type 0 where
   pub faults : WasNotCutOff result → IsFaultless (state s.file.image) (state s'.file.image)
   pub leaked : ℕ → ℕ
-  pub leaks : Leaks (IsKept state s) (IsLoose s.table s.caches) result leaked
-  pub quiet : Quietly (WasNotCutOff result) leaked (λ _. 0) (state s.file.image) (metadata state s) (state s'.file.image)
-      (metadata state s')
-  pub raised : WhereKept state s (WasNotCutOff result → OnlyRaised (metadata state s) (metadata state s'))
-  pub grown : WhereKept state s (OnOk result (TableGrown mark at (metadata state s) (metadata state s')))
+  pub leaks : Leaks (IsKept state s.image) (IsLoose s.table s.caches) result leaked
+  pub quiet : Quietly (WasNotCutOff result) leaked (λ _. 0) (state s.file.image) (metadata state s.image) (state s'.file.image)
+      (metadata state s'.image)
+  pub raised : WhereKept state s.image (WasNotCutOff result → OnlyRaised (metadata state s.image) (metadata state s'.image))
+  pub grown : WhereKept state s.image (OnOk result (TableGrown s.mark at (metadata state s.image) (metadata state s'.image)))
   pub enough : OnOk result
       (IsGrownLength (words_of_cluster s.file.header.fields) (counters_of_block s.file.header.fields) at (length s'.table.words))
   pub order : OnOk result (order_of s'.caches ≡ L2DependsOnRb)
-  pub shape : StaysInShape s s'
+  pub mark : s'.mark ≡ s.mark
+  pub shape : StaysInShape s.image s'.image
   pub waits : OnOk result (s'.pending ≡ s.pending ++ table_run s.file.header.fields)
   pub kept : OnErr result (s'.pending ≡ s.pending)
   pub stays : IfErr result (λ fault. IsMild fault → (s'.table ≡ s.table) × (s'.file.header ≡ s.file.header))
-  pub cause : FailsFor (allocating_causes (IsKept state s) (IsLoose s.table s.caches)
-      (λ number. WhereKept state s (NoPlaceToGrow (metadata state s) mark at number))
+  pub cause : FailsFor (allocating_causes (IsKept state s.image) (IsLoose s.table s.caches)
+      (λ number. WhereKept state s.image (NoPlaceToGrow (metadata state s.image) s.mark at number))
       (state s.file.image).faults (state s'.file.image).faults) result
 
 -- The image once something of what waited was freed: no cluster is counted more often. The search begins at a cluster before which each is
 -- counted where that was so.
-pub record IsFreed (m : Metadata) (mark : ℕ) (m' : Metadata) (mark' : ℕ) : Type 0 where
-  pub sound : IsSound m'
-  pub quiet : IsQuiet (λ _. 0) (λ _. 0) m m'
+pub record IsFreed (m m' : MarkedMetadata) : Type 0 where
+  pub sound : IsSound m'.image
+  pub quiet : IsQuiet (λ _. 0) (λ _. 0) m.image m'.image
   pub header : m'.header ≡ m.header
   pub table : m'.table ≡ m.table
-  pub fewer : (c : ℕ) → counted m' c ≤ counted m c
-  pub lower : mark' ≤ mark
-  pub marked : IsMarked m mark → IsMarked m' mark'
+  pub fewer : (c : ℕ) → counted m'.image c ≤ counted m.image c
+  pub lower : m'.mark ≤ m.mark
+  pub marked : IsMarked m.image m.mark → IsMarked m'.image m'.mark
 
 -- an answer of the search itself: clusters, or that there is no room
 abbrev pub IsSearched : Result FreeEntry Fault → Type 0
@@ -78,46 +79,45 @@ AreUnnamed m entry = (c : ℕ) → entry.first ≤ c → c < entry.first + entry
 -- Clusters in a row are handed out: first what waits is freed, then it is announced that blocks are written before tables, and then the
 -- first run of n clusters from the mark on is taken of which none is counted. A sound image stays sound, and its disk as it is, stops
 -- included.
-pub record AllocatesClusters {S : Type 0} (state : S → StorageState) (mark n : ℕ) (is_metadata : Bool) (s : ImageState S)
-    (result : Result FreeEntry Fault) (s' : ImageState S) (mark' : ℕ) : Type 0 where
+pub record AllocatesClusters {S : Type 0} (state : S → StorageState) (n : ℕ) (is_metadata : Bool) (s : AllocatorState S)
+    (result : Result FreeEntry Fault) (s' : AllocatorState S) : Type 0 where
   pub faults : WasNotCutOff result → IsFaultless (state s.file.image) (state s'.file.image)
   pub leaked : ℕ → ℕ
-  pub leaks : Leaks (IsKept state s) (IsLoose s.table s.caches) result leaked
-  pub quiet : Quietly (WasNotCutOff result) (handed_by result leaked) (λ _. 0) (state s.file.image) (metadata state s)
-      (state s'.file.image) (metadata state s')
+  pub leaks : Leaks (IsKept state s.image) (IsLoose s.table s.caches) result leaked
+  pub quiet : Quietly (WasNotCutOff result) (handed_by result leaked) (λ _. 0) (state s.file.image) (metadata state s.image)
+      (state s'.file.image) (metadata state s'.image)
   pub run : IfOk result
       (λ entry. (entry.count ≡ n) × (entry.metadata ≡ is_metadata)
       × (0 < n → (entry.first ≢ 0) × IsInReach s.file.header.fields.cluster_bits (entry.first + (n - 1))))
-  pub unnamed : WhereKept state s (IfOk result (AreUnnamed (metadata state s')))
+  pub unnamed : WhereKept state s.image (IfOk result (AreUnnamed (metadata state s'.image)))
   -- What waits is freed; where that is refused nothing else is done.
   pub answer : Result Unit Fault
   pub between : MetadataCaches S
   pub at : ImageFile S
-  pub mid_mark : ℕ
   pub left : List FreeEntry
-  pub frees : Frees state mark s answer (lent s.table between at left) mid_mark
+  -- the image once the order was announced then
+  pub mid : MarkedMetadata
+  pub frees : Frees state s answer (with_mark (lent s.table between at left) mid.mark)
   pub rest : IsRestInTurn s.pending left
   pub halted : (fault : Fault) → answer ≡ Err fault → (result ≡ Err fault) × (s'.caches ≡ between) × (s'.file ≡ at) × (s'.table ≡ s.table)
       × (s'.pending ≡ left)
-  -- the image once the order was announced then
-  pub mid : Metadata
   pub mid_left : mid.pending ≡ left
-  pub freed : WhereKept state s (WasNotCutOff result → IsFreed (metadata state s) mark mid mid_mark)
+  pub freed : WhereKept state s.image (WasNotCutOff result → IsFreed (marked_metadata state s) mid)
   pub emptied : OnOk answer (left ≡ [])
   pub searched : IsSearched result → (answer ≡ Ok tt) × (mid.order ≡ L2DependsOnRb)
-  pub fresh : WhereKept state s (IfOk result (λ entry. (c : ℕ) → entry.first ≤ c → c < entry.first + n → counted mid c ≡ 0))
-  pub taken : WhereKept state s (IfOk result (IsRunCounted mid_mark n (metadata state s')))
-  pub little : WhereKept state s (IfOk result (λ _. TakesLittle mid_mark n mid (metadata state s')))
-  pub raised : WhereKept state s (WasNotCutOff result → OnlyRaised mid (metadata state s'))
-  pub marked : WhereKept state s (WasNotCutOff result
-      → IsMarked (metadata state s) mark → IsMarked (metadata state s') mark')
-  pub further : IfOk result (λ entry. mark' ≡ mark_behind mid_mark n entry.first)
-  pub stays : OnErr result (mark' ≡ mid_mark)
+  pub fresh : WhereKept state s.image (IfOk result (λ entry. (c : ℕ) → entry.first ≤ c → c < entry.first + n → counted mid.image c ≡ 0))
+  pub taken : WhereKept state s.image (IfOk result (IsRunCounted mid.mark n (metadata state s'.image)))
+  pub little : WhereKept state s.image (IfOk result (λ _. TakesLittle mid.mark n mid.image (metadata state s'.image)))
+  pub raised : WhereKept state s.image (WasNotCutOff result → OnlyRaised mid.image (metadata state s'.image))
+  pub marked : WhereKept state s.image (WasNotCutOff result
+      → IsMarked (metadata state s.image) s.mark → IsMarked (metadata state s'.image) s'.mark)
+  pub further : IfOk result (λ entry. s'.mark ≡ mark_behind mid.mark n entry.first)
+  pub stays : OnErr result (s'.mark ≡ mid.mark)
   pub order : OnOk result (order_of s'.caches ≡ L2DependsOnRb)
-  pub shape : StaysInShape s s'
+  pub shape : StaysInShape s.image s'.image
   pub list : IsLengthenedByTable s.file.header.fields s.table s'.table left s'.pending
-  pub cause : FailsFor (allocating_causes (IsKept state s) (IsLoose s.table s.caches)
-      (λ number. WhereKept state s (IsCrowded mid mid_mark n × IsRunTold (metadata state s') mid_mark n number))
+  pub cause : FailsFor (allocating_causes (IsKept state s.image) (IsLoose s.table s.caches)
+      (λ number. WhereKept state s.image (IsCrowded mid.image mid.mark n × IsRunTold (metadata state s'.image) mid.mark n number))
       (state s.file.image).faults (state s'.file.image).faults) result
 
 -- what a call hands out that may answer none
@@ -162,24 +162,25 @@ mark_past mark cluster None = mark
 
 -- One cluster is handed out if it is free: first it is announced that blocks are written before tables. A sound image stays sound, and its
 -- disk as it is, stops included. What waits to be freed waits on.
-pub record AllocatesClusterAt {S : Type 0} (state : S → StorageState) (mark cluster : ℕ) (s : ImageState S)
-    (result : Result (Option FreeEntry) Fault) (s' : ImageState S) (mark' : ℕ) : Type 0 where
+pub record AllocatesClusterAt {S : Type 0} (state : S → StorageState) (cluster : ℕ) (s : AllocatorState S)
+    (result : Result (Option FreeEntry) Fault) (s' : AllocatorState S) : Type 0 where
   pub faults : WasNotCutOff result → IsFaultless (state s.file.image) (state s'.file.image)
   pub leaked : ℕ → ℕ
-  pub leaks : Leaks (IsKept state s) (IsLoose s.table s.caches) result leaked
-  pub quiet : Quietly (WasNotCutOff result) (handed_at result leaked) (λ _. 0) (state s.file.image) (metadata state s)
-      (state s'.file.image) (metadata state s')
-  pub raised : WhereKept state s (WasNotCutOff result → OnlyRaised (metadata state s) (metadata state s'))
+  pub leaks : Leaks (IsKept state s.image) (IsLoose s.table s.caches) result leaked
+  pub quiet : Quietly (WasNotCutOff result) (handed_at result leaked) (λ _. 0) (state s.file.image) (metadata state s.image)
+      (state s'.file.image) (metadata state s'.image)
+  pub raised : WhereKept state s.image (WasNotCutOff result → OnlyRaised (metadata state s.image) (metadata state s'.image))
   pub one : IfOk result (IsOneAt cluster s.file.header.fields.cluster_bits)
-  pub answer : WhereKept state s
-      (IfOk result (IsHandedAt (IsBarred (metadata state s) mark cluster) cluster (metadata state s) (metadata state s')))
-  pub near : WhereKept state s (IfOk result (λ _. IsTakenFor mark cluster (metadata state s) (metadata state s')))
-  pub further : IfOk result (λ found. mark' ≡ mark_past mark cluster found)
-  pub stays : OnErr result (mark' ≡ mark)
-  pub marked : WhereKept state s (WasNotCutOff result
-      → IsMarked (metadata state s) mark → IsMarked (metadata state s') mark')
+  pub answer : WhereKept state s.image
+      (IfOk result (IsHandedAt (IsBarred (metadata state s.image) s.mark cluster) cluster (metadata state s.image)
+      (metadata state s'.image)))
+  pub near : WhereKept state s.image (IfOk result (λ _. IsTakenFor s.mark cluster (metadata state s.image) (metadata state s'.image)))
+  pub further : IfOk result (λ found. s'.mark ≡ mark_past s.mark cluster found)
+  pub stays : OnErr result (s'.mark ≡ s.mark)
+  pub marked : WhereKept state s.image (WasNotCutOff result
+      → IsMarked (metadata state s.image) s.mark → IsMarked (metadata state s'.image) s'.mark)
   pub order : OnOk result (order_of s'.caches ≡ L2DependsOnRb)
-  pub shape : StaysInShape s s'
+  pub shape : StaysInShape s.image s'.image
   pub list : IsLengthenedByTable s.file.header.fields s.table s'.table s.pending s'.pending
-  pub cause : FailsFor (allocating_causes (IsKept state s) (IsLoose s.table s.caches) (λ _. ⊥) (state s.file.image).faults
+  pub cause : FailsFor (allocating_causes (IsKept state s.image) (IsLoose s.table s.caches) (λ _. ⊥) (state s.file.image).faults
       (state s'.file.image).faults) result

@@ -14,7 +14,7 @@ use Rattle.qcow2_alloc.specs.Going.{WasNotCutOff}
 use Rattle.qcow2_alloc.specs.GrowingTables.{IsLengthenedByTable, IsTakenFor, Leaks}
 use Rattle.qcow2_alloc.specs.HandingOut.{handed_at, mark_past, IsBarred, IsHandedAt, IsOneAt}
 use Rattle.qcow2_alloc.specs.Quiet.{Metadata}
-use Rattle.qcow2_alloc.specs.State.{ImageState, metadata, IsGuarded, WhereGuarded}
+use Rattle.qcow2_alloc.specs.State.{AllocatorState, ImageState, metadata, IsGuarded, WhereGuarded}
 
 -- Nothing is handed out by an answer; a refusal may have leaked something.
 abbrev pub leaked_by : {T : Type 0} → Result T Fault → (ℕ → ℕ) → ℕ → ℕ
@@ -33,21 +33,23 @@ pub record HandsOut {S T : Type 0} (state : S → StorageState) (handed : Result
       (state s'.file.image).faults) result
 
 -- The refcount table has a word for a cluster, or there is no place for one that has;
-pub record ReadiesWord {S : Type 0} (state : S → StorageState) (mark cluster : ℕ) (s : ImageState S) (result : Result Readiness Fault)
-    (s' : ImageState S) : Type 0 where
-  pub did : HandsOut state leaked_by s result s'
+pub record ReadiesWord {S : Type 0} (state : S → StorageState) (cluster : ℕ) (s : AllocatorState S) (result : Result Readiness Fault)
+    (s' : AllocatorState S) : Type 0 where
+  pub did : HandsOut state leaked_by s.image result s'.image
+  pub mark : s'.mark ≡ s.mark
   pub there : IfOk result (λ answer. answer ≡ Ready → cluster / counters_of_block s.file.header.fields < length s'.table.words)
-  pub barred : WhereGuarded state s (IfOk result (λ answer. answer ≡ NoPlace → IsBarred (metadata state s) mark cluster))
-  pub near : WhereGuarded state s (IfOk result (λ answer. IsTakenFor mark cluster (metadata state s) (metadata state s')))
+  pub barred : WhereGuarded state s.image (IfOk result (λ answer. answer ≡ NoPlace → IsBarred (metadata state s.image) s.mark cluster))
+  pub near : WhereGuarded state s.image (IfOk result (λ _. IsTakenFor s.mark cluster (metadata state s.image) (metadata state s'.image)))
 
 -- and so it names the block that counts the cluster.
-pub record ReadiesCounter {S : Type 0} (state : S → StorageState) (mark cluster : ℕ) (s : ImageState S) (result : Result Readiness Fault)
-    (s' : ImageState S) : Type 0 where
-  pub did : HandsOut state leaked_by s result s'
+pub record ReadiesCounter {S : Type 0} (state : S → StorageState) (cluster : ℕ) (s : AllocatorState S) (result : Result Readiness Fault)
+    (s' : AllocatorState S) : Type 0 where
+  pub did : HandsOut state leaked_by s.image result s'.image
+  pub mark : s'.mark ≡ s.mark
   pub there : IfOk result
       (λ answer. answer ≡ Ready → block_offset (slice_index s'.table.words (cluster / counters_of_block s.file.header.fields)) ≢ 0)
-  pub barred : WhereGuarded state s (IfOk result (λ answer. answer ≡ NoPlace → IsBarred (metadata state s) mark cluster))
-  pub near : WhereGuarded state s (IfOk result (λ answer. IsTakenFor mark cluster (metadata state s) (metadata state s')))
+  pub barred : WhereGuarded state s.image (IfOk result (λ answer. answer ≡ NoPlace → IsBarred (metadata state s.image) s.mark cluster))
+  pub near : WhereGuarded state s.image (IfOk result (λ _. IsTakenFor s.mark cluster (metadata state s.image) (metadata state s'.image)))
 
 -- whether a cluster was counted
 abbrev pub counting_of : Result (Option FreeEntry) Fault → Result Unit Fault
@@ -63,13 +65,14 @@ pub record CountsOne {S : Type 0} (state : S → StorageState) (cluster : ℕ) (
   pub some : OnOk result (cluster ≢ 0)
 
 -- A cluster is handed out where it is free and not barred, while blocks are written before tables.
-pub record AllocatesAt {S : Type 0} (state : S → StorageState) (barred : Metadata → Type 0) (mark cluster : ℕ) (s : ImageState S)
-    (result : Result (Option FreeEntry) Fault) (s' : ImageState S) (mark' : ℕ) : Type 0 where
-  pub did : HandsOut state handed_at s result s'
+pub record AllocatesAt {S : Type 0} (state : S → StorageState) (barred : Metadata → Type 0) (cluster : ℕ) (s : AllocatorState S)
+    (result : Result (Option FreeEntry) Fault) (s' : AllocatorState S) : Type 0 where
+  pub did : HandsOut state handed_at s.image result s'.image
   pub one : IfOk result (IsOneAt cluster s.file.header.fields.cluster_bits)
-  pub answer : WhereGuarded state s (IfOk result (IsHandedAt (barred (metadata state s)) cluster (metadata state s) (metadata state s')))
-  pub near : WhereGuarded state s (IfOk result (λ _. IsTakenFor mark cluster (metadata state s) (metadata state s')))
-  pub further : IfOk result (λ found. mark' ≡ mark_past mark cluster found)
-  pub stays : OnErr result (mark' ≡ mark)
-  pub marked : WhereGuarded state s (WasNotCutOff result
-      → IsMarked (metadata state s) mark → IsMarked (metadata state s') mark')
+  pub answer : WhereGuarded state s.image
+      (IfOk result (IsHandedAt (barred (metadata state s.image)) cluster (metadata state s.image) (metadata state s'.image)))
+  pub near : WhereGuarded state s.image (IfOk result (λ _. IsTakenFor s.mark cluster (metadata state s.image) (metadata state s'.image)))
+  pub further : IfOk result (λ found. s'.mark ≡ mark_past s.mark cluster found)
+  pub stays : OnErr result (s'.mark ≡ s.mark)
+  pub marked : WhereGuarded state s.image (WasNotCutOff result
+      → IsMarked (metadata state s.image) s.mark → IsMarked (metadata state s'.image) s'.mark)

@@ -17,7 +17,7 @@ use Rattle.qcow2_alloc.specs.Freeing.{IsLoose}
 use Rattle.qcow2_alloc.specs.Going.{WasNotCutOff}
 use Rattle.qcow2_alloc.specs.GrowingTables.{Leaks, NoPlaceToGrow, TableGrown, table_run}
 use Rattle.qcow2_alloc.specs.Quiet.{Metadata, counted}
-use Rattle.qcow2_alloc.specs.State.{ImageState, metadata, IsGuarded, WhereGuarded}
+use Rattle.qcow2_alloc.specs.State.{AllocatorState, metadata, IsGuarded, WhereGuarded}
 
 -- the number of the last cluster of a run, or the greatest one where that is more
 abbrev pub last_number : (first n : ℕ) → ℕ
@@ -57,17 +57,18 @@ pub record CountsAsBefore (m m' : Metadata) : Type 0 where
 
 -- The refcount table has a block at each index of a range, or has more than it had: it grows until it holds the index `at` where it has
 -- no word for the last of these.
-pub record ReadiesBlocks {S : Type 0} (state : S → StorageState) (mark at first last : ℕ) (s : ImageState S)
-    (result : Result Provision Fault) (s' : ImageState S) : Type 0 where
+pub record ReadiesBlocks {S : Type 0} (state : S → StorageState) (at first last : ℕ) (s : AllocatorState S)
+    (result : Result Provision Fault) (s' : AllocatorState S) : Type 0 where
   pub leaked : ℕ → ℕ
-  pub leaks : Leaks (IsGuarded state s) (IsLoose s.table s.caches) result leaked
-  pub step : Allocating state (WasNotCutOff result) leaked s s'
+  pub leaks : Leaks (IsGuarded state s.image) (IsLoose s.table s.caches) result leaked
+  pub step : Allocating state (WasNotCutOff result) leaked s.image s'.image
+  pub mark : s'.mark ≡ s.mark
   pub idle : IfOk result (λ provision. provision ≡ Complete → (s'.table ≡ s.table) × (s'.caches ≡ s.caches) × (s'.file ≡ s.file))
   pub ready : IfOk result (λ provision. provision ≡ Complete
       → (i : ℕ) → first ≤ i → i ≤ last → block_offset (slice_index s'.table.words i) ≢ 0)
   pub further : IfOk result (λ provision. provision ≡ Extended → HasMore s.table s'.table)
-  pub made : WhereGuarded state s (IfOk result (λ provision. provision ≡ Extended
-      → HasMade mark at first last (metadata state s) (metadata state s')))
+  pub made : WhereGuarded state s.image (IfOk result (λ provision. provision ≡ Extended
+      → HasMade s.mark at first last (metadata state s.image) (metadata state s'.image)))
   -- It grows where it has no word for the last, and only then.
   pub once : last < length s.table.words → (s'.pending ≡ s.pending) × (s'.file.header ≡ s.file.header)
       × (length s'.table.words ≡ length s.table.words)
@@ -75,7 +76,8 @@ pub record ReadiesBlocks {S : Type 0} (state : S → StorageState) (mark at firs
       → OnOk result ((length s.table.words < length s'.table.words) × (s'.pending ≡ s.pending ++ table_run s.file.header.fields))
   pub kept : length s.table.words ≤ last → OnErr result (s'.pending ≡ s.pending)
   pub barred : length s.table.words ≤ last
-      → WhereGuarded state s ((number : ℕ) → result ≡ Err (Limit number) → CountsAsBefore (metadata state s) (metadata state s'))
-  pub cause : FailsFor (allocating_causes (IsGuarded state s) (IsLoose s.table s.caches)
-      (λ number. WhereGuarded state s (NoneCanBeMade mark at first last number (metadata state s)))
+      → WhereGuarded state s.image ((number : ℕ) → result ≡ Err (Limit number)
+      → CountsAsBefore (metadata state s.image) (metadata state s'.image))
+  pub cause : FailsFor (allocating_causes (IsGuarded state s.image) (IsLoose s.table s.caches)
+      (λ number. WhereGuarded state s.image (NoneCanBeMade s.mark at first last number (metadata state s.image)))
       (state s.file.image).faults (state s'.file.image).faults) result

@@ -18,7 +18,7 @@ use Rattle.qcow2_alloc.specs.GrowingTables.{IsLengthenedByTable, Leaks, NoPlaceT
 use Rattle.qcow2_alloc.specs.Quiet.{Metadata, counted}
 use Rattle.qcow2_alloc.specs.ReadyingBlocks.{last_number}
 use Rattle.qcow2_alloc.specs.SearchingClusters.{IsFirstRun, KeepsClean}
-use Rattle.qcow2_alloc.specs.State.{ImageState, metadata, IsGuarded, WhereGuarded}
+use Rattle.qcow2_alloc.specs.State.{AllocatorState, ImageState, metadata, IsGuarded, WhereGuarded}
 
 -- As long as a call hasn't begun to change anything, nor what came before it, as a flag tells: the allocator, the list and the header are
 -- what they were, and where nothing waited in memory to be written nothing does, and no byte of the file was changed.
@@ -38,22 +38,24 @@ pub record IsRunTold (m : Metadata) (mark n number : ℕ) : Type 0 where
 
 -- The first run of n clusters from the mark on that aren't counted is ready to be: the refcount table names a block for each, and words can
 -- name it.
-pub record ReadiesRun {S : Type 0} (state : S → StorageState) (mark n : ℕ) (s : ImageState S) (result : Result ℕ Fault)
-    (s' : ImageState S) : Type 0 where
+pub record ReadiesRun {S : Type 0} (state : S → StorageState) (n : ℕ) (s : AllocatorState S) (result : Result ℕ Fault)
+    (s' : AllocatorState S) : Type 0 where
   pub leaked : ℕ → ℕ
-  pub leaks : Leaks (IsGuarded state s) (IsLoose s.table s.caches) result leaked
-  pub step : Allocating state (WasNotCutOff result) leaked s s'
-  pub found : WhereGuarded state s (IfOk result (IsFirstRun (counted (metadata state s')) mark n))
-  pub little : WhereGuarded state s (IfOk result (λ first. TakesLittle mark n (metadata state s) (metadata state s')
-      × ((roomy : IsRoomy (metadata state s) mark n) → first + n ≤ roomy.first + room_for s.file.header.fields n)))
+  pub leaks : Leaks (IsGuarded state s.image) (IsLoose s.table s.caches) result leaked
+  pub step : Allocating state (WasNotCutOff result) leaked s.image s'.image
+  pub found : WhereGuarded state s.image (IfOk result (IsFirstRun (counted (metadata state s'.image)) s.mark n))
+  pub little : WhereGuarded state s.image (IfOk result (λ first. TakesLittle s.mark n (metadata state s.image) (metadata state s'.image)
+      × ((roomy : IsRoomy (metadata state s.image) s.mark n) → first + n ≤ roomy.first + room_for s.file.header.fields n)))
   pub ready : IfOk result
       (λ first. (c : ℕ) → first ≤ c → c < first + n
       → block_offset (slice_index s'.table.words (c / counters_of_block s.file.header.fields)) ≢ 0)
   pub reach : IfOk result (λ first. IsInReach s.file.header.fields.cluster_bits (first + (n - 1)))
   pub some : IfOk result (λ first. first ≢ 0)
+  pub mark : s'.mark ≡ s.mark
   pub list : IsLengthenedByTable s.file.header.fields s.table s'.table s.pending s'.pending
-  pub cause : FailsFor (allocating_causes (IsGuarded state s) (IsLoose s.table s.caches)
-      (λ number. WhereGuarded state s (IsCrowded (metadata state s) mark n × IsRunTold (metadata state s') mark n number))
+  pub cause : FailsFor (allocating_causes (IsGuarded state s.image) (IsLoose s.table s.caches)
+      (λ number. WhereGuarded state s.image (IsCrowded (metadata state s.image) s.mark n
+      × IsRunTold (metadata state s'.image) s.mark n number))
       (state s.file.image).faults (state s'.file.image).faults) result
 
 -- where the search begins once a run is counted: each cluster before is counted
@@ -72,23 +74,24 @@ pub record IsRunCounted (mark n : ℕ) (m' : Metadata) (entry : FreeEntry) : Typ
   pub least : (z : ℕ) → mark ≤ z → z < entry.first → (c : ℕ) × (z ≤ c) × (c < z + n) × (covers c entry ≡ 0) × (0 < counted m' c)
 
 -- A run of n clusters is handed out, while blocks are written before tables. One of none begins at the mark.
-pub record Allocates {S : Type 0} (state : S → StorageState) (mark n : ℕ) (is_metadata : Bool) (s : ImageState S)
-    (result : Result FreeEntry Fault) (s' : ImageState S) (mark' : ℕ) : Type 0 where
+pub record Allocates {S : Type 0} (state : S → StorageState) (n : ℕ) (is_metadata : Bool) (s : AllocatorState S)
+    (result : Result FreeEntry Fault) (s' : AllocatorState S) : Type 0 where
   pub leaked : ℕ → ℕ
-  pub leaks : Leaks (IsGuarded state s) (IsLoose s.table s.caches) result leaked
-  pub step : Allocating state (WasNotCutOff result) (handed_by result leaked) s s'
+  pub leaks : Leaks (IsGuarded state s.image) (IsLoose s.table s.caches) result leaked
+  pub step : Allocating state (WasNotCutOff result) (handed_by result leaked) s.image s'.image
   pub run : IfOk result
       (λ entry. (entry.count ≡ n) × (entry.metadata ≡ is_metadata)
       × (0 < n → (entry.first ≢ 0) × IsInReach s.file.header.fields.cluster_bits (entry.first + (n - 1))))
-  pub taken : WhereGuarded state s (IfOk result (IsRunCounted mark n (metadata state s')))
-  pub fresh : WhereGuarded state s
-      (IfOk result (λ entry. (c : ℕ) → entry.first ≤ c → c < entry.first + n → counted (metadata state s) c ≡ 0))
-  pub little : WhereGuarded state s (IfOk result (λ _. TakesLittle mark n (metadata state s) (metadata state s')))
-  pub moved : IfOk result (λ entry. mark' ≡ mark_behind mark n entry.first)
-  pub stays : OnErr result (mark' ≡ mark)
-  pub marked : WhereGuarded state s (WasNotCutOff result
-      → IsMarked (metadata state s) mark → IsMarked (metadata state s') mark')
+  pub taken : WhereGuarded state s.image (IfOk result (IsRunCounted s.mark n (metadata state s'.image)))
+  pub fresh : WhereGuarded state s.image
+      (IfOk result (λ entry. (c : ℕ) → entry.first ≤ c → c < entry.first + n → counted (metadata state s.image) c ≡ 0))
+  pub little : WhereGuarded state s.image (IfOk result (λ _. TakesLittle s.mark n (metadata state s.image) (metadata state s'.image)))
+  pub moved : IfOk result (λ entry. s'.mark ≡ mark_behind s.mark n entry.first)
+  pub stays : OnErr result (s'.mark ≡ s.mark)
+  pub marked : WhereGuarded state s.image (WasNotCutOff result
+      → IsMarked (metadata state s.image) s.mark → IsMarked (metadata state s'.image) s'.mark)
   pub list : IsLengthenedByTable s.file.header.fields s.table s'.table s.pending s'.pending
-  pub cause : FailsFor (allocating_causes (IsGuarded state s) (IsLoose s.table s.caches)
-      (λ number. WhereGuarded state s (IsCrowded (metadata state s) mark n × IsRunTold (metadata state s') mark n number))
+  pub cause : FailsFor (allocating_causes (IsGuarded state s.image) (IsLoose s.table s.caches)
+      (λ number. WhereGuarded state s.image (IsCrowded (metadata state s.image) s.mark n
+      × IsRunTold (metadata state s'.image) s.mark n number))
       (state s.file.image).faults (state s'.file.image).faults) result

@@ -42,7 +42,7 @@ impl Allocator {
     ghost use Rattle.qcow2_alloc.specs.HandingOut.{AllocatesClusters, AllocatesClusterAt, GrowsReftable, held_at, held_by};
     ghost use Rattle.qcow2_alloc.specs.ReadyingRuns.{Spares};
     ghost use Rattle.qcow2_alloc.specs.Quiet.{metadata_in};
-    ghost use Rattle.qcow2_alloc.specs.State.{seen};
+    ghost use Rattle.qcow2_alloc.specs.State.{lent_to, seen, with_mark};
 
     /// The allocator of an image: its refcount table is loaded, and the search for free clusters begins at cluster 0.
     ///
@@ -131,8 +131,8 @@ impl Allocator {
         requires inside { index < length list.old.entries }
         requires some { 0 < (entry_at list.old.entries index).count }
         ensures frees { MayFree (order_of caches.old) (entry_at list.old.entries index)
-            → Frees S.state (mark_of self.old) (seen self.old caches.old file.old list.old) result
-            (seen self.old caches.new file.new list.new) (mark_of self.new) }
+            → Frees S.state (lent_to self.old caches.old file.old list.old) result
+            (with_mark (seen self.old caches.new file.new list.new) (mark_of self.new)) }
         ensures order { order_of caches.new ≡ order_of caches.old }
         ensures table { table_of self.new ≡ table_of self.old }
         ensures ok { OnOk result (list.new.entries ≡ shortened list.old.entries index 1) }
@@ -157,8 +157,8 @@ impl Allocator {
     ) -> Result<(), Fault>
         requires inside { index < length list.old.entries }
         ensures frees { MayFree (order_of caches.old) (entry_at list.old.entries index)
-            → Frees S.state (mark_of self.old) (seen self.old caches.old file.old list.old) result
-            (seen self.old caches.new file.new list.new) (mark_of self.new) }
+            → Frees S.state (lent_to self.old caches.old file.old list.old) result
+            (with_mark (seen self.old caches.new file.new list.new) (mark_of self.new)) }
         ensures order { order_of caches.new ≡ order_of caches.old }
         ensures table { table_of self.new ≡ table_of self.old }
         ensures ok { OnOk result (list.new.entries ≡ remove list.old.entries index) }
@@ -181,8 +181,8 @@ impl Allocator {
         caches: &mut MetadataCaches<S>,
         list: &mut ClustersToFreeList,
     ) -> Result<(), Fault>
-        ensures frees { Frees S.state (mark_of self.old) (seen self.old caches.old file.old list.old) result
-            (seen self.old caches.new file.new list.new) (mark_of self.new) }
+        ensures frees { Frees S.state (lent_to self.old caches.old file.old list.old) result
+            (with_mark (seen self.old caches.new file.new list.new) (mark_of self.new)) }
         ensures order { order_of caches.new ≡ order_of caches.old }
         ensures table { table_of self.new ≡ table_of self.old }
         ensures ok { OnOk result (list.new.entries ≡ data_in list.old.entries) }
@@ -205,8 +205,8 @@ impl Allocator {
         list: &mut ClustersToFreeList,
     ) -> Result<(), Fault>
         ensures frees { order_of caches.old ≡ RbDependsOnL2
-            → Frees S.state (mark_of self.old) (seen self.old caches.old file.old list.old) result
-            (seen self.old caches.new file.new list.new) (mark_of self.new) }
+            → Frees S.state (lent_to self.old caches.old file.old list.old) result
+            (with_mark (seen self.old caches.new file.new list.new) (mark_of self.new)) }
         ensures order { order_of caches.new ≡ order_of caches.old }
         ensures table { table_of self.new ≡ table_of self.old }
         ensures ok { OnOk result (list.new.entries ≡ []) }
@@ -235,8 +235,8 @@ impl Allocator {
         caches: &mut MetadataCaches<S>,
         list: &mut ClustersToFreeList,
     ) -> Result<(), Fault>
-        ensures frees { Frees S.state (mark_of self.old) (seen self.old caches.old file.old list.old) result
-            (seen self.old caches.new file.new list.new) (mark_of self.new) }
+        ensures frees { Frees S.state (lent_to self.old caches.old file.old list.old) result
+            (with_mark (seen self.old caches.new file.new list.new) (mark_of self.new)) }
         ensures table { table_of self.new ≡ table_of self.old }
         ensures ok { OnOk result (list.new.entries ≡ []) }
         ensures left { IsRestInTurn list.old.entries list.new.entries }
@@ -285,8 +285,8 @@ impl Allocator {
         count: ClusterCount,
         metadata: bool,
     ) -> Result<PendingClusters, Fault>
-        ensures allocates { AllocatesClusters S.state (mark_of self.old) count metadata
-            (seen self.old caches.old file.old list.old) result (seen self.new caches.new file.new list.new) (mark_of self.new) }
+        ensures allocates { AllocatesClusters S.state count metadata (lent_to self.old caches.old file.old list.old) result
+            (lent_to self.new caches.new file.new list.new) }
         ensures held { list.new.held ≡ held_by result list.old.held }
     {
         let mut begun = false;
@@ -304,8 +304,8 @@ impl Allocator {
         metadata: bool,
         begun: &mut bool,
     ) -> Result<PendingClusters, Fault>
-        ensures allocates { AllocatesClusters S.state (mark_of self.old) count metadata
-            (seen self.old caches.old file.old list.old) result (seen self.new caches.new file.new list.new) (mark_of self.new) }
+        ensures allocates { AllocatesClusters S.state count metadata (lent_to self.old caches.old file.old list.old) result
+            (lent_to self.new caches.new file.new list.new) }
         ensures begins { 0 < count → OnOk result (begun.new ≡ true) }
         ensures spares { Spares S.state begun.old begun.new self.old (seen self.old caches.old file.old list.old) self.new
             (seen self.new caches.new file.new list.new) }
@@ -339,8 +339,8 @@ impl Allocator {
         list: &mut ClustersToFreeList,
         cluster: HostCluster,
     ) -> Result<Option<PendingClusters>, Fault>
-        ensures allocates { AllocatesClusterAt S.state (mark_of self.old) cluster
-            (seen self.old caches.old file.old list.old) result (seen self.new caches.new file.new list.new) (mark_of self.new) }
+        ensures allocates { AllocatesClusterAt S.state cluster (lent_to self.old caches.old file.old list.old) result
+            (lent_to self.new caches.new file.new list.new) }
         ensures held { list.new.held ≡ held_at result list.old.held }
     {
         list.hold()?;
@@ -380,9 +380,8 @@ impl Allocator {
         index: usize,
     ) -> Result<(), Fault>
         requires past { length (table_of self.old).words ≤ index }
-        ensures grows { GrowsReftable S.state (mark_of self.old) index (seen self.old caches.old file.old list.old) result
-            (seen self.new caches.new file.new list.new) }
-        ensures mark { mark_of self.new ≡ mark_of self.old }
+        ensures grows { GrowsReftable S.state index (lent_to self.old caches.old file.old list.old) result
+            (lent_to self.new caches.new file.new list.new) }
         ensures held { list.new.held ≡ list.old.held }
     {
         let copy = self.grown_copy(&file.header, index)?;

@@ -34,6 +34,7 @@ ghost use Rattle.qcow2_alloc.specs.Cache.{hit};
 ghost use Rattle.qcow2_alloc.specs.Causes.{FailsFor};
 ghost use Rattle.qcow2_alloc.specs.Crowding.{space, IsRoomy};
 ghost use Rattle.qcow2_alloc.specs.HandingOut.{IsFreed};
+ghost use Rattle.qcow2_alloc.specs.State.{MarkedMetadata};
 ghost use Rattle.qcow2_alloc.specs.Changes.{StaysAsItIs, CachesBlock, SetsCounter, CounterChanged, IsStillCovered, CachesTable, SetsWord, NamesNoMore, NamesDropped, ClusterNamed, zeroed, file_with};
 ghost use Rattle.qcow2_alloc.specs.Memory.{Cached, memory};
 ghost use Rattle.qcow2_alloc.specs.Safety.{Safe, IsLeft, IsCalm, AreTablesClean, AreBlocksClean, IsSettled};
@@ -531,5 +532,5 @@ pub fn a_quarter_is_room()
 /// What an image has room for it has room for once what waits was freed. So one that is sound, and in which an allocation is refused with
 /// `Fault::Limit`, had none before that, either.
 pub fn what_is_freed_leaves_room()
-    ensures { (m m' : Metadata) (mark mark' n : ℕ) → IsFreed m mark m' mark' → IsRoomy m mark n → IsRoomy m' mark' n }
+    ensures { (m m' : MarkedMetadata) (n : ℕ) → IsFreed m m' → IsRoomy m.image m.mark n → IsRoomy m'.image m'.mark n }
 {}

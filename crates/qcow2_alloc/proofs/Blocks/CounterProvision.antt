@@ -30,7 +30,7 @@ use Rattle.qcow2_alloc.specs.Going.{WasNotCutOff}
 use Rattle.qcow2_alloc.specs.GrowingTables.{GrowsTable, IsInRoomToGrow, IsLengthenedByTable, NoPlaceToGrow, table_run}
 use Rattle.qcow2_alloc.specs.HandingOutOne.{HandsOut, ReadiesCounter, ReadiesWord, leaked_by}
 use Rattle.qcow2_alloc.specs.Quiet.{IsSound, counted}
-use Rattle.qcow2_alloc.specs.State.{ImageState, lent, metadata, IsGuarded}
+use Rattle.qcow2_alloc.specs.State.{ImageState, lent, metadata, IsGuarded, with_mark, AllocatorState}
 use Rattle.qcow2_alloc.proofs.Causes.{cause-weaker, cause-told}
 use Rattle.qcow2_alloc.proofs.Blocks.BlockCreationCalls.{allocating-weaker}
 use Rattle.qcow2_alloc.proofs.Handing.CountSequences.{allocating-none, allocating-as, allocating-then}
@@ -120,11 +120,11 @@ module _ {S : Type 0} (state : S → StorageState) (mark cluster : ℕ) (s : Ima
     cause = refl;
   }
 
-  pub word-stands : cluster / k < length s.table.words → ReadiesWord state mark cluster s (ready_so Ready) s
-  word-stands inside = record { did = stands Ready; there = λ yes. inside; barred = λ order keeps sound no. absurd (ready-apart no); near = λ order keeps sound c none more. absurd (not-more _ _ refl none more) }
+  pub word-stands : cluster / k < length s.table.words → ReadiesWord state cluster (with_mark s mark) (ready_so Ready) (with_mark s mark)
+  word-stands inside = record { did = stands Ready; mark = refl; there = λ yes. inside; barred = λ order keeps sound no. absurd (ready-apart no); near = λ order keeps sound c none more. absurd (not-more _ _ refl none more) }
 
   -- The table has grown,
-  module _ (past : length s.table.words ≤ cluster / k) (result : Result Unit Fault) (s' : ImageState S) (grows : GrowsTable state mark (cluster / k) s result s') where
+  module _ (past : length s.table.words ≤ cluster / k) (result : Result Unit Fault) (s' : AllocatorState S) (grows : GrowsTable state (cluster / k) (with_mark s mark) result s') where
     grown-list : (r : Result Unit Fault) → OnOk r (IsGrownLength (words_of_cluster s.file.header.fields) k (cluster / k) (length s'.table.words)) → OnOk r (s'.pending ≡ s.pending ++ table_run s.file.header.fields) → OnErr r (s'.pending ≡ s.pending)
         → IsLengthenedByTable s.file.header.fields s.table s'.table s.pending s'.pending
     grown-list (Ok done) grown waits kept = inr (longer-than _ _ _ past grown.enough.above, waits)
@@ -133,21 +133,22 @@ module _ {S : Type 0} (state : S → StorageState) (mark cluster : ℕ) (s : Ima
     no-leak : (result ≡ Err CacheFull → ⊥) → (c : ℕ) → grows.leaked c ≡ 0
     no-leak = grows.leaks.none
 
-    pub word-made : result ≡ Ok tt → ReadiesWord state mark cluster s (ready_so Ready) s'
+    pub word-made : result ≡ Ok tt → ReadiesWord state cluster (with_mark s mark) (ready_so Ready) s'
     word-made ok = record {
       did = record {
         leaked = λ _. 0;
         leaks = leaks-none _ _ (ready_so Ready);
-        step = allocating-as state (WasNotCutOff result) (WasNotCutOff (ready_so Ready)) grows.leaked (λ _. 0) s s' (λ whole. subst (λ (r : Result Unit Fault). WasNotCutOff r) (sym ok) tt) (no-leak (ok-apart result ok)) grows.step;
+        step = allocating-as state (WasNotCutOff result) (WasNotCutOff (ready_so Ready)) grows.leaked (λ _. 0) s s'.image (λ whole. subst (λ (r : Result Unit Fault). WasNotCutOff r) (sym ok) tt) (no-leak (ok-apart result ok)) grows.step;
         list = grown-list result grows.enough grows.waits grows.kept;
         cause = of-cause _ _ _ result ok grows.cause;
       };
+      mark = grows.mark;
       there = λ yes. (of-ok result ok grows.enough).enough.above;
       barred = λ order keeps sound no. absurd (ready-apart no);
       near = λ order keeps sound c none more. inr (in-room order keeps sound c none more);
     }
       where
-        in-room : order_of s.caches ≡ L2DependsOnRb → IsTrue (state s.file.image).shape.keeps → IsSound (metadata state s) → (c : ℕ) → counted (metadata state s) c ≡ 0 → 0 < counted (metadata state s') c
+        in-room : order_of s.caches ≡ L2DependsOnRb → IsTrue (state s.file.image).shape.keeps → IsSound (metadata state s) → (c : ℕ) → counted (metadata state s) c ≡ 0 → 0 < counted (metadata state s'.image) c
             → IsInRoomToGrow (metadata state s) mark (cluster / k) c
         in-room order keeps sound c none more =
             let grown = of-ok result ok (grows.grown order keeps sound) in
@@ -155,15 +156,16 @@ module _ {S : Type 0} (state : S → StorageState) (mark cluster : ℕ) (s : Ima
             (past, grown.first, grown.total, grown.clusters, grown.room, inside.0, inside.1)
 
     -- or has no place,
-    pub word-barred : (number : ℕ) → result ≡ Err (Limit number) → ReadiesWord state mark cluster s (ready_so NoPlace) s'
+    pub word-barred : (number : ℕ) → result ≡ Err (Limit number) → ReadiesWord state cluster (with_mark s mark) (ready_so NoPlace) s'
     word-barred number limit = record {
       did = record {
         leaked = λ _. 0;
         leaks = leaks-none _ _ (ready_so NoPlace);
-        step = allocating-as state (WasNotCutOff result) (WasNotCutOff (ready_so NoPlace)) grows.leaked (λ _. 0) s s' (λ whole. subst (λ (r : Result Unit Fault). WasNotCutOff r) (sym limit) tt) (no-leak (limit-apart result number limit)) grows.step;
+        step = allocating-as state (WasNotCutOff result) (WasNotCutOff (ready_so NoPlace)) grows.leaked (λ _. 0) s s'.image (λ whole. subst (λ (r : Result Unit Fault). WasNotCutOff r) (sym limit) tt) (no-leak (limit-apart result number limit)) grows.step;
         list = grown-list result grows.enough grows.waits grows.kept;
         cause = cause.1;
       };
+      mark = grows.mark;
       there = λ yes. absurd (ready-apart (sym yes));
       barred = λ order keeps sound no. inr (past, number, cause.0 order keeps sound);
       near = λ order keeps sound c none more. absurd (not-more _ _ (grows.barred order keeps sound number limit c) none more);
@@ -175,29 +177,30 @@ module _ {S : Type 0} (state : S → StorageState) (mark cluster : ℕ) (s : Ima
             (state s.file.image).faults (state s'.file.image).faults) r) limit grows.cause
 
     -- or was refused.
-    pub word-refused : (fault : Fault) → result ≡ Err fault → ((number : ℕ) → fault ≢ Limit number) → ReadiesWord state mark cluster s (not_ready fault) s'
+    pub word-refused : (fault : Fault) → result ≡ Err fault → ((number : ℕ) → fault ≢ Limit number) → ReadiesWord state cluster (with_mark s mark) (not_ready fault) s'
     word-refused fault is other = record {
       did = record {
         leaked = grows.leaked;
         leaks = record { none = λ full. grows.leaks.none (λ at. full (same-fault result fault is at)); pinned = grows.leaks.pinned };
-        step = allocating-as state (WasNotCutOff result) (WasNotCutOff (not_ready fault)) grows.leaked grows.leaked s s' (λ whole. subst (λ (r : Result Unit Fault). WasNotCutOff r) (sym is) whole) (λ c. refl) grows.step;
+        step = allocating-as state (WasNotCutOff result) (WasNotCutOff (not_ready fault)) grows.leaked grows.leaked s s'.image (λ whole. subst (λ (r : Result Unit Fault). WasNotCutOff r) (sym is) whole) (λ c. refl) grows.step;
         list = grown-list result grows.enough grows.waits grows.kept;
         cause = never-limit _ _ _ _ _ _ fault other (subst (λ (r : Result Unit Fault). FailsFor (allocating_causes (IsGuarded state s) (IsLoose s.table s.caches)
             (λ n. order_of s.caches ≡ L2DependsOnRb → IsTrue (state s.file.image).shape.keeps → IsSound (metadata state s) → NoPlaceToGrow (metadata state s) mark (cluster / k) n)
             (state s.file.image).faults (state s'.file.image).faults) r) is grows.cause);
       };
+      mark = grows.mark;
       there = tt;
       barred = λ order keeps sound. tt;
       near = λ order keeps sound. tt;
     }
 
   -- There is a word for the cluster, and its block is made.
-  module _ (mid : ImageState S) where
+  module _ (mid : ImageState S) (mid_mark : ℕ) where
     -- There was no place for one,
-    pub counter-barred : ReadiesWord state mark cluster s (ready_so NoPlace) mid → ReadiesCounter state mark cluster s (ready_so NoPlace) mid
-    counter-barred word = record { did = word.did; there = λ yes. absurd (ready-apart (sym yes)); barred = word.barred; near = word.near }
+    pub counter-barred : ReadiesWord state cluster (with_mark s mark) (ready_so NoPlace) (with_mark mid mid_mark) → ReadiesCounter state cluster (with_mark s mark) (ready_so NoPlace) (with_mark mid mid_mark)
+    counter-barred word = record { did = word.did; mark = word.mark; there = λ yes. absurd (ready-apart (sym yes)); barred = word.barred; near = word.near }
 
-    module _ (word : ReadiesWord state mark cluster s (ready_so Ready) mid) (reach : IsInReach s.file.header.fields.cluster_bits cluster) (table' : TableValue) (new : MetadataCaches S) (after : ImageFile S) where
+    module _ (word : ReadiesWord state cluster (with_mark s mark) (ready_so Ready) (with_mark mid mid_mark)) (reach : IsInReach s.file.header.fields.cluster_bits cluster) (table' : TableValue) (new : MetadataCaches S) (after : ImageFile S) (mark' : ℕ) (still : mark' ≡ mid_mark) where
       header-moved : (P : Header → Type 0) → P (with_refcount_table s.file.header word.did.step.moved.0 word.did.step.moved.1) → P mid.file.header
       header-moved P p = subst P (sym word.did.step.moved.2) p
 
@@ -224,7 +227,7 @@ module _ {S : Type 0} (state : S → StorageState) (mark cluster : ℕ) (s : Ima
       pub counter-made : (made : Provision) → MakesBlocks state (cluster / k) (cluster / k + 1) mid (so made) (lent table' new after mid.pending)
           → (order_of mid.caches ≡ L2DependsOnRb → IsTrue (state mid.file.image).shape.keeps → IsSound (metadata state mid)
           → FillsFrom mark (cluster / k) (cluster / k + 1) (metadata state mid) (metadata_of state after new table' mid.pending))
-          → ReadiesCounter state mark cluster s (ready_so Ready) (lent table' new after mid.pending)
+          → ReadiesCounter state cluster (with_mark s mark) (ready_so Ready) (with_mark (lent table' new after mid.pending) mark')
       counter-made made blocks fills = record {
         did = record {
           leaked = λ _. 0;
@@ -233,6 +236,7 @@ module _ {S : Type 0} (state : S → StorageState) (mark cluster : ℕ) (s : Ima
           list = blocks-behind word.did.list blocks.long;
           cause = blocks.cause ∙ word.did.cause;
         };
+        mark = still ∙ word.mark;
         there = λ yes. blocks.named (cluster / k) (unchanged (cluster / k)) (behind (cluster / k));
         barred = λ order keeps sound no. absurd (ready-apart no);
         near = λ order keeps sound c none more. elim (cases_eq (counted (metadata state mid) c) 0) [
@@ -246,7 +250,7 @@ module _ {S : Type 0} (state : S → StorageState) (mark cluster : ℕ) (s : Ima
       }
 
       -- or none could be made.
-      pub counter-unmade : (fault : Fault) → MakesBlocks state (cluster / k) (cluster / k + 1) mid (refused fault) (lent table' new after mid.pending) → ReadiesCounter state mark cluster s (not_ready fault) (lent table' new after mid.pending)
+      pub counter-unmade : (fault : Fault) → MakesBlocks state (cluster / k) (cluster / k + 1) mid (refused fault) (lent table' new after mid.pending) → ReadiesCounter state cluster (with_mark s mark) (not_ready fault) (with_mark (lent table' new after mid.pending) mark')
       counter-unmade fault blocks = record {
         did = record {
           leaked = λ _. 0;
@@ -255,6 +259,7 @@ module _ {S : Type 0} (state : S → StorageState) (mark cluster : ℕ) (s : Ima
           list = blocks-behind word.did.list blocks.long;
           cause = cause-weaker (allocating-weaker holds-still word.did.step.loose never-far word.did.cause) fault blocks.cause;
         };
+        mark = still ∙ word.mark;
         there = tt;
         barred = λ order keeps sound. tt;
         near = λ order keeps sound. tt;

@@ -22,7 +22,7 @@ use Rattle.qcow2_alloc.specs.Going.{IsMild}
 use Rattle.qcow2_alloc.specs.GrowingTables.{Leaks, GrowsTable}
 use Rattle.qcow2_alloc.specs.Quiet.{Metadata, IsSound}
 use Rattle.qcow2_alloc.specs.ReadyingBlocks.{HasMade, HasMore, NoneCanBeMade, ReadiesBlocks}
-use Rattle.qcow2_alloc.specs.State.{ImageState, lent, metadata}
+use Rattle.qcow2_alloc.specs.State.{ImageState, lent, metadata, with_mark, AllocatorState}
 use Rattle.qcow2_alloc.proofs.Causes.{cause-weaker, fails-weaker}
 use Rattle.qcow2_alloc.proofs.Blocks.BlockCreationCalls.{allocating-weaker}
 use Rattle.qcow2_alloc.proofs.Blocks.BlockRows.{refused, so}
@@ -54,12 +54,13 @@ module _ {S : Type 0} (state : S → StorageState) (mark at first last : ℕ) (s
   Knows P = order_of s.caches ≡ L2DependsOnRb → IsTrue (state s.file.image).shape.keeps → IsSound Start → P
 
   -- The table has words for all: blocks are made.
-  pub blocks-ready : last < length s.table.words → (result : Result Provision Fault) (table' : TableValue) (new : MetadataCaches S) (after : ImageFile S) → MakesBlocks state first (last + 1) s result (lent table' new after s.pending)
-      → Knows (OnOk result (FillsFrom mark first (last + 1) Start (metadata_of state after new table' s.pending))) → ReadiesBlocks state mark at first last s result (lent table' new after s.pending)
-  blocks-ready inside result table' new after makes fills = record {
+  pub blocks-ready : last < length s.table.words → (result : Result Provision Fault) (table' : TableValue) (new : MetadataCaches S) (after : ImageFile S) (mark' : ℕ) → mark' ≡ mark → MakesBlocks state first (last + 1) s result (lent table' new after s.pending)
+      → Knows (OnOk result (FillsFrom mark first (last + 1) Start (metadata_of state after new table' s.pending))) → ReadiesBlocks state at first last (with_mark s mark) result (with_mark (lent table' new after s.pending) mark')
+  blocks-ready inside result table' new after mark' still makes fills = record {
     leaked = λ _. 0;
     leaks = leaks-none _ _ result;
     step = makes.step;
+    mark = still;
     idle = makes.idle;
     ready = named result makes.named;
     further = more result makes.fewer;
@@ -89,13 +90,14 @@ module _ {S : Type 0} (state : S → StorageState) (mark at first last : ℕ) (s
           let more = mul-le-mul_right (2 ^ s.file.header.fields.cluster_bits) le in
           far (omega (arith, near, more)))
 
-  module _ (past : length s.table.words ≤ last) (s' : ImageState S) where
+  module _ (past : length s.table.words ≤ last) (s' : AllocatorState S) where
     -- It hasn't: it grows,
-    pub table-ready : last ≤ at → GrowsTable state mark at s (Ok tt) s' → ReadiesBlocks state mark at first last s (so Extended) s'
+    pub table-ready : last ≤ at → GrowsTable state at (with_mark s mark) (Ok tt) s' → ReadiesBlocks state at first last (with_mark s mark) (so Extended) s'
     table-ready behind grows = record {
       leaked = grows.leaked;
       leaks = record { none = λ other c. leaks-ok _ _ tt grows.leaked grows.leaks c; pinned = grows.leaks.pinned };
       step = grows.step;
+      mark = grows.mark;
       idle = λ none. absurd (cc);
       ready = λ none. absurd (cc);
       further = λ some. inl (let above = grows.enough.enough.above in omega (arith, above, past, behind));
@@ -108,11 +110,12 @@ module _ {S : Type 0} (state : S → StorageState) (mark at first last : ℕ) (s
     }
 
     -- or that is refused.
-    pub table-not-ready : (fault : Fault) → GrowsTable state mark at s (Err fault) s' → ReadiesBlocks state mark at first last s (Err fault) s'
+    pub table-not-ready : (fault : Fault) → GrowsTable state at (with_mark s mark) (Err fault) s' → ReadiesBlocks state at first last (with_mark s mark) (Err fault) s'
     table-not-ready fault grows = record {
       leaked = grows.leaked;
       leaks = leaks-on _ _ _ _ fault grows.leaked (λ holds. holds) (λ any loose. loose) grows.leaks;
       step = grows.step;
+      mark = grows.mark;
       idle = tt;
       ready = tt;
       further = tt;

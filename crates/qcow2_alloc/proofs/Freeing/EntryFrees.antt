@@ -23,7 +23,7 @@ use Rattle.qcow2_alloc.specs.Freeing.{IsUnbarred, Frees, MayFree, IsWholeOrCalm,
 use Rattle.qcow2_alloc.specs.FreeList.{entry_at, shorter, shortened, listed}
 use Rattle.qcow2_alloc.specs.Going.{WasNotCutOff}
 use Rattle.qcow2_alloc.specs.Quiet.{Metadata, IsSound, IsQuiet, counted, in_memory, waiting, waiting_metadata, metadata_in}
-use Rattle.qcow2_alloc.specs.State.{lent}
+use Rattle.qcow2_alloc.specs.State.{lent, with_mark}
 use Rattle.qcow2_alloc.proofs.Causes.{Implies, fails-weaker}
 use Rattle.qcow2_alloc.proofs.Flushing.Faultless.{faultless-then, named-faultless}
 use Rattle.qcow2_alloc.proofs.Freeing.ClusterFrees.{LosesOne, left, cluster-freed, freeing-caused, counts-stay, freeing-stays}
@@ -105,7 +105,7 @@ module _ {S : Type 0} (state : S → StorageState) (table : TableValue) (es : Li
   fell mark (Err fault) = inl refl
 
   pub last-freed : (old : MetadataCaches S) (before : ImageFile S) (mark : ℕ) (result : Result Unit Fault) (new : MetadataCaches S) (after : ImageFile S) → MayFree (order_of old) (entry_at es i) → LowersCluster state table c (cached_file old before) result (cached_file new after)
-      → Frees state mark (lent table old before es) result (lent table new after (left state table c es (shortened es i 1) result)) (moved mark result)
+      → Frees state (with_mark (lent table old before es) mark) result (with_mark (lent table new after (left state table c es (shortened es i 1) result)) (moved mark result))
   last-freed old before mark result new after may lowers =
       let l = loses old may in
       let stays = freeing-stays state table c es (shortened es i 1) old before result new after l lowers in
@@ -135,7 +135,7 @@ module _ {S : Type 0} (state : S → StorageState) (table : TableValue) (es : Li
       ]
 
   -- An entry past the greatest number isn't one of a sound image.
-  pub far-refused : (old : MetadataCaches S) (before : ImageFile S) (mark : ℕ) → 2 ^ 64 ≤ c → Frees state mark (lent table old before es) (Err DamagedTable) (lent table old before es) mark
+  pub far-refused : (old : MetadataCaches S) (before : ImageFile S) (mark : ℕ) → 2 ^ 64 ≤ c → Frees state (with_mark (lent table old before es) mark) (Err DamagedTable) (with_mark (lent table old before es) mark)
   far-refused old before mark far =
       let m = metadata_of state before old table es in
       record {
@@ -185,7 +185,7 @@ failed fault = Err fault
 
 module _ {S : Type 0} (state : S → StorageState) (table : TableValue) where
   -- None,
-  pub frees-none : (old : MetadataCaches S) (before : ImageFile S) (mark : ℕ) (es : List FreeEntry) → Frees state mark (lent table old before es) freed (lent table old before es) mark
+  pub frees-none : (old : MetadataCaches S) (before : ImageFile S) (mark : ℕ) (es : List FreeEntry) → Frees state (with_mark (lent table old before es) mark) freed (with_mark (lent table old before es) mark)
   frees-none old before mark es =
       let m = metadata_of state before old table es in
       record {
@@ -205,7 +205,7 @@ module _ {S : Type 0} (state : S → StorageState) (table : TableValue) where
 
   -- and some more.
   pub frees-then : (A : MetadataCaches S) (fA : ImageFile S) (mark : ℕ) (es : List FreeEntry) (B : MetadataCaches S) (fB : ImageFile S) (mark1 : ℕ) (es1 : List FreeEntry) (result : Result Unit Fault) (C : MetadataCaches S) (fC : ImageFile S) (mark2 : ℕ) (es2 : List FreeEntry)
-      → Frees state mark (lent table A fA es) freed (lent table B fB es1) mark1 → Frees state mark1 (lent table B fB es1) result (lent table C fC es2) mark2 → Frees state mark (lent table A fA es) result (lent table C fC es2) mark2
+      → Frees state (with_mark (lent table A fA es) mark) freed (with_mark (lent table B fB es1) mark1) → Frees state (with_mark (lent table B fB es1) mark1) result (with_mark (lent table C fC es2) mark2) → Frees state (with_mark (lent table A fA es) mark) result (with_mark (lent table C fC es2) mark2)
   frees-then A fA mark es B fB mark1 es1 result C fC mark2 es2 first second =
       let on : IsTrue (state fA.image).shape.keeps → IsTrue (state fB.image).shape.keeps = keeps_on (state fA.image) (state fB.image) first.quiet.shape in
       let le = first.lower in
@@ -236,7 +236,7 @@ module _ {S : Type 0} (state : S → StorageState) (table : TableValue) where
       ]
 
   -- An entry of no clusters is taken off the list.
-  pub empty-removed : (old : MetadataCaches S) (before : ImageFile S) (mark : ℕ) (es : List FreeEntry) (i : ℕ) → i < length es → (entry_at es i).count ≡ 0 → Frees state mark (lent table old before es) freed (lent table old before (remove es i)) mark
+  pub empty-removed : (old : MetadataCaches S) (before : ImageFile S) (mark : ℕ) (es : List FreeEntry) (i : ℕ) → i < length es → (entry_at es i).count ≡ 0 → Frees state (with_mark (lent table old before es) mark) freed (with_mark (lent table old before (remove es i)) mark)
   empty-removed old before mark es i inside none =
       let m = metadata_of state before old table es in
       let less : (d : ℕ) → listed (remove es i) d ≡ listed es d = λ d. let off = listed-remove es i d inside in let zero = covers-none d (entry_at es i) none in omega (arith, off, zero) in

@@ -21,7 +21,7 @@ use Rattle.qcow2_alloc.specs.GrowingTables.{GrowsTable, NoPlaceToGrow, TableGrow
 use Rattle.qcow2_alloc.specs.HandingOut.{GrowsReftable, StaysInShape}
 use Rattle.qcow2_alloc.specs.MovingTables.{WhyNotGrown}
 use Rattle.qcow2_alloc.specs.Quiet.{Metadata, IsSound}
-use Rattle.qcow2_alloc.specs.State.{ImageState, lent, metadata, IsKept}
+use Rattle.qcow2_alloc.specs.State.{ImageState, lent, metadata, IsKept, with_mark, AllocatorState}
 use Rattle.qcow2_alloc.proofs.Causes.{cause-weaker, fails-weaker}
 use Rattle.qcow2_alloc.proofs.Blocks.BlockCreationCalls.{freeing-allocates}
 use Rattle.qcow2_alloc.proofs.Handing.CountSequences.{moved-none}
@@ -49,7 +49,7 @@ module _ {S : Type 0} (state : S → StorageState) (mark at : ℕ) (s : ImageSta
   }
 
   -- There was no grown copy of the table, or no room for the clusters of this one: nothing has changed.
-  pub not-copied : (fault : Fault) → WhyNotGrown s.file.header.fields s.table at fault → GrowsReftable state mark at s (failed fault) s
+  pub not-copied : (fault : Fault) → WhyNotGrown s.file.header.fields s.table at fault → GrowsReftable state at (with_mark s mark) (failed fault) (with_mark s mark)
   not-copied fault why = record {
     leaked = λ _. 0;
     leaks = leaks-none _ _ (failed fault);
@@ -59,6 +59,7 @@ module _ {S : Type 0} (state : S → StorageState) (mark at : ℕ) (s : ImageSta
     grown = λ keeps sound. tt;
     enough = tt;
     order = tt;
+    mark = refl;
     shape = record { moved = moved-none s.file.header s.file.header refl; loose = λ any loose. loose; room = record { tables = refl; blocks = refl; entries = refl } };
     waits = tt;
     kept = refl;
@@ -73,7 +74,7 @@ module _ {S : Type 0} (state : S → StorageState) (mark at : ℕ) (s : ImageSta
       by-fault other why = absurd why
 
   -- Where that was refused nothing grew,
-  pub not-announced : (fault : Fault) → Announced state s (failed fault) (lent s.table mid between s.pending) → GrowsReftable state mark at s (failed fault) (lent s.table mid between s.pending)
+  pub not-announced : (fault : Fault) → Announced state s (failed fault) (lent s.table mid between s.pending) → GrowsReftable state at (with_mark s mark) (failed fault) (with_mark (lent s.table mid between s.pending) mark)
   not-announced fault first = record {
     leaked = λ _. 0;
     leaks = leaks-none _ _ (failed fault);
@@ -83,6 +84,7 @@ module _ {S : Type 0} (state : S → StorageState) (mark at : ℕ) (s : ImageSta
     grown = λ keeps sound. tt;
     enough = tt;
     order = tt;
+    mark = refl;
     shape = shape-behind (failed fault) (lent s.table mid between s.pending) first (moved-none between.header between.header refl) (λ any loose. loose) (record { tables = refl; blocks = refl; entries = refl });
     waits = tt;
     kept = refl;
@@ -91,10 +93,10 @@ module _ {S : Type 0} (state : S → StorageState) (mark at : ℕ) (s : ImageSta
   }
 
   -- and else it grows as it does under that order.
-  module _ (first : Announced state s (Ok tt) (lent s.table mid between s.pending)) (result : Result Unit Fault) (s' : ImageState S)
-      (grows : GrowsTable state mark at (lent s.table mid between s.pending) result s') where
+  module _ (first : Announced state s (Ok tt) (lent s.table mid between s.pending)) (result : Result Unit Fault) (s' : AllocatorState S)
+      (grows : GrowsTable state at (with_mark (lent s.table mid between s.pending) mark) result s') where
     abbrev End : Metadata
-    End = metadata state s'
+    End = metadata state s'.image
 
     grown : (r : Result Unit Fault) → IsTrue (state s.file.image).shape.keeps → IsSound Start → OnOk r (TableGrown mark at Mid End) → OnOk r (TableGrown mark at Start End)
     grown (Ok done) keeps sound is = grown-as Start Mid first.header refl (first.counts keeps sound tt) mark at End is
@@ -117,7 +119,7 @@ module _ {S : Type 0} (state : S → StorageState) (mark at : ℕ) (s : ImageSta
     stays (Ok done) is = tt
     stays (Err fault) is = λ mild. let both = is mild in (both.0, both.1 ∙ first.header)
 
-    pub announced-grows : GrowsReftable state mark at s result s'
+    pub announced-grows : GrowsReftable state at (with_mark s mark) result s'
     announced-grows = record {
       leaked = grows.leaked;
       leaks = record { none = grows.leaks.none; pinned = λ holds loose. let still = sound-behind state s mid between first holds.0 holds.1 in grows.leaks.pinned (still.0, first.order, still.1) (first.loose true loose) };
@@ -128,7 +130,8 @@ module _ {S : Type 0} (state : S → StorageState) (mark at : ℕ) (s : ImageSta
       grown = λ keeps sound. let still = sound-behind state s mid between first keeps sound in grown result keeps sound (grows.grown first.order still.0 still.1);
       enough = enough result grows.enough;
       order = ordered result;
-      shape = shape-behind (Ok tt) s' first grows.step.moved grows.step.loose grows.step.room;
+      mark = grows.mark;
+      shape = shape-behind (Ok tt) s'.image first grows.step.moved grows.step.loose grows.step.room;
       waits = waits result grows.waits;
       kept = grows.kept;
       stays = stays result grows.stays;

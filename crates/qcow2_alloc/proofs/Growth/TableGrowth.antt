@@ -27,7 +27,7 @@ use Rattle.qcow2_alloc.specs.MakingRoom.{run_of}
 use Rattle.qcow2_alloc.specs.MovingTables.{clusters_of, IsPlan, WhyNotGrown, WhyNotPlaced, IsFreeIn, WasSound, FillsRoom, EntersFree}
 use Rattle.qcow2_alloc.specs.Quiet.{Metadata, counted, IsSound}
 use Rattle.qcow2_alloc.specs.SearchingClusters.{IsSafeWith, Looked}
-use Rattle.qcow2_alloc.specs.State.{ImageState, lent, metadata}
+use Rattle.qcow2_alloc.specs.State.{ImageState, lent, metadata, with_mark}
 use Rattle.qcow2_alloc.proofs.Causes.{cause-weaker, fails-weaker}
 use Rattle.qcow2_alloc.proofs.Handing.CountSequences.{allocating-none, allocating-as}
 use Rattle.qcow2_alloc.proofs.Flushing.Faultless.{faultless-then}
@@ -57,7 +57,7 @@ module _ {S : Type 0} (state : S → StorageState) (mark at : ℕ) (image : Imag
   -- It is refused, and nothing was counted.
   not-grown : (fault : Fault) (C : MetadataCaches S) (fC : ImageFile S) → Allocating state (IsMild fault) (λ _. 0) image (lent image.table C fC image.pending) → fC.header ≡ image.file.header
       → (Keeps → IsSound start → (number : ℕ) → fault ≡ Limit number → (c : ℕ) → counted (metadata_of state fC C image.table image.pending) c ≡ counted start c)
-      → HasCause (allocating_causes Sound (IsLoose image.table image.caches) Full (state image.file.image).faults (state fC.image).faults) fault → GrowsTable state mark at image (failed fault) (lent image.table C fC image.pending)
+      → HasCause (allocating_causes Sound (IsLoose image.table image.caches) Full (state image.file.image).faults (state fC.image).faults) fault → GrowsTable state at (with_mark image mark) (failed fault) (with_mark (lent image.table C fC image.pending) mark)
   not-grown fault C fC step header same why = record {
     leaked = λ _. 0;
     leaks = record { none = λ not c. refl; pinned = λ holds loose c. refl };
@@ -65,6 +65,7 @@ module _ {S : Type 0} (state : S → StorageState) (mark at : ℕ) (image : Imag
     grown = λ order keeps sound. tt;
     barred = λ order keeps sound number is. same keeps sound number (let e = is in cc e);
     enough = tt;
+    mark = refl;
     waits = tt;
     kept = refl;
     stays = λ mild. (refl, header);
@@ -72,7 +73,7 @@ module _ {S : Type 0} (state : S → StorageState) (mark at : ℕ) (image : Imag
   }
 
   -- There is no copy of the table,
-  pub no-copy : (fault : Fault) → WhyNotGrown image.file.header.fields image.table at fault → GrowsTable state mark at image (failed fault) image
+  pub no-copy : (fault : Fault) → WhyNotGrown image.file.header.fields image.table at fault → GrowsTable state at (with_mark image mark) (failed fault) (with_mark image mark)
   no-copy fault why = not-grown fault image.caches image.file (allocating-as state ⊤ (IsMild fault) (λ _. 0) (λ _. 0) image image (λ mild. tt) (λ c. refl) (allocating-none state image)) refl (λ keeps sound number is c. refl) (by-fault fault why)
     where
       by-fault : (fault : Fault) → WhyNotGrown image.file.header.fields image.table at fault → HasCause (allocating_causes Sound (IsLoose image.table image.caches) Full (state image.file.image).faults (state image.file.image).faults) fault
@@ -82,7 +83,7 @@ module _ {S : Type 0} (state : S → StorageState) (mark at : ℕ) (image : Imag
       by-fault other why = absurd why
 
   -- or the search for a room was refused,
-  pub no-room : (fault : Fault) (C : MetadataCaches S) (fC : ImageFile S) → Looked state {T = Run} image.table (cached_file image.caches image.file) (Err fault) (cached_file C fC) → GrowsTable state mark at image (failed fault) (lent image.table C fC image.pending)
+  pub no-room : (fault : Fault) (C : MetadataCaches S) (fC : ImageFile S) → Looked state {T = Run} image.table (cached_file image.caches image.file) (Err fault) (cached_file C fC) → GrowsTable state at (with_mark image mark) (failed fault) (with_mark (lent image.table C fC image.pending) mark)
   no-room fault C fC looked =
       not-grown fault C fC (looked-allocates state image Run (Err fault) C fC looked) looked.header
       (λ keeps sound number is. counts-looked state image Run (Err fault) C fC looked keeps sound (subst (λ (f : Fault). WasNotCutOff {T = Run} (Err f)) (sym is) tt))
@@ -110,7 +111,7 @@ module _ {S : Type 0} (state : S → StorageState) (mark at : ℕ) (image : Imag
     room-to-grow known = record { long = subst (λ (l : ℕ). IsGrownLength (words_of_cluster h) (counters_of_block h) at l) (sym whole) long; room = found known }
 
     -- It can't take it.
-    pub no-place : (fault : Fault) → 1 ≤ room.len → WhyNotPlaced fC.header.fields image.table room copy fault → GrowsTable state mark at image (failed fault) (lent image.table C fC image.pending)
+    pub no-place : (fault : Fault) → 1 ≤ room.len → WhyNotPlaced fC.header.fields image.table room copy fault → GrowsTable state at (with_mark image mark) (failed fault) (with_mark (lent image.table C fC image.pending) mark)
     no-place fault some why =
         not-grown fault C fC (allocating-as state ⊤ (IsMild fault) (λ _. 0) (λ _. 0) image (lent image.table C fC image.pending) (λ mild. tt) (λ c. refl) (looked-allocates state image Run (Ok room) C fC looks.looked)) looks.looked.header
         (λ keeps sound number is. counts-looked state image Run (Ok room) C fC looks.looked keeps sound tt)
@@ -142,7 +143,7 @@ module _ {S : Type 0} (state : S → StorageState) (mark at : ℕ) (image : Imag
     -- It takes it, as it was planned.
     module _ (placed : TableValue) (plan_there : IsPlan fC.header.fields image.table room placed) (same : length placed.words ≡ length copy.words)
         (result : Result Unit Fault) (sD : ImageState S) (fills : EntersFree state room placed (lent image.table C fC image.pending) result sD)
-        (waits : OnOk result (sD.pending ≡ image.pending ++ table_run fC.header.fields)) (kept : OnErr result (sD.pending ≡ image.pending)) where
+        (waits : OnOk result (sD.pending ≡ image.pending ++ table_run fC.header.fields)) (kept : OnErr result (sD.pending ≡ image.pending)) (mark' : ℕ) (still : mark' ≡ mark) where
       abbrev mid : Metadata
       mid = metadata_of state fC C image.table image.pending
 
@@ -207,7 +208,7 @@ module _ {S : Type 0} (state : S → StorageState) (mark at : ℕ) (image : Imag
             counts = λ c. from-ok result done (filled.counts (order, keeps, sound) (on keeps) (mid-sound order keeps sound)) c ∙ ap (λ k. k + covers c (run_of room.first room.len)) (mid-counts keeps sound c);
           }
 
-      pub grows : GrowsTable state mark at image result sD
+      pub grows : GrowsTable state at (with_mark image mark) result (with_mark sD mark')
       grows = record {
         leaked = filled.leaked;
         leaks = record { none = filled.leaks.none; pinned = λ holds loose. filled.leaks.pinned (was-on holds) (looked.loose true loose) };
@@ -230,6 +231,7 @@ module _ {S : Type 0} (state : S → StorageState) (mark at : ℕ) (image : Imag
         grown = λ order keeps sound. on-ok result (table-grown order keeps sound);
         barred = λ order keeps sound number is. absurd (never result number is filled.cause);
         enough = on-ok result (λ done. subst (λ (l : ℕ). IsGrownLength (words_of_cluster h) (counters_of_block h) at l) (sym (ap (λ (t : TableValue). length t.words) (from-ok result done filled.table_is) ∙ same)) long);
+        mark = still;
         waits = subst (λ (H : Header). OnOk result (sD.pending ≡ image.pending ++ table_run H.fields)) looked.header waits;
         kept = kept;
         stays = subst (λ (H : Header). IfErr result (λ fault. IsMild fault → (sD.table ≡ image.table) × (sD.file.header ≡ H))) looked.header filled.stays;

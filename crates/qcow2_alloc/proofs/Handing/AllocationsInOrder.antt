@@ -26,7 +26,7 @@ use Rattle.qcow2_alloc.specs.HandingOut.{AllocatesClusterAt, AllocatesClusters, 
 use Rattle.qcow2_alloc.specs.HandingOutOne.{AllocatesAt}
 use Rattle.qcow2_alloc.specs.Quiet.{Metadata, IsSound, Quietly, counted}
 use Rattle.qcow2_alloc.specs.ReadyingRuns.{Allocates, IsRunCounted, IsRunTold, handed_by}
-use Rattle.qcow2_alloc.specs.State.{ImageState, lent, metadata, IsKept}
+use Rattle.qcow2_alloc.specs.State.{ImageState, lent, metadata, IsKept, with_mark, AllocatorState}
 use Rattle.qcow2_alloc.proofs.Causes.{cause-weaker, fails-weaker}
 use Rattle.qcow2_alloc.proofs.Blocks.BlockCreationCalls.{freeing-allocates, allocating-weaker}
 use Rattle.qcow2_alloc.proofs.Handing.CountSequences.{moved-none}
@@ -50,7 +50,7 @@ module _ {S : Type 0} (state : S → StorageState) (mark cluster : ℕ) (s : Ima
   Mid = metadata_of state between mid s.table s.pending
 
   -- One cluster isn't where that was refused,
-  pub at-not-announced : (fault : Fault) → Announced state s (failed fault) (lent s.table mid between s.pending) → AllocatesClusterAt state mark cluster s (not_handed fault) (lent s.table mid between s.pending) mark
+  pub at-not-announced : (fault : Fault) → Announced state s (failed fault) (lent s.table mid between s.pending) → AllocatesClusterAt state cluster (with_mark s mark) (not_handed fault) (with_mark (lent s.table mid between s.pending) mark)
   at-not-announced fault first = record {
     leaked = λ _. 0;
     leaks = leaks-none _ _ (not_handed fault);
@@ -70,10 +70,10 @@ module _ {S : Type 0} (state : S → StorageState) (mark cluster : ℕ) (s : Ima
   }
 
   -- and else as it is under that order.
-  module _ (first : Announced state s (Ok tt) (lent s.table mid between s.pending)) (result : Result (Option FreeEntry) Fault) (s' : ImageState S) (mark' : ℕ)
-      (at : AllocatesAt state (λ m. IsBarred m mark cluster) mark cluster (lent s.table mid between s.pending) result s' mark') where
+  module _ (first : Announced state s (Ok tt) (lent s.table mid between s.pending)) (result : Result (Option FreeEntry) Fault) (s' : AllocatorState S)
+      (at : AllocatesAt state (λ m. IsBarred m mark cluster) cluster (with_mark (lent s.table mid between s.pending) mark) result s') where
     abbrev End : Metadata
-    End = metadata state s'
+    End = metadata state s'.image
 
     answered : (r : Result (Option FreeEntry) Fault) → IsTrue (state s.file.image).shape.keeps → IsSound Start → IfOk r (IsHandedAt (IsBarred Mid mark cluster) cluster Mid End) → IfOk r (IsHandedAt (IsBarred Start mark cluster) cluster Start End)
     answered (Ok (Some entry)) keeps sound (zero, is, unnamed, free) = (let same = first.counts keeps sound tt cluster in omega (arith, same, zero), is, unnamed, free)
@@ -106,7 +106,7 @@ module _ {S : Type 0} (state : S → StorageState) (mark cluster : ℕ) (s : Ima
     ordered (Ok found) = at.did.step.order ∙ first.order
     ordered (Err fault) = tt
 
-    pub at-announced : AllocatesClusterAt state mark cluster s result s' mark'
+    pub at-announced : AllocatesClusterAt state cluster (with_mark s mark) result s'
     at-announced = record {
       leaked = at.did.leaked;
       leaks = record { none = at.did.leaks.none; pinned = λ holds loose. let still = sound-behind state s mid between first holds.0 holds.1 in at.did.leaks.pinned (still.0, first.order, still.1) (first.loose true loose) };
@@ -122,13 +122,13 @@ module _ {S : Type 0} (state : S → StorageState) (mark cluster : ℕ) (s : Ima
       marked = λ keeps sound whole marked. let still = sound-behind state s mid between first keeps sound in
           at.marked first.order still.0 still.1 whole (marked-behind state s mid between first mark keeps sound marked);
       order = ordered result;
-      shape = shape-behind state mark cluster s mid between (Ok tt) s' first at.did.step.moved at.did.step.loose at.did.step.room;
+      shape = shape-behind state mark cluster s mid between (Ok tt) s'.image first at.did.step.moved at.did.step.loose at.did.step.room;
       list = subst (λ (H : Header). IsLengthenedByTable H.fields s.table s'.table s.pending s'.pending) first.header at.did.list;
       cause = fails-weaker _ _ (allocates-behind state s mid between first (λ n full. full)) (λ same. same ∙ first.cause) result at.did.cause;
     }
 
 -- Nothing was freed, and nothing has changed, for want of memory.
-memory-unfreed : {S : Type 0} (state : S → StorageState) (s : ImageState S) (mark : ℕ) → Frees state mark s (failed Memory) s mark
+memory-unfreed : {S : Type 0} (state : S → StorageState) (s : ImageState S) (mark : ℕ) → Frees state (with_mark s mark) (failed Memory) (with_mark s mark)
 memory-unfreed state s mark =
     let m = metadata state s in
     record {
@@ -163,7 +163,7 @@ module _ {S : Type 0} (state : S → StorageState) (mark n : ℕ) (is_metadata :
   First = metadata state image
 
   -- That was refused,
-  module _ (fault : Fault) (mark1 : ℕ) (A : MetadataCaches S) (fA : ImageFile S) (pA : List FreeEntry) (frees : Frees state mark image (failed fault) (lent image.table A fA pA) mark1) (rest : IsRestInTurn image.pending pA) where
+  module _ (fault : Fault) (mark1 : ℕ) (A : MetadataCaches S) (fA : ImageFile S) (pA : List FreeEntry) (frees : Frees state (with_mark image mark) (failed fault) (with_mark (lent image.table A fA pA) mark1)) (rest : IsRestInTurn image.pending pA) where
     abbrev Rest : Metadata
     Rest = metadata_of state fA A image.table pA
 
@@ -174,7 +174,7 @@ module _ {S : Type 0} (state : S → StorageState) (mark n : ℕ) (is_metadata :
         by-fault (Limit number) searched why = why
         by-fault f searched why = searched
 
-    pub run-not-freed : AllocatesClusters state mark n is_metadata image (refused_run fault) (lent image.table A fA pA) mark1
+    pub run-not-freed : AllocatesClusters state n is_metadata (with_mark image mark) (refused_run fault) (with_mark (lent image.table A fA pA) mark1)
     run-not-freed = record {
       leaked = λ _. 0;
       leaks = leaks-none _ _ (refused_run fault);
@@ -185,12 +185,11 @@ module _ {S : Type 0} (state : S → StorageState) (mark n : ℕ) (is_metadata :
       answer = failed fault;
       between = A;
       at = fA;
-      mid_mark = mark1;
       left = pA;
       frees = frees;
       rest = rest;
       halted = λ other is. (ap (λ f. refused_run f) (let e = is in let same : fault ≡ other = cc in same), refl, refl, refl, refl);
-      mid = Rest;
+      mid = record { image = Rest; mark = mark1 };
       mid_left = refl;
       freed = λ keeps sound whole. let held = frees.quiet.holds keeps sound (inl whole) in record {
         sound = held.0;
@@ -217,11 +216,11 @@ module _ {S : Type 0} (state : S → StorageState) (mark n : ℕ) (is_metadata :
     }
 
   -- or not begun, for want of memory,
-  pub run-not-held : AllocatesClusters state mark n is_metadata image (refused_run Memory) image mark
+  pub run-not-held : AllocatesClusters state n is_metadata (with_mark image mark) (refused_run Memory) (with_mark image mark)
   run-not-held = run-not-freed Memory mark image.caches image.file image.pending (memory-unfreed state image mark) (rest-all image.pending)
 
   -- or there was nothing left.
-  module _ (mark1 : ℕ) (A : MetadataCaches S) (fA : ImageFile S) (frees : Frees state mark image (Ok tt) (lent image.table A fA []) mark1) (B : MetadataCaches S) (fB : ImageFile S) where
+  module _ (mark1 : ℕ) (A : MetadataCaches S) (fA : ImageFile S) (frees : Frees state (with_mark image mark) (Ok tt) (with_mark (lent image.table A fA []) mark1)) (B : MetadataCaches S) (fB : ImageFile S) where
     abbrev Freed : Metadata
     Freed = metadata_of state fA A image.table []
 
@@ -240,7 +239,7 @@ module _ {S : Type 0} (state : S → StorageState) (mark n : ℕ) (is_metadata :
         (quietly-then _ ok (λ _. 0) (λ _. 0) handed (λ _. 0) (state image.file.image) First (state fA.image) Freed s m (inl tt) (λ sound c some. refl) frees.quiet second)
 
     -- The announcement was refused,
-    pub run-not-announced : (fault : Fault) → Announced state (lent image.table A fA []) (failed fault) (lent image.table B fB []) → AllocatesClusters state mark n is_metadata image (refused_run fault) (lent image.table B fB []) mark1
+    pub run-not-announced : (fault : Fault) → Announced state (lent image.table A fA []) (failed fault) (lent image.table B fB []) → AllocatesClusters state n is_metadata (with_mark image mark) (refused_run fault) (with_mark (lent image.table B fB []) mark1)
     run-not-announced fault second = record {
       leaked = λ _. 0;
       leaks = leaks-none _ _ (refused_run fault);
@@ -251,12 +250,11 @@ module _ {S : Type 0} (state : S → StorageState) (mark n : ℕ) (is_metadata :
       answer = Ok tt;
       between = A;
       at = fA;
-      mid_mark = mark1;
       left = [];
       frees = frees;
       rest = rest-none image.pending;
       halted = λ other is. let e = is in absurd (cc e);
-      mid = Ready;
+      mid = record { image = Ready; mark = mark1 };
       mid_left = refl;
       freed = λ keeps sound whole. let held = quiet.holds keeps sound whole in record {
         sound = held.0;
@@ -301,10 +299,10 @@ module _ {S : Type 0} (state : S → StorageState) (mark n : ℕ) (is_metadata :
         never f searched why = searched
 
     -- or a run was searched for.
-    module _ (second : Announced state (lent image.table A fA []) (Ok tt) (lent image.table B fB [])) (result : Result FreeEntry Fault) (s' : ImageState S) (mark' : ℕ)
-        (third : Allocates state mark1 n is_metadata (lent image.table B fB []) result s' mark') where
+    module _ (second : Announced state (lent image.table A fA []) (Ok tt) (lent image.table B fB [])) (result : Result FreeEntry Fault) (s' : AllocatorState S)
+        (third : Allocates state n is_metadata (with_mark (lent image.table B fB []) mark1) result s') where
       abbrev Last : Metadata
-      Last = metadata state s'
+      Last = metadata state s'.image
 
       ready-sound : IsTrue (state image.file.image).shape.keeps → IsSound First → IsTrue (state fB.image).shape.keeps × IsSound Ready
       ready-sound keeps sound = let still = still-sound keeps sound in sound-behind state (lent image.table A fA []) B fB second still.0 still.1
@@ -312,7 +310,7 @@ module _ {S : Type 0} (state : S → StorageState) (mark n : ℕ) (is_metadata :
       ready-marked : IsTrue (state image.file.image).shape.keeps → IsSound First → IsMarked First mark → IsMarked Ready mark1
       ready-marked keeps sound marked = let still = still-sound keeps sound in marked-behind state (lent image.table A fA []) B fB second mark1 still.0 still.1 (frees.marked keeps sound (inl tt) marked)
 
-      is-freed : IsTrue (state image.file.image).shape.keeps → IsSound First → IsFreed First mark Ready mark1
+      is-freed : IsTrue (state image.file.image).shape.keeps → IsSound First → IsFreed (record { image = First; mark = mark }) (record { image = Ready; mark = mark1 })
       is-freed keeps sound = let quiet = ((quiet-on ⊤ (λ _. 0) (state fB.image) Ready second.quiet).holds keeps sound tt).1 in record {
         sound = (ready-sound keeps sound).1;
         quiet = quiet;
@@ -323,7 +321,7 @@ module _ {S : Type 0} (state : S → StorageState) (mark n : ℕ) (is_metadata :
         marked = ready-marked keeps sound;
       }
 
-      same-shape : StaysInShape image s'
+      same-shape : StaysInShape image s'.image
       same-shape = record {
         moved = subst (λ (H : Header). MovedTable H s'.file.header) (second.header ∙ frees.header) third.step.moved;
         loose = λ any loose. third.step.loose any (second.loose any (freed-loose any loose));
@@ -352,7 +350,7 @@ module _ {S : Type 0} (state : S → StorageState) (mark n : ℕ) (is_metadata :
       run-ordered (Ok entry) = third.step.order ∙ second.order
       run-ordered (Err fault) = tt
 
-      pub run-announced : AllocatesClusters state mark n is_metadata image result s' mark'
+      pub run-announced : AllocatesClusters state n is_metadata (with_mark image mark) result s'
       run-announced = record {
         leaked = third.leaked;
         leaks = record { none = third.leaks.none; pinned = λ holds loose. let still = ready-sound holds.0 holds.1 in third.leaks.pinned (still.0, second.order, still.1) (second.loose true (freed-loose true loose)) };
@@ -364,12 +362,11 @@ module _ {S : Type 0} (state : S → StorageState) (mark n : ℕ) (is_metadata :
         answer = Ok tt;
         between = A;
         at = fA;
-        mid_mark = mark1;
         left = [];
         frees = frees;
         rest = rest-none image.pending;
         halted = λ other is. let e = is in absurd (cc e);
-        mid = Ready;
+        mid = record { image = Ready; mark = mark1 };
         mid_left = refl;
         freed = λ keeps sound whole. is-freed keeps sound;
         emptied = refl;

@@ -25,7 +25,7 @@ use Rattle.qcow2_alloc.specs.GrowingTables.{IsTakenFor}
 use Rattle.qcow2_alloc.specs.HandingOut.{handed_at, IsBarred, IsHandedAt, IsOneAt}
 use Rattle.qcow2_alloc.specs.HandingOutOne.{AllocatesAt, ReadiesCounter, leaked_by}
 use Rattle.qcow2_alloc.specs.Quiet.{Metadata, IsSound, counted}
-use Rattle.qcow2_alloc.specs.State.{ImageState, lent, metadata, IsGuarded}
+use Rattle.qcow2_alloc.specs.State.{ImageState, lent, metadata, IsGuarded, with_mark}
 use Rattle.qcow2_alloc.proofs.Causes.{fails-weaker}
 use Rattle.qcow2_alloc.proofs.Blocks.BlockCreationCalls.{allocating-weaker}
 use Rattle.qcow2_alloc.proofs.Handing.CountSequences.{counted-still, allocating-none, allocating-as, allocating-then}
@@ -50,7 +50,7 @@ module _ {S : Type 0} (state : S → StorageState) (mark cluster : ℕ) (s : Ima
   Barred m = IsBarred m mark cluster
 
   -- A cluster that words can't name isn't handed out,
-  pub out-of-reach : (IsInReach s.file.header.fields.cluster_bits cluster → ⊥) → AllocatesAt state Barred mark cluster s (handed_so None) s mark
+  pub out-of-reach : (IsInReach s.file.header.fields.cluster_bits cluster → ⊥) → AllocatesAt state Barred cluster (with_mark s mark) (handed_so None) (with_mark s mark)
   out-of-reach far = record {
     did = record {
       leaked = λ _. 0;
@@ -67,12 +67,12 @@ module _ {S : Type 0} (state : S → StorageState) (mark cluster : ℕ) (s : Ima
     marked = λ order keeps sound whole marked. marked;
   }
 
-  module _ (mid : ImageState S) where
+  module _ (mid : ImageState S) (mid_mark : ℕ) where
     abbrev Mid : Metadata
     Mid = metadata state mid
 
     -- nor one that there is no counter for,
-    pub uncounted-at : ReadiesCounter state mark cluster s (ready_so NoPlace) mid → AllocatesAt state Barred mark cluster s (handed_so None) mid mark
+    pub uncounted-at : ReadiesCounter state cluster (with_mark s mark) (ready_so NoPlace) (with_mark mid mid_mark) → AllocatesAt state Barred cluster (with_mark s mark) (handed_so None) (with_mark mid mark)
     uncounted-at counter = record {
       did = record { leaked = λ _. 0; leaks = leaks-none _ _ (handed_so None); step = counter.did.step; list = counter.did.list; cause = counter.did.cause };
       one = tt;
@@ -84,7 +84,7 @@ module _ {S : Type 0} (state : S → StorageState) (mark cluster : ℕ) (s : Ima
     }
 
     -- nor any where that is refused.
-    pub refused-at : (fault : Fault) → ReadiesCounter state mark cluster s (not_ready fault) mid → AllocatesAt state Barred mark cluster s (not_handed fault) mid mark
+    pub refused-at : (fault : Fault) → ReadiesCounter state cluster (with_mark s mark) (not_ready fault) (with_mark mid mid_mark) → AllocatesAt state Barred cluster (with_mark s mark) (not_handed fault) (with_mark mid mark)
     refused-at fault counter = record {
       did = record {
         leaked = counter.did.leaked;
@@ -101,8 +101,8 @@ module _ {S : Type 0} (state : S → StorageState) (mark cluster : ℕ) (s : Ima
       marked = λ order keeps sound whole marked. marked-raised Old Mid mark (counter.did.step.raised order keeps sound whole) marked;
     }
 
-    module _ (counter : ReadiesCounter state mark cluster s (ready_so Ready) mid) (result : Result (Option FreeEntry) Fault) (new : MetadataCaches S) (after : ImageFile S) (mark' : ℕ)
-        (one : AllocatesAt state (λ _. ⊥) mark cluster mid result (lent mid.table new after mid.pending) mark') where
+    module _ (counter : ReadiesCounter state cluster (with_mark s mark) (ready_so Ready) (with_mark mid mid_mark)) (result : Result (Option FreeEntry) Fault) (new : MetadataCaches S) (after : ImageFile S) (mark' : ℕ)
+        (one : AllocatesAt state (λ _. ⊥) cluster (with_mark mid mark) result (with_mark (lent mid.table new after mid.pending) mark')) where
       abbrev New : Metadata
       New = metadata_of state after new mid.table mid.pending
 
@@ -150,7 +150,7 @@ module _ {S : Type 0} (state : S → StorageState) (mark cluster : ℕ) (s : Ima
               counter.there refl (ap block_offset (get_or_past mid.table.words (cluster / counters_of_block s.file.header.fields) 0 here))
 
       -- Else it is handed out where it is free.
-      pub readied-at : AllocatesAt state Barred mark cluster s result (lent mid.table new after mid.pending) mark'
+      pub readied-at : AllocatesAt state Barred cluster (with_mark s mark) result (with_mark (lent mid.table new after mid.pending) mark')
       readied-at = record {
         did = record {
           leaked = one.did.leaked;

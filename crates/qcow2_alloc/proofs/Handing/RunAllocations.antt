@@ -26,7 +26,7 @@ use Rattle.qcow2_alloc.specs.Going.{WasNotCutOff}
 use Rattle.qcow2_alloc.specs.MakingRoom.{run_of}
 use Rattle.qcow2_alloc.specs.Quiet.{Metadata, IsSound, counted}
 use Rattle.qcow2_alloc.specs.ReadyingRuns.{Allocates, IsRunCounted, ReadiesRun, handed_by, mark_behind}
-use Rattle.qcow2_alloc.specs.State.{ImageState, lent, metadata}
+use Rattle.qcow2_alloc.specs.State.{ImageState, lent, metadata, with_mark}
 use Rattle.qcow2_alloc.proofs.Causes.{cause-weaker}
 use Rattle.qcow2_alloc.proofs.Blocks.BlockCreationCalls.{counting-allocates}
 use Rattle.qcow2_alloc.proofs.Handing.CountSequences.{allocating-none, allocating-as, raised-then}
@@ -114,7 +114,7 @@ module _ {S : Type 0} (state : S → StorageState) (mark n : ℕ) (is_metadata :
   Keeps = IsTrue (state s.file.image).shape.keeps
 
   abbrev Handing : Result FreeEntry Fault → TableValue → MetadataCaches S → ImageFile S → List FreeEntry → ℕ → Type 0
-  Handing result table' new after pending' mark' = Allocates state mark n is_metadata s result (lent table' new after pending') mark'
+  Handing result table' new after pending' mark' = Allocates state n is_metadata (with_mark s mark) result (with_mark (lent table' new after pending') mark')
 
   -- What can't come about hands out what you like.
   allocating-never : (ok : Type 0) (h h' : ℕ → ℕ) (s' : ImageState S) → (order_of s.caches ≡ L2DependsOnRb → Keeps → IsSound mA → ok → ⊥)
@@ -152,12 +152,12 @@ module _ {S : Type 0} (state : S → StorageState) (mark n : ℕ) (is_metadata :
     cause = refl;
   }
 
-  module _ (sB : ImageState S) where
+  module _ (sB : ImageState S) (mid_mark : ℕ) where
     abbrev mB : Metadata
     mB = metadata state sB
 
     -- No run was made ready.
-    pub run-refused : (fault : Fault) → ReadiesRun state mark n s (Err fault) sB → Handing (Err fault) sB.table sB.caches sB.file sB.pending mark
+    pub run-refused : (fault : Fault) → ReadiesRun state n (with_mark s mark) (Err fault) (with_mark sB mid_mark) → Handing (Err fault) sB.table sB.caches sB.file sB.pending mark
     run-refused fault ready = record {
       leaked = ready.leaked;
       leaks = leaks-on _ _ _ _ fault ready.leaked (λ holds. holds) (λ any loose. loose) ready.leaks;
@@ -173,7 +173,7 @@ module _ {S : Type 0} (state : S → StorageState) (mark n : ℕ) (is_metadata :
       cause = ready.cause;
     }
 
-    module _ (first : ℕ) (ready : ReadiesRun state mark n s (Ok first) sB) where
+    module _ (first : ℕ) (ready : ReadiesRun state n (with_mark s mark) (Ok first) (with_mark sB mid_mark)) where
       -- So far none was handed out.
       begun : Allocating state ⊤ (λ _. 0) s sB
       begun = allocating-as state ⊤ ⊤ ready.leaked (λ _. 0) s sB (λ whole. whole) (leaks-ok _ _ first ready.leaked ready.leaks) ready.step

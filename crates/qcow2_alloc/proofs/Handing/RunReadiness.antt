@@ -40,7 +40,7 @@ use Rattle.qcow2_alloc.proofs.Growth.RoomSearches.{first-run-same}
 use Rattle.qcow2_alloc.proofs.Searching.SearchSequences.{counts-still}
 use Rattle.qcow2_alloc.proofs.Searching.SearchesBeforeCounts.{looked-allocates, counts-looked}
 use Rattle.qcow2_alloc.specs.Crowding.{IsCrowded, IsGapless, IsRoomy, TakesLittle, room_for}
-use Rattle.qcow2_alloc.specs.State.{ImageState, lent, metadata, IsGuarded}
+use Rattle.qcow2_alloc.specs.State.{ImageState, lent, metadata, IsGuarded, with_mark, AllocatorState}
 use Rattle.qcow2_alloc.proofs.Space.GaplessRuns.{gapless-same, gapless-then, made-gapless}
 use Rattle.qcow2_alloc.proofs.Caching.Loose.{loose-all}
 use Rattle.qcow2_alloc.proofs.Space.RoomyRuns.{RoomStays, stays-start, stays-searched, room-left, run-counted, run-early, run-fits, can-make, stays-made}
@@ -130,10 +130,10 @@ module _ {S : Type 0} (state : S → StorageState) (s : ImageState S) where
     }
 
     -- or with what is made,
-    pub readying-made : (mark at first last : ℕ) (made : Provision) (sB : ImageState S) → ReadiesBlocks state mark at first last sA (Ok made) sB → (length s.table.words < length sA.table.words → last < length sA.table.words) → Readying state s sB
+    pub readying-made : (mark at first last : ℕ) (made : Provision) (sB : AllocatorState S) → ReadiesBlocks state at first last (with_mark sA mark) (Ok made) sB → (length s.table.words < length sA.table.words → last < length sA.table.words) → Readying state s sB.image
     readying-made mark at first last made sB makes covers = record {
-      step = step-on {T = Provision} (Ok made) (λ _. 0) sB
-          (allocating-as state ⊤ ⊤ makes.leaked (λ _. 0) sA sB (λ whole. whole) (leaks-ok _ _ made makes.leaked makes.leaks) makes.step);
+      step = step-on {T = Provision} (Ok made) (λ _. 0) sB.image
+          (allocating-as state ⊤ ⊤ makes.leaked (λ _. 0) sA sB.image (λ whole. whole) (leaks-ok _ _ made makes.leaked makes.leaks) makes.step);
       list = elim (cases_lt last (length sA.table.words)) [
         | inl inside ↦ let still = makes.once inside in elim so_far.list [
           | inl same ↦ inl (still.0 ∙ same.0, still.1 ∙ same.1, still.2 ∙ same.2)
@@ -159,12 +159,12 @@ module _ {S : Type 0} (state : S → StorageState) (s : ImageState S) where
         }
 
     pub stays-on : (mark n z first last : ℕ) → 1 ≤ n → (IsGuarded state s → IsFirstRun (counted (metadata state sA)) mark n z) → first ≡ z / counters_of_block sA.file.header.fields → last ≡ (z + (n - 1)) / counters_of_block sA.file.header.fields
-        → Stays mark n sA → (sB : ImageState S) → ReadiesBlocks state mark (last + (n / counters_of_block sA.file.header.fields + 2)) first last sA (Ok Extended) sB → Stays mark n sB
+        → Stays mark n sA → (sB : AllocatorState S) → ReadiesBlocks state (last + (n / counters_of_block sA.file.header.fields + 2)) first last (with_mark sA mark) (Ok Extended) sB → Stays mark n sB.image
     stays-on mark n z first last some run first-is last-is stays sB makes holds =
         let there = holds-on holds in
         let m0 = metadata state s in
         let m = metadata state sA in
-        let m' = metadata state sB in
+        let m' = metadata state sB.image in
         let made = makes.made there.1 there.0 there.2 refl in
         let raised = makes.step.raised there.1 there.0 there.2 tt in
         record {
@@ -175,7 +175,7 @@ module _ {S : Type 0} (state : S → StorageState) (s : ImageState S) where
         }
 
     -- or is refused as it searches,
-    pub search-refused : (mark n : ℕ) (fault : Fault) (B : MetadataCaches S) (fB : ImageFile S) → LooksForRun state sA.table mark n (cached_file sA.caches sA.file) (Err fault) (cached_file B fB) → ReadiesRun state mark n s (Err fault) (lent sA.table B fB sA.pending)
+    pub search-refused : (mark n : ℕ) (fault : Fault) (B : MetadataCaches S) (fB : ImageFile S) → LooksForRun state sA.table mark n (cached_file sA.caches sA.file) (Err fault) (cached_file B fB) → ReadiesRun state n (with_mark s mark) (Err fault) (with_mark (lent sA.table B fB sA.pending) mark)
     search-refused mark n fault B fB looks = record {
       leaked = λ _. 0;
       leaks = leaks-none _ _ (Err fault);
@@ -185,22 +185,24 @@ module _ {S : Type 0} (state : S → StorageState) (s : ImageState S) where
       ready = tt;
       reach = tt;
       some = tt;
+      mark = refl;
       list = by-table s.file.header sA.file.header s.table sA.table s.pending sA.pending so_far.list;
       cause = cause-weaker (freeing-allocates safe-with (λ u. loose-all sA.table sA.caches u.0 (so_far.step.loose u.0 u.2)) so_far.faults) fault looks.looked.cause;
     }
 
     -- or as it makes something,
     pub making-refused : (mark n z first last : ℕ) → 1 ≤ n → (IsGuarded state s → IsFirstRun (counted (metadata state sA)) mark n z) → first ≡ z / counters_of_block sA.file.header.fields → last ≡ (z + (n - 1)) / counters_of_block sA.file.header.fields
-        → IsInReach sA.file.header.fields.cluster_bits (z + (n - 1)) → Stays mark n sA → (fault : Fault) (sB : ImageState S) → ReadiesBlocks state mark (last + (n / counters_of_block sA.file.header.fields + 2)) first last sA (Err fault) sB → (length s.table.words < length sA.table.words → last < length sA.table.words) → ReadiesRun state mark n s (Err fault) sB
+        → IsInReach sA.file.header.fields.cluster_bits (z + (n - 1)) → Stays mark n sA → (fault : Fault) (sB : AllocatorState S) → ReadiesBlocks state (last + (n / counters_of_block sA.file.header.fields + 2)) first last (with_mark sA mark) (Err fault) sB → (length s.table.words < length sA.table.words → last < length sA.table.words) → ReadiesRun state n (with_mark s mark) (Err fault) sB
     making-refused mark n z first last positive run first-is last-is near stays fault sB makes covers = record {
       leaked = makes.leaked;
       leaks = leaks-on _ _ _ _ fault makes.leaked holds-on so_far.step.loose makes.leaks;
-      step = step-on {T = ℕ} (Err fault) makes.leaked sB makes.step;
+      step = step-on {T = ℕ} (Err fault) makes.leaked sB.image makes.step;
       found = λ order keeps sound. tt;
       little = λ order keeps sound. tt;
       ready = tt;
       reach = tt;
       some = tt;
+      mark = makes.mark;
       list = elim (cases_lt last (length sA.table.words)) [
         | inl inside ↦ let still = makes.once inside in elim so_far.list [
           | inl same ↦ inl (still.0 ∙ same.0)
@@ -239,11 +241,11 @@ module _ {S : Type 0} (state : S → StorageState) (s : ImageState S) where
             let there = holds-on holds in
             can-make mark n positive Start holds.2 roomy mA ((stays holds).room roomy) so_far.step.moved (so_far.step.raised holds.1 holds.0 holds.2 tt) there.2 z (run holds) first last first-is last-is number none
 
-        told : (number : ℕ) → fault ≡ Limit number → IsGuarded state s → CanNot number → IsRunTold (metadata state sB) mark n number
+        told : (number : ℕ) → fault ≡ Limit number → IsGuarded state s → CanNot number → IsRunTold (metadata state sB.image) mark n number
         told number is holds (inl far) = absurd (far (λ i above below. block-near sA.file.header z n i (omega (arith, below, last-is)) near))
         told number is holds (inr (past, none)) =
             let there = holds-on holds in
-            making-told mark n z mA (metadata state sB) (makes.barred past there.1 there.0 there.2 number (ap (λ (f : Fault). Err f) is)) (run holds) number
+            making-told mark n z mA (metadata state sB.image) (makes.barred past there.1 there.0 there.2 number (ap (λ (f : Fault). Err f) is)) (run holds) number
             (subst (λ (l : ℕ). NoPlaceToGrow mA mark (l + (n / counters_of_block sA.file.header.fields + 2)) number) last-is none)
 
     module _ (mark n z : ℕ) (some : 1 ≤ n) (B : MetadataCaches S) (fB : ImageFile S) (looks : LooksForRun state sA.table mark n (cached_file sA.caches sA.file) (Ok z) (cached_file B fB)) where
@@ -254,7 +256,7 @@ module _ {S : Type 0} (state : S → StorageState) (s : ImageState S) where
           first-run-same (counts_in state sA.caches sA.file) (counts_in state B fB) mark n z (counts-still state sA.table sA.caches sA.file z B fB looks.looked safe) (looks.found safe)
 
       -- It is refused as no run begins there that can be counted,
-      pub unfit-refused : (fault : Fault) → WhyNotFit fB.header.fields n z fault → Stays mark n sA → ReadiesRun state mark n s (Err fault) (lent sA.table B fB sA.pending)
+      pub unfit-refused : (fault : Fault) → WhyNotFit fB.header.fields n z fault → Stays mark n sA → ReadiesRun state n (with_mark s mark) (Err fault) (with_mark (lent sA.table B fB sA.pending) mark)
       unfit-refused fault why stays =
           let searched = readying-searched mark n z B fB looks in record {
             leaked = λ _. 0;
@@ -265,6 +267,7 @@ module _ {S : Type 0} (state : S → StorageState) (s : ImageState S) where
             ready = tt;
             reach = tt;
             some = tt;
+            mark = refl;
             list = by-table s.file.header sA.file.header s.table sA.table s.pending sA.pending so_far.list;
             cause = caused fault why;
           }
@@ -308,7 +311,7 @@ module _ {S : Type 0} (state : S → StorageState) (s : ImageState S) where
           )
 
       -- It is refused as the table has grown and doesn't count the run,
-      pub grown-refused : (number : ℕ) → number ≡ last_number z n → length s.table.words < length sA.table.words → length sA.table.words ≤ (z + (n - 1)) / counters_of_block fB.header.fields → Stays mark n sA → ReadiesRun state mark n s (Err (Limit number)) (lent sA.table B fB sA.pending)
+      pub grown-refused : (number : ℕ) → number ≡ last_number z n → length s.table.words < length sA.table.words → length sA.table.words ≤ (z + (n - 1)) / counters_of_block fB.header.fields → Stays mark n sA → ReadiesRun state n (with_mark s mark) (Err (Limit number)) (with_mark (lent sA.table B fB sA.pending) mark)
       grown-refused number is longer past stays =
           let searched = readying-searched mark n z B fB looks in record {
             leaked = λ _. 0;
@@ -319,6 +322,7 @@ module _ {S : Type 0} (state : S → StorageState) (s : ImageState S) where
             ready = tt;
             reach = tt;
             some = tt;
+            mark = refl;
             list = by-table s.file.header sA.file.header s.table sA.table s.pending sA.pending so_far.list;
             cause = ((λ order keeps sound. (crowded order keeps sound, record { first = z; run = found-run (keeps, order, sound); told = inl (is, λ near. past) })), looks.looked.cause ∙ so_far.faults);
           }
@@ -332,9 +336,9 @@ module _ {S : Type 0} (state : S → StorageState) (s : ImageState S) where
               omega (arith, inside, past')
 
       -- and ends where each cluster of the run has a block.
-      module _ (sC : ImageState S) (k last : ℕ) (size : counters_of_block fB.header.fields ≡ k) (at : ℕ) (made : ReadiesBlocks state mark at (z / k) last (lent sA.table B fB sA.pending) (Ok Complete) sC)
-          (done : Readying state s sC) where
-        pub run-ready : Stays mark n sA → 0 < k → z ≢ 0 → IsInReach fB.header.fields.cluster_bits (z + (n - 1)) → last ≡ (z + (n - 1)) / k → ReadiesRun state mark n s (Ok z) sC
+      module _ (sC : AllocatorState S) (k last : ℕ) (size : counters_of_block fB.header.fields ≡ k) (at : ℕ) (made : ReadiesBlocks state at (z / k) last (with_mark (lent sA.table B fB sA.pending) mark) (Ok Complete) sC)
+          (done : Readying state s sC.image) where
+        pub run-ready : Stays mark n sA → 0 < k → z ≢ 0 → IsInReach fB.header.fields.cluster_bits (z + (n - 1)) → last ≡ (z + (n - 1)) / k → ReadiesRun state n (with_mark s mark) (Ok z) sC
         run-ready stays wide apart reach at = record {
           leaked = λ _. 0;
           leaks = leaks-none _ _ (Ok z);
@@ -351,6 +355,7 @@ module _ {S : Type 0} (state : S → StorageState) (s : ImageState S) where
               subst (λ b. block_offset (slice_index sC.table.words (c / b)) ≢ 0) (sym size ∙ ap (λ (H : Header). counters_of_block H.fields) moved.2) (made.ready refl (c / k) both.0 (omega (arith, le, at)));
           reach = subst (λ (H : Header). IsInReach H.fields.cluster_bits (z + (n - 1))) moved.2 reach;
           some = apart;
+          mark = made.mark;
           list = by-table s.file.header sC.file.header s.table sC.table s.pending sC.pending done.list;
           cause = done.faults;
         }

@@ -26,7 +26,7 @@ use Rattle.qcow2_alloc.specs.HandingOutOne.{AllocatesAt, CountsOne, counting_of}
 use Rattle.qcow2_alloc.specs.MakingRoom.{run_of}
 use Rattle.qcow2_alloc.specs.Quiet.{Metadata, IsSound, Quietly, counted, one_at}
 use Rattle.qcow2_alloc.specs.SearchingClusters.{LooksForFree}
-use Rattle.qcow2_alloc.specs.State.{ImageState, lent, metadata, IsGuarded}
+use Rattle.qcow2_alloc.specs.State.{ImageState, lent, metadata, IsGuarded, with_mark}
 use Rattle.qcow2_alloc.proofs.Causes.{cause-weaker}
 use Rattle.qcow2_alloc.proofs.Blocks.BlockCreationCalls.{counting-allocates, freeing-allocates}
 use Rattle.qcow2_alloc.proofs.Flushing.Faultless.{faultless-then}
@@ -67,7 +67,7 @@ module _ {S : Type 0} (state : S → StorageState) (mark cluster : ℕ) (s : Ima
   Looks result mid between = LooksForFree state s.table cluster ((cluster / k + 1) * k) (cached_file s.caches s.file) result (cached_file mid between)
 
   -- The search was refused,
-  pub search-refused : (fault : Fault) (mid : MetadataCaches S) (between : ImageFile S) → Looks (Err fault) mid between → AllocatesAt state (λ _. ⊥) mark cluster s (not_handed fault) (lent s.table mid between s.pending) mark
+  pub search-refused : (fault : Fault) (mid : MetadataCaches S) (between : ImageFile S) → Looks (Err fault) mid between → AllocatesAt state (λ _. ⊥) cluster (with_mark s mark) (not_handed fault) (with_mark (lent s.table mid between s.pending) mark)
   search-refused fault mid between looks = record {
     did = record {
       leaked = λ _. 0;
@@ -95,7 +95,7 @@ module _ {S : Type 0} (state : S → StorageState) (mark cluster : ℕ) (s : Ima
     counts-same keeps sound c = counts-looked state s (Option ℕ) (Ok found) mid between looks.looked keeps sound tt c
 
     -- or has found that the cluster is counted,
-    pub counted-already : found ≢ Some cluster → AllocatesAt state (λ _. ⊥) mark cluster s (handed_so None) (lent s.table mid between s.pending) mark
+    pub counted-already : found ≢ Some cluster → AllocatesAt state (λ _. ⊥) cluster (with_mark s mark) (handed_so None) (with_mark (lent s.table mid between s.pending) mark)
     counted-already other = record {
       did = record {
         leaked = λ _. 0;
@@ -224,8 +224,8 @@ module _ {S : Type 0} (state : S → StorageState) (mark cluster : ℕ) (s : Ima
           ]
 
       -- or counted none,
-      pub refused-one : (fault : Fault) → result ≡ Err fault → AllocatesAt state (λ _. ⊥) mark cluster s result (lent s.table new after s.pending) mark'
-      refused-one fault refused = subst (λ (r : Result (Option FreeEntry) Fault). AllocatesAt state (λ _. ⊥) mark cluster s r (lent s.table new after s.pending) mark') (sym refused) record {
+      pub refused-one : (fault : Fault) → result ≡ Err fault → AllocatesAt state (λ _. ⊥) cluster (with_mark s mark) result (with_mark (lent s.table new after s.pending) mark')
+      refused-one fault refused = subst (λ (r : Result (Option FreeEntry) Fault). AllocatesAt state (λ _. ⊥) cluster (with_mark s mark) r (with_mark (lent s.table new after s.pending) mark')) (sym refused) record {
         did = record {
           leaked = λ _. 0;
           leaks = leaks-none _ _ (not_handed fault);
@@ -255,8 +255,8 @@ module _ {S : Type 0} (state : S → StorageState) (mark cluster : ℕ) (s : Ima
       itself = record { first = cluster; count = 1; metadata = false }
 
       -- or counted it, and hands it out.
-      pub handed-one : (entry : Option FreeEntry) → result ≡ Ok entry → AllocatesAt state (λ _. ⊥) mark cluster s result (lent s.table new after s.pending) mark'
-      handed-one entry ok = subst (λ (r : Result (Option FreeEntry) Fault). AllocatesAt state (λ _. ⊥) mark cluster s r (lent s.table new after s.pending) mark') (sym (ok ∙ ap (λ (o : Option FreeEntry). Ok o) entry-is)) record {
+      pub handed-one : (entry : Option FreeEntry) → result ≡ Ok entry → AllocatesAt state (λ _. ⊥) cluster (with_mark s mark) result (with_mark (lent s.table new after s.pending) mark')
+      handed-one entry ok = subst (λ (r : Result (Option FreeEntry) Fault). AllocatesAt state (λ _. ⊥) cluster (with_mark s mark) r (with_mark (lent s.table new after s.pending) mark')) (sym (ok ∙ ap (λ (o : Option FreeEntry). Ok o) entry-is)) record {
         did = record {
           leaked = λ _. 0;
           leaks = leaks-none _ _ (handed_so (Some itself));
@@ -312,9 +312,9 @@ module _ {S : Type 0} (state : S → StorageState) (mark cluster : ℕ) (s : Ima
             | inr apart ↦ inl (let is' : mark' ≡ mark = mark-is ∙ rw (ne_eqb cluster mark apart) refl in omega (arith, is'))
           ]
 
-      pub counted-or-not : AllocatesAt state (λ _. ⊥) mark cluster s result (lent s.table new after s.pending) mark'
+      pub counted-or-not : AllocatesAt state (λ _. ⊥) cluster (with_mark s mark) result (with_mark (lent s.table new after s.pending) mark')
       counted-or-not = by-result result refl
         where
-          by-result : (r : Result (Option FreeEntry) Fault) → result ≡ r → AllocatesAt state (λ _. ⊥) mark cluster s result (lent s.table new after s.pending) mark'
+          by-result : (r : Result (Option FreeEntry) Fault) → result ≡ r → AllocatesAt state (λ _. ⊥) cluster (with_mark s mark) result (with_mark (lent s.table new after s.pending) mark')
           by-result (Ok entry) ok = handed-one entry ok
           by-result (Err fault) refused = refused-one fault refused

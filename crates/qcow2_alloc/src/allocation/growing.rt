@@ -7,7 +7,7 @@ ghost use Rattle.qcow2_alloc.specs.Caches.{cached_file};
 ghost use Rattle.qcow2_alloc.specs.Growing.{lacking, needed_for, GrowsRoom, LooksForRoom};
 ghost use Rattle.qcow2_alloc.specs.GrowingTables.{GrowsTable, table_run};
 ghost use Rattle.qcow2_alloc.specs.MovingTables.{IsPlan, IsCopyFor, WhyNotPlaced, IsGrownFor, WhyNotGrown, EntersFree};
-ghost use Rattle.qcow2_alloc.specs.State.{seen};
+ghost use Rattle.qcow2_alloc.specs.State.{lent_to, seen};
 
 use crate::allocation::Allocator;
 use crate::allocation::searching::Run;
@@ -108,9 +108,8 @@ impl Allocator {
         at: usize,
     ) -> Result<(), Fault>
         requires past { length (table_of self.old).words ≤ at }
-        ensures grows { GrowsTable S.state (mark_of self.old) at (seen self.old caches.old file.old list.old) result
-            (seen self.new caches.new file.new list.new) }
-        ensures mark { mark_of self.new ≡ mark_of self.old }
+        ensures grows { GrowsTable S.state at (lent_to self.old caches.old file.old list.old) result
+            (lent_to self.new caches.new file.new list.new) }
         ensures held { list.new.held ≡ list.old.held }
     {
         let copy = self.grown_copy(&file.header, at)?;
@@ -131,9 +130,7 @@ impl Allocator {
             × IsGrownFor file.old.header.fields (table_of self.old) at copy }
         requires held { 0 < list.old.held }
         ensures grows { (at : ℕ) → IsGrownFor file.old.header.fields (table_of self.old) at copy
-            → GrowsTable S.state (mark_of self.old) at (seen self.old caches.old file.old list.old) result
-            (seen self.new caches.new file.new list.new) }
-        ensures mark { mark_of self.new ≡ mark_of self.old }
+            → GrowsTable S.state at (lent_to self.old caches.old file.old list.old) result (lent_to self.new caches.new file.new list.new) }
         ensures held { list.new.held ≡ list.old.held - 1 }
     {
         let from = self.room_start(file.header.rb_bits());

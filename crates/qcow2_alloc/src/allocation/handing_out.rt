@@ -3,7 +3,7 @@
 ghost use Rattle.std.specs.Prelude.{◌≡◌, ◌<◌, ◌+◌, ◌^◌, ◌≢◌, ◌==◌, ◌≤◌, ◌/◌, List, IfOk, OnErr, OnOk, slice_index, true};
 ghost use Rattle.qcow2_alloc.specs.Allocators.{mark_of, table_of};
 ghost use Rattle.qcow2_alloc.specs.ReadyingRuns.{Allocates, Spares, mark_behind};
-ghost use Rattle.qcow2_alloc.specs.State.{seen, lent};
+ghost use Rattle.qcow2_alloc.specs.State.{lent, lent_to, seen, with_mark};
 ghost use Rattle.imago_storage.specs.Fault.{number_of};
 ghost use Rattle.qcow2_types.specs.Counts.{counters_of_block};
 ghost use Rattle.qcow2_types.specs.Pending.{FreeEntry};
@@ -44,8 +44,8 @@ impl Allocator {
         ensures begins { 0 < count → OnOk result (begun.new ≡ true) }
         ensures spares { Spares S.state begun.old begun.new self.old (seen self.old caches.old file.old list.old) self.new
             (seen self.new caches.new file.new list.new) }
-        ensures allocates { Allocates S.state (mark_of self.old) count metadata (seen self.old caches.old file.old list.old) result
-            (seen self.new caches.new file.new list.new) (mark_of self.new) }
+        ensures allocates { Allocates S.state count metadata (lent_to self.old caches.old file.old list.old) result
+            (lent_to self.new caches.new file.new list.new) }
         ensures held { list.new.held ≡ list.old.held }
     {
         if count == ClusterCount(0) {
@@ -71,8 +71,8 @@ impl Allocator {
         ensures begins { 0 < count → OnOk result (begun.new ≡ true) }
         ensures spares { Spares S.state begun.old begun.new self.old (seen self.old caches.old file.old list.old) self.new
             (seen self.new caches.new file.new list.new) }
-        ensures allocates { AllocatesClusters S.state (mark_of self.old) count metadata
-            (seen self.old caches.old file.old list.old) result (seen self.new caches.new file.new list.new) (mark_of self.new) }
+        ensures allocates { AllocatesClusters S.state count metadata (lent_to self.old caches.old file.old list.old) result
+            (lent_to self.new caches.new file.new list.new) }
         ensures held { list.new.held ≡ list.old.held }
     {
         if !list.is_empty() {
@@ -91,8 +91,8 @@ impl Allocator {
         list: &mut ClustersToFreeList,
         cluster: HostCluster,
     ) -> Result<Option<PendingClusters>, Fault>
-        ensures allocates { AllocatesClusterAt S.state (mark_of self.old) cluster
-            (seen self.old caches.old file.old list.old) result (seen self.new caches.new file.new list.new) (mark_of self.new) }
+        ensures allocates { AllocatesClusterAt S.state cluster (lent_to self.old caches.old file.old list.old) result
+            (lent_to self.new caches.new file.new list.new) }
         ensures held { list.new.held ≡ list.old.held }
     {
         caches.l2_depends_on_rb(file)?;
@@ -107,8 +107,8 @@ impl Allocator {
         list: &mut ClustersToFreeList,
         cluster: HostCluster,
     ) -> Result<Option<PendingClusters>, Fault>
-        ensures allocates { AllocatesAt S.state (λ m. IsBarred m (mark_of self.old) cluster) (mark_of self.old) cluster
-            (seen self.old caches.old file.old list.old) result (seen self.new caches.new file.new list.new) (mark_of self.new) }
+        ensures allocates { AllocatesAt S.state (λ m. IsBarred m (mark_of self.old) cluster) cluster
+            (lent_to self.old caches.old file.old list.old) result (lent_to self.new caches.new file.new list.new) }
         ensures held { list.new.held ≡ list.old.held }
     {
         if !is_in_reach(cluster, file.header.cluster_bits()) {
@@ -128,9 +128,8 @@ impl Allocator {
         list: &mut ClustersToFreeList,
         cluster: HostCluster,
     ) -> Result<Readiness, Fault>
-        ensures readies { ReadiesWord S.state (mark_of self.old) cluster (seen self.old caches.old file.old list.old) result
-            (seen self.new caches.new file.new list.new) }
-        ensures mark { mark_of self.new ≡ mark_of self.old }
+        ensures readies { ReadiesWord S.state cluster (lent_to self.old caches.old file.old list.old) result
+            (lent_to self.new caches.new file.new list.new) }
         ensures held { list.new.held ≡ list.old.held }
     {
         let index = cluster.rt_index(file.header.rb_bits());
@@ -158,9 +157,8 @@ impl Allocator {
         cluster: HostCluster,
     ) -> Result<Readiness, Fault>
         requires reach { IsInReach file.old.header.fields.cluster_bits cluster }
-        ensures readies { ReadiesCounter S.state (mark_of self.old) cluster (seen self.old caches.old file.old list.old) result
-            (seen self.new caches.new file.new list.new) }
-        ensures mark { mark_of self.new ≡ mark_of self.old }
+        ensures readies { ReadiesCounter S.state cluster (lent_to self.old caches.old file.old list.old) result
+            (lent_to self.new caches.new file.new list.new) }
         ensures held { list.new.held ≡ list.old.held }
     {
         if let Readiness::NoPlace = self.ensure_word(file, caches, list, cluster)? {
@@ -181,8 +179,8 @@ impl Allocator {
         requires there { block_offset (slice_index (table_of self.old).words (cluster / counters_of_block file.old.header.fields)) ≢ 0 }
         requires reach { IsInReach file.old.header.fields.cluster_bits cluster }
         ensures allocates { (pending : List FreeEntry)
-            → AllocatesAt S.state (λ _. ⊥) (mark_of self.old) cluster (lent (table_of self.old) caches.old file.old pending) result
-            (lent (table_of self.old) caches.new file.new pending) (mark_of self.new) }
+            → AllocatesAt S.state (λ _. ⊥) cluster (with_mark (lent (table_of self.old) caches.old file.old pending) (mark_of self.old))
+            result (with_mark (lent (table_of self.old) caches.new file.new pending) (mark_of self.new)) }
         ensures table { table_of self.new ≡ table_of self.old }
     {
         let found = self.find_in_block(file, caches, cluster)?;

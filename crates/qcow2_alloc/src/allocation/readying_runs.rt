@@ -8,7 +8,7 @@ ghost use Rattle.qcow2_alloc.specs.Allocators.{metadata_of, table_of, mark_of};
 ghost use Rattle.qcow2_alloc.specs.Caches.{order_of};
 ghost use Rattle.qcow2_alloc.specs.FillingBlocks.{FillsFrom};
 ghost use Rattle.qcow2_alloc.specs.Quiet.{IsSound};
-ghost use Rattle.qcow2_alloc.specs.State.{lent, seen};
+ghost use Rattle.qcow2_alloc.specs.State.{lent, lent_to, seen};
 ghost use Rattle.qcow2_types.specs.Counts.{counters_of_block};
 ghost use Rattle.qcow2_metadata.specs.Places.{IsInReach};
 ghost use Rattle.qcow2_alloc.specs.ReadyingBlocks.{ReadiesBlocks, WhyNotFit};
@@ -77,9 +77,8 @@ impl Allocator {
         ensures begins { OnOk result (begun.new ≡ true) }
         ensures spares { Spares S.state begun.old begun.new self.old (seen self.old caches.old file.old list.old) self.new
             (seen self.new caches.new file.new list.new) }
-        ensures readies { ReadiesRun S.state (mark_of self.old) count (seen self.old caches.old file.old list.old) result
-            (seen self.new caches.new file.new list.new) }
-        ensures mark { mark_of self.new ≡ mark_of self.old }
+        ensures readies { ReadiesRun S.state count (lent_to self.old caches.old file.old list.old) result
+            (lent_to self.new caches.new file.new list.new) }
         ensures held { list.new.held ≡ list.old.held }
     {
         let entries = self.reftable.entries();
@@ -125,10 +124,8 @@ impl Allocator {
     ) -> Result<Provision, Fault>
         requires order { first ≤ last }
         requires few { last < 2 ^ 20 }
-        ensures readies { ReadiesBlocks S.state (mark_of self.old)
-            (last + (count / counters_of_block file.old.header.fields + 2)) first last (seen self.old caches.old file.old list.old) result
-            (seen self.new caches.new file.new list.new) }
-        ensures mark { mark_of self.new ≡ mark_of self.old }
+        ensures readies { ReadiesBlocks S.state (last + (count / counters_of_block file.old.header.fields + 2)) first last
+            (lent_to self.old caches.old file.old list.old) result (lent_to self.new caches.new file.new list.new) }
         ensures held { list.new.held ≡ list.old.held }
     {
         if last < self.reftable.entries() {

@@ -4,7 +4,7 @@ use Rattle.qcow2_alloc.specs.Crowding.{space, room_for}
 use Rattle.qcow2_alloc.proofs.laws.what_is_freed_leaves_room.Goals as goal
 
 pub returns : goal.returns
-returns c = λ m m' mark mark' n freed roomy. record {
+returns c = λ m m' n freed roomy. record {
   first = roomy.first;
   total = roomy.total;
   behind = let lower = freed.lower in let behind = roomy.behind in omega (arith, lower, behind);

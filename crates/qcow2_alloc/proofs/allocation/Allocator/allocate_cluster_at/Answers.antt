@@ -5,7 +5,7 @@ use Rattle.qcow2_types.specs.Pending.{FreeEntry}
 use Rattle.qcow2_alloc.specs.Allocators.{table_of, mark_of}
 use Rattle.qcow2_alloc.specs.FreeList.{FreeList}
 use Rattle.qcow2_alloc.specs.HandingOut.{AllocatesClusterAt}
-use Rattle.qcow2_alloc.specs.State.{lent, seen}
+use Rattle.qcow2_alloc.specs.State.{lent, with_mark, lent_to}
 use Rattle.qcow2_alloc.proofs.Handing.BlocksBeforeTables.{not-begun}
 use Rattle.qcow2_alloc.proofs.Handing.SingleCounts.{handed_so, not_handed}
 use Rattle.qcow2_alloc.proofs.Handing.AllocationsInOrder.{at-not-announced}
@@ -19,30 +19,30 @@ returns-in_err-hold-clause-allocates g c = rw (handed-on _ _ c.from_residual.ens
     let t = table_of c.args.self.now in
     let entries = c.args.list.now.entries in
     let refused = c.in_err-hold.ensures.err in
-    subst (λ (l : FreeList). AllocatesClusterAt state mark c.args.cluster (lent t c.args.caches.now c.args.file.now entries) (not_handed c.in_err-hold.field-0.0) (lent t c.args.caches.now c.args.file.now l.entries) mark) (sym refused.1)
-    (subst (λ (f : Fault). AllocatesClusterAt state mark c.args.cluster (lent t c.args.caches.now c.args.file.now entries) (not_handed f) (lent t c.args.caches.now c.args.file.now entries) mark) (sym refused.0)
+    subst (λ (l : FreeList). AllocatesClusterAt state c.args.cluster (with_mark (lent t c.args.caches.now c.args.file.now entries) mark) (not_handed c.in_err-hold.field-0.0) (with_mark (lent t c.args.caches.now c.args.file.now l.entries) mark)) (sym refused.1)
+    (subst (λ (f : Fault). AllocatesClusterAt state c.args.cluster (with_mark (lent t c.args.caches.now c.args.file.now entries) mark) (not_handed f) (with_mark (lent t c.args.caches.now c.args.file.now entries) mark)) (sym refused.0)
     (at-not-announced state mark c.args.cluster (lent t c.args.caches.now c.args.file.now entries) c.args.caches.now c.args.file.now Memory (not-begun state (lent t c.args.caches.now c.args.file.now entries)))))
 
 pub returns-in-Ok-Some-clause-allocates : goal.returns-in-Ok-Some-clause-allocates
 returns-in-Ok-Some-clause-allocates g c =
     let state = g.S.Storage.state in
     let new = c.announce_and_allocate_at.new in
-    let s' = seen new.self new.caches new.file new.list in
-    subst (λ (l : FreeList). AllocatesClusterAt state (mark_of c.args.self.now) c.args.cluster (seen c.args.self.now c.args.caches.now c.args.file.now l) (handed_so (Some c.in-Ok-Some.pending)) s' (mark_of new.self))
+    let s' = lent_to new.self new.caches new.file new.list in
+    subst (λ (l : FreeList). AllocatesClusterAt state c.args.cluster (lent_to c.args.self.now c.args.caches.now c.args.file.now l) (handed_so (Some c.in-Ok-Some.pending)) s')
     c.in_ok-hold.ensures.ok
-    (subst (λ (found : Option FreeEntry). AllocatesClusterAt state (mark_of c.args.self.now) c.args.cluster (seen c.args.self.now c.args.caches.now c.args.file.now c.hold.new.self) (handed_so found) s' (mark_of new.self))
+    (subst (λ (found : Option FreeEntry). AllocatesClusterAt state c.args.cluster (lent_to c.args.self.now c.args.caches.now c.args.file.now c.hold.new.self) (handed_so found) s')
     c.in-Ok-Some.field-0-is c.in-Ok-Some.ensures.allocates)
 
 pub returns-in-Ok-None-clause-allocates : goal.returns-in-Ok-None-clause-allocates
 returns-in-Ok-None-clause-allocates g c =
     let state = g.S.Storage.state in
     let new = c.announce_and_allocate_at.new in
-    let s' = seen new.self new.caches new.file new.list in
+    let s' = lent_to new.self new.caches new.file new.list in
     let still : c.release.new.self.entries ≡ new.list.entries = ap (λ (l : FreeList). l.entries) c.release.ensures in
-    subst (λ (es : List FreeEntry). AllocatesClusterAt state (mark_of c.args.self.now) c.args.cluster (seen c.args.self.now c.args.caches.now c.args.file.now c.args.list.now) (handed_so None) (lent (table_of new.self) new.caches new.file es) (mark_of new.self)) (sym still)
-    (subst (λ (l : FreeList). AllocatesClusterAt state (mark_of c.args.self.now) c.args.cluster (seen c.args.self.now c.args.caches.now c.args.file.now l) (handed_so None) s' (mark_of new.self))
+    subst (λ (es : List FreeEntry). AllocatesClusterAt state c.args.cluster (lent_to c.args.self.now c.args.caches.now c.args.file.now c.args.list.now) (handed_so None) (with_mark (lent (table_of new.self) new.caches new.file es) (mark_of new.self))) (sym still)
+    (subst (λ (l : FreeList). AllocatesClusterAt state c.args.cluster (lent_to c.args.self.now c.args.caches.now c.args.file.now l) (handed_so None) s')
     c.in_ok-hold.ensures.ok
-    (subst (λ (found : Option FreeEntry). AllocatesClusterAt state (mark_of c.args.self.now) c.args.cluster (seen c.args.self.now c.args.caches.now c.args.file.now c.hold.new.self) (handed_so found) s' (mark_of new.self))
+    (subst (λ (found : Option FreeEntry). AllocatesClusterAt state c.args.cluster (lent_to c.args.self.now c.args.caches.now c.args.file.now c.hold.new.self) (handed_so found) s')
     c.in-Ok-None.field-0-is c.in-Ok-None.ensures.allocates))
 
 pub returns-in-Err-clause-allocates : goal.returns-in-Err-clause-allocates
@@ -51,6 +51,6 @@ returns-in-Err-clause-allocates g c =
     let new = c.announce_and_allocate_at.new in
     let fault = c.in-Err.fault in
     let still : c.release-in-Err.new.self.entries ≡ new.list.entries = ap (λ (l : FreeList). l.entries) c.release-in-Err.ensures in
-    subst (λ (es : List FreeEntry). AllocatesClusterAt state (mark_of c.args.self.now) c.args.cluster (seen c.args.self.now c.args.caches.now c.args.file.now c.args.list.now) (not_handed fault) (lent (table_of new.self) new.caches new.file es) (mark_of new.self)) (sym still)
-    (subst (λ (l : FreeList). AllocatesClusterAt state (mark_of c.args.self.now) c.args.cluster (seen c.args.self.now c.args.caches.now c.args.file.now l) (not_handed fault) (seen new.self new.caches new.file new.list) (mark_of new.self))
+    subst (λ (es : List FreeEntry). AllocatesClusterAt state c.args.cluster (lent_to c.args.self.now c.args.caches.now c.args.file.now c.args.list.now) (not_handed fault) (with_mark (lent (table_of new.self) new.caches new.file es) (mark_of new.self))) (sym still)
+    (subst (λ (l : FreeList). AllocatesClusterAt state c.args.cluster (lent_to c.args.self.now c.args.caches.now c.args.file.now l) (not_handed fault) (lent_to new.self new.caches new.file new.list))
     c.in_ok-hold.ensures.ok c.in-Err.ensures.allocates)

@@ -1,5 +1,5 @@
 use Rattle.qcow2_alloc.specs.Allocators.{table_of, mark_of}
-use Rattle.qcow2_alloc.specs.State.{lent, seen}
+use Rattle.qcow2_alloc.specs.State.{lent, lent_to}
 use Rattle.qcow2_alloc.proofs.Handing.BlocksBeforeTables.{announced}
 use Rattle.qcow2_alloc.proofs.Blocks.ClusterCounts.{succeeded}
 use Rattle.qcow2_alloc.proofs.Freeing.EntryFrees.{failed}
@@ -16,7 +16,7 @@ returns-clause-allocates g c =
     let new = c.allocate_at.new in
     let done = c.in_ok-l2_depends_on_rb.ensures in
     let first = announced state (lent t c.args.caches.now c.args.file.now entries) a.self a.file done.kept done.blocks done.header done.room succeeded done.going done.announced done.safe done.cause done.faults in
-    at-announced state (mark_of c.args.self.now) c.args.cluster (lent t c.args.caches.now c.args.file.now entries) a.self a.file first c.allocate_at.result (seen new.self new.caches new.file new.list) (mark_of new.self) c.allocate_at.ensures.allocates
+    at-announced state (mark_of c.args.self.now) c.args.cluster (lent t c.args.caches.now c.args.file.now entries) a.self a.file first c.allocate_at.result (lent_to new.self new.caches new.file new.list) c.allocate_at.ensures.allocates
 
 pub returns-in_err-l2_depends_on_rb-clause-allocates : goal.returns-in_err-l2_depends_on_rb-clause-allocates
 returns-in_err-l2_depends_on_rb-clause-allocates g c = rw (handed-on _ _ c.from_residual.ensures.1) (

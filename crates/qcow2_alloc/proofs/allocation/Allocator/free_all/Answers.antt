@@ -3,7 +3,7 @@ use Rattle.qcow2_types.specs.Pending.{FreeEntry}
 use Rattle.qcow2_metadata.specs.Tables.{TableValue}
 use Rattle.qcow2_alloc.specs.Allocators.{table_of, mark_of}
 use Rattle.qcow2_alloc.specs.Freeing.{Frees, IsSublist}
-use Rattle.qcow2_alloc.specs.State.{lent}
+use Rattle.qcow2_alloc.specs.State.{lent, with_mark}
 use Rattle.qcow2_alloc.proofs.Freeing.EntryFrees.{frees-none, frees-then, freed, failed}
 use Rattle.qcow2_alloc.proofs.Freeing.ListRemainders.{sublist-all, sublist-then, sublist-removed, rest-whole, rest-shortened}
 use Rattle.qcow2_alloc.proofs.Faults.{handed-on}
@@ -22,7 +22,7 @@ loop-list-preserved g c =
       c.free_entry.ensures.table ∙ same.2,
       sublist-then n.list.entries l.list.entries c.args.list.now.entries (subst (λ (es : List FreeEntry). IsSublist es l.list.entries) (sym c.in_ok-free_entry.ensures.ok) (sublist-removed l.list.entries (c.len-last.result - 1))) same.3,
       λ first. frees-then g.S.Storage.state (table_of c.args.self.now) c.args.caches.now c.args.file.now (mark_of c.args.self.now) c.args.list.now.entries l.caches l.file (mark_of l.self) l.list.entries freed n.caches n.file (mark_of n.self) n.list.entries (same.4 first)
-          (subst (λ (t : TableValue). Frees g.S.Storage.state (mark_of l.self) (lent t l.caches l.file l.list.entries) freed (lent t n.caches n.file n.list.entries) (mark_of n.self)) same.2 (c.in_ok-free_entry.ensures.frees (inr (same.1 ∙ first)))),
+          (subst (λ (t : TableValue). Frees g.S.Storage.state (with_mark (lent t l.caches l.file l.list.entries) (mark_of l.self)) freed (with_mark (lent t n.caches n.file n.list.entries) (mark_of n.self))) same.2 (c.in_ok-free_entry.ensures.frees (inr (same.1 ∙ first)))),
     )
 
 pub returns-in_err-free_entry-clause-frees : goal.returns-in_err-free_entry-clause-frees
@@ -31,7 +31,7 @@ returns-in_err-free_entry-clause-frees g c = rw (handed-on _ _ c.from_residual.e
     let l = c.loop-list in
     let n = c.free_entry.new in
     frees-then g.S.Storage.state (table_of c.args.self.now) c.args.caches.now c.args.file.now (mark_of c.args.self.now) c.args.list.now.entries l.caches l.file (mark_of l.self) l.list.entries (failed c.in_err-free_entry.field-0.0) n.caches n.file (mark_of n.self) n.list.entries (same.4 first)
-    (subst (λ (t : TableValue). Frees g.S.Storage.state (mark_of l.self) (lent t l.caches l.file l.list.entries) (failed c.in_err-free_entry.field-0.0) (lent t n.caches n.file n.list.entries) (mark_of n.self)) same.2 (c.in_err-free_entry.ensures.frees (inr (same.1 ∙ first)))))
+    (subst (λ (t : TableValue). Frees g.S.Storage.state (with_mark (lent t l.caches l.file l.list.entries) (mark_of l.self)) (failed c.in_err-free_entry.field-0.0) (with_mark (lent t n.caches n.file n.list.entries) (mark_of n.self))) same.2 (c.in_err-free_entry.ensures.frees (inr (same.1 ∙ first)))))
 
 pub returns-in_err-free_entry-clause-left : goal.returns-in_err-free_entry-clause-left
 returns-in_err-free_entry-clause-left g c =

@@ -7,7 +7,7 @@ use Rattle.qcow2_alloc.specs.Allocators.{table_of, mark_of}
 use Rattle.qcow2_alloc.specs.Caches.{order_of}
 use Rattle.qcow2_alloc.specs.FreeList.{FreeList, entry_at, shorter, shortened}
 use Rattle.qcow2_alloc.specs.Freeing.{Frees}
-use Rattle.qcow2_alloc.specs.State.{lent}
+use Rattle.qcow2_alloc.specs.State.{lent, with_mark}
 use Rattle.qcow2_alloc.proofs.Freeing.EntryFrees.{frees-none, frees-then, empty-removed, may-still, freed, failed}
 use Rattle.qcow2_alloc.proofs.Freeing.ShorterLists.{entry-shortened, shortened-none, shortened-more, removed-shortened}
 use Rattle.qcow2_alloc.proofs.Faults.{handed-on}
@@ -34,7 +34,7 @@ pub returns-in_err-free_last-clause-frees : goal.returns-in_err-free_last-clause
 returns-in_err-free_last-clause-frees g c = rw (handed-on _ _ c.from_residual.ensures.1) (λ may.
     let same = c.loop.invariant in
     frees-then g.S.Storage.state (table_of c.args.self.now) c.args.caches.now c.args.file.now (mark_of c.args.self.now) c.args.list.now.entries c.loop.caches c.loop.file (mark_of c.loop.self) c.loop.list.entries (failed c.in_err-free_last.field-0.0) c.free_last.new.caches c.free_last.new.file (mark_of c.free_last.new.self) c.free_last.new.list.entries
-    (same.4 may) (subst (λ (t : TableValue). Frees g.S.Storage.state (mark_of c.loop.self) (lent t c.loop.caches c.loop.file c.loop.list.entries) (failed c.in_err-free_last.field-0.0) (lent t c.free_last.new.caches c.free_last.new.file c.free_last.new.list.entries) (mark_of c.free_last.new.self)) same.3
+    (same.4 may) (subst (λ (t : TableValue). Frees g.S.Storage.state (with_mark (lent t c.loop.caches c.loop.file c.loop.list.entries) (mark_of c.loop.self)) (failed c.in_err-free_last.field-0.0) (with_mark (lent t c.free_last.new.caches c.free_last.new.file c.free_last.new.list.entries) (mark_of c.free_last.new.self))) same.3
     (c.in_err-free_last.ensures.frees (may-still c.args.list.now.entries c.args.index c.loop.counter c.requires.inside c.loop.list.entries (order_of c.args.caches.now) (order_of c.loop.caches) same.0 same.2 may))))
 
 pub returns-in_err-free_last-clause-order : goal.returns-in_err-free_last-clause-order
@@ -61,7 +61,7 @@ loop-preserved g c =
       c.free_last.ensures.order ∙ same.2,
       c.free_last.ensures.table ∙ same.3,
       λ may. frees-then g.S.Storage.state (table_of c.args.self.now) c.args.caches.now c.args.file.now (mark_of c.args.self.now) es c.loop.caches c.loop.file (mark_of c.loop.self) c.loop.list.entries freed c.free_last.new.caches c.free_last.new.file (mark_of c.free_last.new.self) c.free_last.new.list.entries
-          (same.4 may) (subst (λ (t : TableValue). Frees g.S.Storage.state (mark_of c.loop.self) (lent t c.loop.caches c.loop.file c.loop.list.entries) freed (lent t c.free_last.new.caches c.free_last.new.file c.free_last.new.list.entries) (mark_of c.free_last.new.self)) same.3
+          (same.4 may) (subst (λ (t : TableValue). Frees g.S.Storage.state (with_mark (lent t c.loop.caches c.loop.file c.loop.list.entries) (mark_of c.loop.self)) freed (with_mark (lent t c.free_last.new.caches c.free_last.new.file c.free_last.new.list.entries) (mark_of c.free_last.new.self))) same.3
           (c.in_ok-free_last.ensures.frees (may-still es c.args.index c.loop.counter c.requires.inside c.loop.list.entries (order_of c.args.caches.now) (order_of c.loop.caches) same.0 same.2 may))),
     )
 
@@ -84,7 +84,7 @@ returns-clause-frees g c = λ may.
     let test = c.loop-test.false in
     let none : (entry_at c.loop.list.entries i).count ≡ 0 = omega (arith, left, count, test) in
     let removed = empty-removed state table c.loop.caches c.loop.file (mark_of c.loop.self) c.loop.list.entries i (rw long c.requires.inside) none in
-    subst (λ (l : List FreeEntry). Frees state (mark_of c.args.self.now) (lent table c.args.caches.now c.args.file.now es) freed (lent table c.loop.caches c.loop.file l) (mark_of c.loop.self)) (sym (ap (λ (l : FreeList). l.entries) c.remove.ensures.left))
+    subst (λ (l : List FreeEntry). Frees state (with_mark (lent table c.args.caches.now c.args.file.now es) (mark_of c.args.self.now)) freed (with_mark (lent table c.loop.caches c.loop.file l) (mark_of c.loop.self))) (sym (ap (λ (l : FreeList). l.entries) c.remove.ensures.left))
     (frees-then state table c.args.caches.now c.args.file.now (mark_of c.args.self.now) es c.loop.caches c.loop.file (mark_of c.loop.self) c.loop.list.entries freed c.loop.caches c.loop.file (mark_of c.loop.self) (remove c.loop.list.entries i) (same.4 may) removed)
 
 pub returns-clause-order : goal.returns-clause-order

@@ -4,7 +4,7 @@ use Rattle.qcow2_metadata.specs.Tables.{TableValue}
 use Rattle.qcow2_alloc.specs.Allocators.{table_of, mark_of}
 use Rattle.qcow2_alloc.specs.Freeing.{Frees, IsSublist, data_in}
 use Rattle.qcow2_alloc.specs.Quiet.{metadata_in}
-use Rattle.qcow2_alloc.specs.State.{lent}
+use Rattle.qcow2_alloc.specs.State.{lent, with_mark}
 use Rattle.qcow2_alloc.proofs.Freeing.EntryFrees.{frees-none, frees-then, freed, failed}
 use Rattle.qcow2_alloc.proofs.Freeing.FreesInTurn.{metadata-found, none-found, data-stays, all-data}
 use Rattle.qcow2_alloc.proofs.Freeing.ListRemainders.{sublist-all, sublist-then, sublist-removed, data-not-shortened, rest-whole, rest-shortened, rest-with-data}
@@ -26,7 +26,7 @@ loop-index-preserved g c =
       ap data_in c.in_ok-free_entry.ensures.ok ∙ data-stays l.list.entries c.in-Some.index found.0 found.1 ∙ same.3,
       sublist-then n.list.entries l.list.entries c.args.list.now.entries (subst (λ (es : List FreeEntry). IsSublist es l.list.entries) (sym c.in_ok-free_entry.ensures.ok) (sublist-removed l.list.entries c.in-Some.index)) same.4,
       frees-then g.S.Storage.state (table_of c.args.self.now) c.args.caches.now c.args.file.now (mark_of c.args.self.now) c.args.list.now.entries l.caches l.file (mark_of l.self) l.list.entries freed n.caches n.file (mark_of n.self) n.list.entries same.5
-          (subst (λ (t : TableValue). Frees g.S.Storage.state (mark_of l.self) (lent t l.caches l.file l.list.entries) freed (lent t n.caches n.file n.list.entries) (mark_of n.self)) same.2 (c.in_ok-free_entry.ensures.frees (inl found.1))),
+          (subst (λ (t : TableValue). Frees g.S.Storage.state (with_mark (lent t l.caches l.file l.list.entries) (mark_of l.self)) freed (with_mark (lent t n.caches n.file n.list.entries) (mark_of n.self))) same.2 (c.in_ok-free_entry.ensures.frees (inl found.1))),
       λ none. absurd (none-found l.list.entries c.in-Some.index found.0 found.1 (subst (λ (es : List FreeEntry). metadata_in es ≡ []) (sym (same.6 none).3) none)),
     )
 
@@ -37,7 +37,7 @@ returns-in_err-free_entry-clause-frees g c = rw (handed-on _ _ c.from_residual.e
     let n = c.free_entry.new in
     let found = metadata-found l.list.entries c.in-Some.index (sym c.in-Some.ensures) in
     frees-then g.S.Storage.state (table_of c.args.self.now) c.args.caches.now c.args.file.now (mark_of c.args.self.now) c.args.list.now.entries l.caches l.file (mark_of l.self) l.list.entries (failed c.in_err-free_entry.field-0.0) n.caches n.file (mark_of n.self) n.list.entries same.5
-    (subst (λ (t : TableValue). Frees g.S.Storage.state (mark_of l.self) (lent t l.caches l.file l.list.entries) (failed c.in_err-free_entry.field-0.0) (lent t n.caches n.file n.list.entries) (mark_of n.self)) same.2 (c.in_err-free_entry.ensures.frees (inl found.1))))
+    (subst (λ (t : TableValue). Frees g.S.Storage.state (with_mark (lent t l.caches l.file l.list.entries) (mark_of l.self)) (failed c.in_err-free_entry.field-0.0) (with_mark (lent t n.caches n.file n.list.entries) (mark_of n.self))) same.2 (c.in_err-free_entry.ensures.frees (inl found.1))))
 
 pub returns-clause-ok : goal.returns-clause-ok
 returns-clause-ok g c = all-data c.loop-index.list.entries (sym c.in_default.ensures) ∙ c.loop-index.invariant.3

@@ -4,7 +4,7 @@ use Rattle.imago_storage.specs.declared.fault.Fault.TheVariants.{Memory}
 use Rattle.qcow2_alloc.specs.Allocators.{table_of, mark_of}
 use Rattle.qcow2_alloc.specs.FreeList.{FreeList}
 use Rattle.qcow2_alloc.specs.GrowingTables.{GrowsTable}
-use Rattle.qcow2_alloc.specs.State.{lent, seen}
+use Rattle.qcow2_alloc.specs.State.{lent, seen, with_mark, lent_to}
 use Rattle.qcow2_alloc.proofs.Freeing.EntryFrees.{failed}
 use Rattle.qcow2_alloc.proofs.Growth.TableGrowth.{no-copy}
 use Rattle.qcow2_alloc.proofs.Faults.{handed-on}
@@ -19,8 +19,8 @@ returns-in_err-hold-clause-grows g c = rw (handed-on _ _ c.from_residual-in_err-
     let state = g.S.Storage.state in
     let t = table_of c.args.self.now in
     let refused = c.in_err-hold.ensures.err in
-    subst (λ (l : FreeList). GrowsTable state (mark_of c.args.self.now) c.args.at (lent t c.args.caches.now c.args.file.now c.args.list.now.entries) (failed c.in_err-hold.field-0.0) (lent t c.args.caches.now c.args.file.now l.entries)) (sym refused.1)
-    (subst (λ (f : Fault). GrowsTable state (mark_of c.args.self.now) c.args.at (lent t c.args.caches.now c.args.file.now c.args.list.now.entries) (failed f) (lent t c.args.caches.now c.args.file.now c.args.list.now.entries)) (sym refused.0)
+    subst (λ (l : FreeList). GrowsTable state c.args.at (with_mark (lent t c.args.caches.now c.args.file.now c.args.list.now.entries) (mark_of c.args.self.now)) (failed c.in_err-hold.field-0.0) (with_mark (lent t c.args.caches.now c.args.file.now l.entries) (mark_of c.args.self.now))) (sym refused.1)
+    (subst (λ (f : Fault). GrowsTable state c.args.at (with_mark (lent t c.args.caches.now c.args.file.now c.args.list.now.entries) (mark_of c.args.self.now)) (failed f) (with_mark (lent t c.args.caches.now c.args.file.now c.args.list.now.entries) (mark_of c.args.self.now))) (sym refused.0)
     (no-copy state (mark_of c.args.self.now) c.args.at (lent t c.args.caches.now c.args.file.now c.args.list.now.entries) Memory tt)))
 
 pub place_grown-requires-clause-grown : goal.place_grown-requires-clause-grown
@@ -29,5 +29,5 @@ place_grown-requires-clause-grown g c = (c.args.at, c.requires.past, c.in_ok-cop
 pub returns-clause-grows : goal.returns-clause-grows
 returns-clause-grows g c =
     let new = c.place_grown.new in
-    subst (λ (l : FreeList). GrowsTable g.S.Storage.state (mark_of c.args.self.now) c.args.at (seen c.args.self.now c.args.caches.now c.args.file.now l) c.place_grown.result (seen new.self new.caches new.file new.list))
+    subst (λ (l : FreeList). GrowsTable g.S.Storage.state c.args.at (lent_to c.args.self.now c.args.caches.now c.args.file.now l) c.place_grown.result (lent_to new.self new.caches new.file new.list))
     c.in_ok-hold.ensures.ok (c.place_grown.ensures.grows c.args.at c.in_ok-copy.ensures.ok)

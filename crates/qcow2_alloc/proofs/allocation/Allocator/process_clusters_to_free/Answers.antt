@@ -9,7 +9,7 @@ use Rattle.qcow2_alloc.specs.Caches.{cached_in, order_of}
 use Rattle.qcow2_alloc.specs.FreeList.{FreeList}
 use Rattle.qcow2_alloc.specs.Freeing.{Frees, IsRest, IsRestInTurn, data_in}
 use Rattle.qcow2_alloc.specs.Quiet.{metadata_in}
-use Rattle.qcow2_alloc.specs.State.{lent}
+use Rattle.qcow2_alloc.specs.State.{lent, with_mark}
 use Rattle.qcow2_alloc.proofs.Caching.Lengths.{announced-long}
 use Rattle.qcow2_alloc.proofs.Freeing.EntryFrees.{frees-then, freed, failed}
 use Rattle.qcow2_alloc.proofs.Freeing.FreesInTurn.{announcing-frees}
@@ -28,7 +28,7 @@ returns-clause-frees g c =
     let long = announced-long (order_of m.caches) (state m.file.image) (cached_in m.caches) freed (state a.file.image) (cached_in a.self)
     (λ no. ap (λ (f : ImageFile g.row.S.Denot). state f.image) (done.idle no).2) done.written in
     let announced = announcing-frees state (lent t m.caches m.file m.list.entries) a.self a.file (mark_of m.self) done.kept done.header done.room freed done.going done.announced tt done.safe done.cause done.faults long in
-    let rest = subst (λ (v : TableValue). Frees state (mark_of m.self) (lent v a.self a.file m.list.entries) c.free_all.result (lent v n.caches n.file n.list.entries) (mark_of n.self)) c.free_metadata.ensures.table (c.free_all.ensures.frees done.announced) in
+    let rest = subst (λ (v : TableValue). Frees state (with_mark (lent v a.self a.file m.list.entries) (mark_of m.self)) c.free_all.result (with_mark (lent v n.caches n.file n.list.entries) (mark_of n.self))) c.free_metadata.ensures.table (c.free_all.ensures.frees done.announced) in
     frees-then state t c.args.caches.now c.args.file.now (mark_of c.args.self.now) c.args.list.now.entries m.caches m.file (mark_of m.self) m.list.entries c.free_all.result n.caches n.file (mark_of n.self) n.list.entries c.in_ok-free_metadata.ensures.frees
     (frees-then state t m.caches m.file (mark_of m.self) m.list.entries a.self a.file (mark_of m.self) m.list.entries c.free_all.result n.caches n.file (mark_of n.self) n.list.entries announced rest)
 

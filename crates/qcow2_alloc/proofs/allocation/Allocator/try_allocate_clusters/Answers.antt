@@ -5,7 +5,7 @@ use Rattle.qcow2_alloc.specs.Allocators.{table_of, mark_of}
 use Rattle.qcow2_alloc.specs.FreeList.{FreeList}
 use Rattle.qcow2_alloc.specs.HandingOut.{AllocatesClusters}
 use Rattle.qcow2_alloc.specs.ReadyingRuns.{Spares}
-use Rattle.qcow2_alloc.specs.State.{lent, seen}
+use Rattle.qcow2_alloc.specs.State.{lent, seen, with_mark, lent_to}
 use Rattle.qcow2_alloc.proofs.Handing.AllocationsInOrder.{refused_run, run_so, run-not-held}
 use Rattle.qcow2_alloc.proofs.Searching.SearchSequences.{clean-none}
 use Rattle.qcow2_alloc.proofs.Faults.{handed-on}
@@ -18,15 +18,15 @@ returns-in_err-hold-clause-allocates g c = rw (handed-on _ _ c.from_residual.ens
     let t = table_of c.args.self.now in
     let entries = c.args.list.now.entries in
     let refused = c.in_err-hold.ensures.err in
-    subst (λ (l : FreeList). AllocatesClusters state mark c.args.count c.args.metadata (lent t c.args.caches.now c.args.file.now entries) (refused_run c.in_err-hold.field-0.0) (lent t c.args.caches.now c.args.file.now l.entries) mark) (sym refused.1)
-    (subst (λ (f : Fault). AllocatesClusters state mark c.args.count c.args.metadata (lent t c.args.caches.now c.args.file.now entries) (refused_run f) (lent t c.args.caches.now c.args.file.now entries) mark) (sym refused.0)
+    subst (λ (l : FreeList). AllocatesClusters state c.args.count c.args.metadata (with_mark (lent t c.args.caches.now c.args.file.now entries) mark) (refused_run c.in_err-hold.field-0.0) (with_mark (lent t c.args.caches.now c.args.file.now l.entries) mark)) (sym refused.1)
+    (subst (λ (f : Fault). AllocatesClusters state c.args.count c.args.metadata (with_mark (lent t c.args.caches.now c.args.file.now entries) mark) (refused_run f) (with_mark (lent t c.args.caches.now c.args.file.now entries) mark)) (sym refused.0)
     (run-not-held state mark c.args.count c.args.metadata (lent t c.args.caches.now c.args.file.now entries))))
 
 pub returns-in-Ok-clause-allocates : goal.returns-in-Ok-clause-allocates
 returns-in-Ok-clause-allocates g c =
     let state = g.S.Storage.state in
     let new = c.free_and_allocate.new in
-    subst (λ (l : FreeList). AllocatesClusters state (mark_of c.args.self.now) c.args.count c.args.metadata (seen c.args.self.now c.args.caches.now c.args.file.now l) (run_so c.in-Ok.pending) (seen new.self new.caches new.file new.list) (mark_of new.self))
+    subst (λ (l : FreeList). AllocatesClusters state c.args.count c.args.metadata (lent_to c.args.self.now c.args.caches.now c.args.file.now l) (run_so c.in-Ok.pending) (lent_to new.self new.caches new.file new.list))
     c.in_ok-hold.ensures.ok c.in-Ok.ensures.allocates
 
 pub returns-in-Err-clause-allocates : goal.returns-in-Err-clause-allocates
@@ -35,8 +35,8 @@ returns-in-Err-clause-allocates g c =
     let new = c.free_and_allocate.new in
     let fault = c.in-Err.fault in
     let still : c.release.new.self.entries ≡ new.list.entries = ap (λ (l : FreeList). l.entries) c.release.ensures in
-    subst (λ (es : List FreeEntry). AllocatesClusters state (mark_of c.args.self.now) c.args.count c.args.metadata (seen c.args.self.now c.args.caches.now c.args.file.now c.args.list.now) (refused_run fault) (lent (table_of new.self) new.caches new.file es) (mark_of new.self)) (sym still)
-    (subst (λ (l : FreeList). AllocatesClusters state (mark_of c.args.self.now) c.args.count c.args.metadata (seen c.args.self.now c.args.caches.now c.args.file.now l) (refused_run fault) (seen new.self new.caches new.file new.list) (mark_of new.self))
+    subst (λ (es : List FreeEntry). AllocatesClusters state c.args.count c.args.metadata (lent_to c.args.self.now c.args.caches.now c.args.file.now c.args.list.now) (refused_run fault) (with_mark (lent (table_of new.self) new.caches new.file es) (mark_of new.self))) (sym still)
+    (subst (λ (l : FreeList). AllocatesClusters state c.args.count c.args.metadata (lent_to c.args.self.now c.args.caches.now c.args.file.now l) (refused_run fault) (lent_to new.self new.caches new.file new.list))
     c.in_ok-hold.ensures.ok c.in-Err.ensures.allocates)
 
 pub returns-in_err-hold-clause-spares : goal.returns-in_err-hold-clause-spares
