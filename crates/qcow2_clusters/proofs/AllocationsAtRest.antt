@@ -20,7 +20,7 @@ use Rattle.qcow2_alloc.specs.FreeList.{covers}
 use Rattle.qcow2_alloc.specs.Quiet.{IsUsed, Quietly, counted}
 use Rattle.qcow2_alloc.specs.ReadyingRuns.{IsRunTold}
 use Rattle.qcow2_alloc.specs.ReadyingRuns.{handed_by as handed_out}
-use Rattle.qcow2_alloc.specs.State.{IsKept, WhereKept}
+use Rattle.qcow2_alloc.specs.State.{marked_metadata, IsKept, WhereKept}
 use Rattle.qcow2_alloc.specs.Freeing.{IsMarked}
 use Rattle.qcow2_alloc.proofs.Causes.{cause-weaker, cause-told}
 use Rattle.qcow2_alloc.proofs.Handing.ClustersHandedOut.{unnamed-used}
@@ -29,7 +29,7 @@ use Rattle.qcow2_clusters.specs.Rest.{AreEmpty, Clusters, HasEntries, IsReady, c
 use Rattle.qcow2_clusters.specs.Room.{IsFull, LeavesRoom, mark_in}
 use Rattle.qcow2_clusters.specs.Settling.{AreUnpinned}
 use Rattle.qcow2_clusters.specs.Storing.{AreReserved, StoresRunUnsettled}
-use Rattle.qcow2_clusters.proofs.EndsAtRest.{begun, begun-then, ready-kept}
+use Rattle.qcow2_clusters.proofs.EndsAtRest.{begun, begun-then, ready-kept, lent_by}
 use Rattle.qcow2_clusters.proofs.RoomAfterAllocations.{allocation-leaves, crowded-there, marked-as}
 use Rattle.qcow2_clusters.proofs.StartsAtRest.{begun-counts, begun-quiet, empty-loose, loose-unpinned}
 
@@ -43,7 +43,7 @@ module _ {S : Type 0} (state : S → StorageState) (c : Clusters S) (empty : Are
   loose : IsLoose (table_of c.space.allocator) c.caches false
   loose = empty-loose (table_of c.space.allocator) c.caches empty room
 
-  module _ (result : Result FreeEntry Fault) (a : AllocatesClusters state (mark_in c) n false (begun c) result (begun mid) (mark_in mid)) where
+  module _ (result : Result FreeEntry Fault) (a : AllocatesClusters state n false (lent_by c) result (lent_by mid)) where
     -- Nothing is pinned then,
     pub run-unpinned : AreUnpinned mid.caches
     run-unpinned = loose-unpinned (table_of mid.space.allocator) c.caches mid.caches empty a.shape.room (a.shape.loose false loose)
@@ -68,18 +68,18 @@ module _ {S : Type 0} (state : S → StorageState) (c : Clusters S) (empty : Are
     handed-quietly = begun-then state c empty (WasNotCutOff result) (handed_out result a.leaked) (storage state mid) (changed state mid) a.quiet
 
   -- Where it was refused nothing was handed out.
-  module _ (fault : Fault) (a : AllocatesClusters state (mark_in c) n false (begun c) (Err fault) (begun mid) (mark_in mid)) where
+  module _ (fault : Fault) (a : AllocatesClusters state n false (lent_by c) (Err fault) (lent_by mid)) where
     never-full : fault ≡ CacheFull → ⊥
     never-full is =
         why-full (IsKept state (begun c)) (IsLoose (table_of c.space.allocator) c.caches)
-        (λ number. WhereKept state (begun c) (IsCrowded a.mid a.mid_mark n × IsRunTold (changed state mid) a.mid_mark n number)) loose
+        (λ number. WhereKept state (begun c) (IsCrowded a.mid.image a.mid.mark n × IsRunTold (changed state mid) a.mid.mark n number)) loose
         (storage state c).faults (storage state mid).faults fault is a.cause
 
     leaked-none : (k : ℕ) → a.leaked k ≡ 0
     leaked-none = a.leaks.none (λ e. never-full (cc e))
 
     abbrev asked-full : ℕ → Type 0
-    asked-full number = WhereKept state (begun c) (IsCrowded a.mid a.mid_mark n × IsRunTold (changed state mid) a.mid_mark n number)
+    asked-full number = WhereKept state (begun c) (IsCrowded a.mid.image a.mid.mark n × IsRunTold (changed state mid) a.mid.mark n number)
 
     -- There was no room for it then, and a number tells why.
     full-there : (number : ℕ) → fault ≡ Limit number → IsReady state c → asked-full number → IsFull n (resting state c) (mark_in c) (changed state mid) (mark_in mid) number
@@ -87,7 +87,7 @@ module _ {S : Type 0} (state : S → StorageState) (c : Clusters S) (empty : Are
         let kept = ready-kept state c empty ready in
         let why = full kept.0 kept.1 in
         record {
-          crowded = crowded-there (resting state c) (changed state c) a.mid (mark_in c) a.mid_mark n refl (begun-counts state c empty) (a.freed kept.0 kept.1 (subst (λ (f : Fault). IsMild f) (sym is) tt)) why.0;
+          crowded = crowded-there (resting state c) (marked_metadata state (lent_by c)) a.mid n refl (begun-counts state c empty) (a.freed kept.0 kept.1 (subst (λ (f : Fault). IsMild f) (sym is) tt)) why.0;
           told = subst (λ k. IsRunTold (changed state mid) k n number) (sym a.stays) why.1;
         }
 
@@ -117,7 +117,7 @@ module _ {S : Type 0} (state : S → StorageState) (c : Clusters S) (empty : Are
     }
 
   -- Else clusters were:
-  module _ (entry : FreeEntry) (a : AllocatesClusters state (mark_in c) n false (begun c) (Ok entry) (begun mid) (mark_in mid)) where
+  module _ (entry : FreeEntry) (a : AllocatesClusters state n false (lent_by c) (Ok entry) (lent_by mid)) where
     -- these,
     covers-run : (d : ℕ) → covers d (run_of entry.first n) ≡ covers d entry
     covers-run d = rw (sym a.run.0) refl
@@ -138,8 +138,8 @@ module _ {S : Type 0} (state : S → StorageState) (c : Clusters S) (empty : Are
         let first = begun-quiet (changed state c) empty ready.sound in
         let freed = a.freed kept.0 kept.1 tt in
         let here = used-then (resting state c) (changed state c) (λ _. 0) (λ _. 0) first.1 ready.sound first.0 d used refl in
-        let there = used-then (changed state c) a.mid (λ _. 0) (λ _. 0) freed.quiet first.0 freed.sound d here refl in
-        let zero : counted a.mid d ≡ 0 = a.fresh kept.0 kept.1 d from to in
+        let there = used-then (changed state c) a.mid.image (λ _. 0) (λ _. 0) freed.quiet first.0 freed.sound d here refl in
+        let zero : counted a.mid.image d ≡ 0 = a.fresh kept.0 kept.1 d from to in
         let more = there.taken in
         omega (arith, zero, more)
 
@@ -147,7 +147,7 @@ module _ {S : Type 0} (state : S → StorageState) (c : Clusters S) (empty : Are
     pub run-leaves : IsReady state c → LeavesRoom (room_for c.file.header.fields n) (resting state c) (mark_in c) (changed state mid) (mark_in mid)
     run-leaves ready =
         let kept = ready-kept state c empty ready in
-        allocation-leaves (resting state c) (changed state c) a.mid (mark_in c) a.mid_mark n refl (begun-counts state c empty) (a.freed kept.0 kept.1 tt)
+        allocation-leaves (resting state c) (marked_metadata state (lent_by c)) a.mid n refl (begun-counts state c empty) (a.freed kept.0 kept.1 tt)
         (changed state mid) (mark_in mid) entry (ap (λ (H : Header). space H.fields) a.shape.moved.2)
         (a.little kept.0 kept.1) (a.taken kept.0 kept.1) a.further
 

@@ -14,7 +14,7 @@ use Rattle.qcow2_alloc.specs.Caches.{cached_in}
 use Rattle.qcow2_alloc.specs.Causes.{HasCause}
 use Rattle.qcow2_alloc.specs.Going.{AreBlocksInReach, AreTablesInReach, WasNotCutOff, writing_causes}
 use Rattle.qcow2_alloc.specs.Quiet.{Metadata, Quietly}
-use Rattle.qcow2_alloc.specs.State.{ImageState, IsKept, seen}
+use Rattle.qcow2_alloc.specs.State.{AllocatorState, ImageState, IsKept, lent_to, seen}
 use Rattle.qcow2_alloc.proofs.Flushing.Faultless.{faultless-then}
 use Rattle.qcow2_alloc.proofs.Quiet.QuietThen.{quietly-otherwise, quietly-then}
 use Rattle.qcow2_clusters.specs.Progress.{Kind, Progresses, both, handing}
@@ -67,6 +67,10 @@ quiet-halted ok ok' handed taken handed' taken' s m s' m' m'' never quiet = reco
 -- an image at rest as a call of the allocator is lent it
 abbrev pub begun : {S : Type 0} → Clusters S → ImageState S
 begun c = seen c.space.allocator c.caches c.file c.space.to_free
+
+-- and with its mark
+abbrev pub lent_by : {S : Type 0} → Clusters S → AllocatorState S
+lent_by c = lent_to c.space.allocator c.caches c.file c.space.to_free
 
 -- What is ready is sound for the allocator,
 pub ready-kept : {S : Type 0} (state : S → StorageState) (c : Clusters S) → AreEmpty c.caches → IsReady state c → IsKept state (begun c)

@@ -22,12 +22,12 @@ use Rattle.qcow2_clusters.specs.Rest.{AreEmpty, Clusters, HasEntries, IsReady, c
 use Rattle.qcow2_clusters.specs.Settling.{Settles}
 use Rattle.qcow2_clusters.specs.Room.{mark_in}
 use Rattle.qcow2_clusters.proofs.ProgressSums.{quiet-progresses}
-use Rattle.qcow2_clusters.proofs.EndsAtRest.{begun, begun-then, ready-kept, settled-cause, settled-faultless, settled-ok, settled-quietly, settled-cases}
+use Rattle.qcow2_clusters.proofs.EndsAtRest.{begun, begun-then, ready-kept, settled-cause, settled-faultless, settled-ok, settled-quietly, settled-cases, lent_by}
 use Rattle.qcow2_clusters.proofs.StartsAtRest.{empty-loose, l1-kept, begun-counts}
 use Rattle.qcow2_clusters.proofs.RoomAfterAllocations.{marked-as}
 
 module _ {S : Type 0} (state : S → StorageState) (c : Clusters S) (empty : AreEmpty c.caches) (room : HasEntries c.caches) (mid : Clusters S)
-    (freed : Result Unit Fault) (frees : Frees state (mark_in c) (begun c) freed (begun mid) (mark_in mid))
+    (freed : Result Unit Fault) (frees : Frees state (lent_by c) freed (lent_by mid))
     (result : Result Unit Fault) (after : ImageFile S) (new : MetadataCaches S) (settles : Settles state freed mid.file mid.caches result after new) where
   abbrev c' : Clusters S
   c' = lent after new mid.space

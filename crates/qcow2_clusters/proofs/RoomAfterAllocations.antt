@@ -16,6 +16,7 @@ use Rattle.qcow2_alloc.specs.HandingOut.{IsFreed}
 use Rattle.qcow2_alloc.specs.Quiet.{Metadata, counted}
 use Rattle.qcow2_alloc.specs.ReadyingRuns.{IsRunCounted, IsRunTold, mark_behind}
 use Rattle.qcow2_alloc.specs.SearchingClusters.{IsFirstRun}
+use Rattle.qcow2_alloc.specs.State.{MarkedMetadata}
 use Rattle.qcow2_alloc.specs.Freeing.{IsMarked}
 use Rattle.qcow2_alloc.proofs.Causes.{cause-weaker, cause-told}
 use Rattle.qcow2_alloc.proofs.Handing.BlocksBeforeTables.{no-place-as}
@@ -85,13 +86,13 @@ full-as n m m' m1 mark mark' number header table same full = record {
 }
 
 -- The image where a call begins, where the allocation begins, and once what waited is freed:
-module _ (m0 m mid : Metadata) (mark mark1 n : ℕ) (begins : m.header ≡ m0.header) (same : (c : ℕ) → counted m c ≡ counted m0 c)
-    (freed : IsFreed m mark mid mark1) where
+module _ (m0 : Metadata) (m mid : MarkedMetadata) (n : ℕ) (begins : m.header ≡ m0.header)
+    (same : (c : ℕ) → counted m.image c ≡ counted m0 c) (freed : IsFreed m mid) where
   header-is : mid.header ≡ m0.header
   header-is = freed.header ∙ begins
 
   -- there is room where there was,
-  roomy-there : (total : ℕ) → room_for m0.header.fields n ≤ total → HasFreeClusters m0 mark total → IsRoomy mid mark1 n
+  roomy-there : (total : ℕ) → room_for m0.header.fields n ≤ total → HasFreeClusters m0 m.mark total → IsRoomy mid.image mid.mark n
   roomy-there total enough room = record {
     first = room.first;
     total = total;
@@ -106,7 +107,7 @@ module _ (m0 m mid : Metadata) (mark mark1 n : ℕ) (begins : m.header ≡ m0.he
   }
 
   -- so that there was none where there isn't.
-  pub crowded-there : IsCrowded mid mark1 n → IsCrowded m0 mark n
+  pub crowded-there : IsCrowded mid.image mid.mark n → IsCrowded m0 m.mark n
   crowded-there none roomy = none (roomy-there roomy.total roomy.enough record {
     first = roomy.first;
     behind = roomy.behind;
@@ -116,12 +117,12 @@ module _ (m0 m mid : Metadata) (mark mark1 n : ℕ) (begins : m.header ≡ m0.he
 
   -- What is taken is little.
   module _ (m' : Metadata) (mark' : ℕ) (entry : FreeEntry) (large : space m'.header.fields ≡ space m0.header.fields)
-      (little : TakesLittle mark1 n mid m') (taken : IsRunCounted mark1 n m' entry) (moved : mark' ≡ mark_behind mark1 n entry.first) where
-    module _ (total : ℕ) (some : 0 < total) (room : HasFreeClusters m0 mark (room_for m0.header.fields n + total)) where
+      (little : TakesLittle mid.mark n mid.image m') (taken : IsRunCounted mid.mark n m' entry) (moved : mark' ≡ mark_behind mid.mark n entry.first) where
+    module _ (total : ℕ) (some : 0 < total) (room : HasFreeClusters m0 m.mark (room_for m0.header.fields n + total)) where
       abbrev need : ℕ
       need = room_for m0.header.fields n
 
-      roomy : IsRoomy mid mark1 n
+      roomy : IsRoomy mid.image mid.mark n
       roomy = roomy-there (room_for m0.header.fields n + total) (omega arith) room
 
       still-free : (c : ℕ) → room.first + need ≤ c → c < room.first + (need + total) → counted m' c ≡ 0
@@ -140,7 +141,7 @@ module _ (m0 m mid : Metadata) (mark mark1 n : ℕ) (begins : m.header ≡ m0.he
               let none = still-free entry.first (omega (arith, behind)) (omega (arith, same, some)) in
               omega (arith, once, none))
           | inr apart ↦ absurd (
-              let low : mark1 ≤ room.first = roomy.behind in
+              let low : mid.mark ≤ room.first = roomy.behind in
               let far : room.first + need < entry.first = omega (arith, behind, apart) in
               let least = taken.least (room.first + need) (omega (arith, low)) far in
               let at : least.0 ≡ room.first + need = (let from = least.1 in let to = least.2 in omega (arith, from, to, one)) in
@@ -152,19 +153,19 @@ module _ (m0 m mid : Metadata) (mark mark1 n : ℕ) (begins : m.header ≡ m0.he
 
       mark-there : mark' ≤ room.first + need
       unfolding roomy roomy-there
-      mark-there = elim (cases_eq entry.first mark1) [
+      mark-there = elim (cases_eq entry.first mid.mark) [
         | inl at ↦
-            let is : mark_behind mark1 n entry.first ≡ entry.first + n = rw (eq-eqb entry.first mark1 at) refl in
-            let low : mark1 ≤ room.first = roomy.behind in
+            let is : mark_behind mid.mark n entry.first ≡ entry.first + n = rw (eq-eqb entry.first mid.mark at) refl in
+            let low : mid.mark ≤ room.first = roomy.behind in
             omega (arith, moved, is, at, low)
         | inr apart ↦ elim (cases_eq n 1) [
           | inl one ↦
-              let is : mark_behind mark1 n entry.first ≡ entry.first + 1 = rw (ne_eqb entry.first mark1 apart, eq-eqb n 1 one) refl in
+              let is : mark_behind mid.mark n entry.first ≡ entry.first + 1 = rw (ne_eqb entry.first mid.mark apart, eq-eqb n 1 one) refl in
               let before = early one in
               omega (arith, moved, is, before)
           | inr more ↦
-              let is : mark_behind mark1 n entry.first ≡ mark1 = rw (ne_eqb entry.first mark1 apart, ne_eqb n 1 more) refl in
-              let low : mark1 ≤ room.first = roomy.behind in
+              let is : mark_behind mid.mark n entry.first ≡ mid.mark = rw (ne_eqb entry.first mid.mark apart, ne_eqb n 1 more) refl in
+              let low : mid.mark ≤ room.first = roomy.behind in
               omega (arith, moved, is, low)
         ]
       ]
@@ -177,5 +178,5 @@ module _ (m0 m mid : Metadata) (mark mark1 n : ℕ) (begins : m.header ≡ m0.he
         free = λ c from to. still-free c from (omega (arith, to));
       }
 
-    pub allocation-leaves : LeavesRoom (room_for m0.header.fields n) m0 mark m' mark'
+    pub allocation-leaves : LeavesRoom (room_for m0.header.fields n) m0 m.mark m' mark'
     allocation-leaves = record { as_large = large; left = room-left }

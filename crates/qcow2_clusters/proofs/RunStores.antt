@@ -33,7 +33,7 @@ use Rattle.qcow2_clusters.specs.Rest.{AreEmpty, Clusters, HasEntries, IsReady, c
 use Rattle.qcow2_clusters.specs.Room.{LeavesRoom, mark_in}
 use Rattle.qcow2_clusters.specs.Storing.{AreReserved, StoresRunUnsettled}
 use Rattle.qcow2_clusters.proofs.AllocationsAtRest.{run-leaves, run-marked, run-named, run-quietly-handed, run-reserved, run-room, run-size, run-unpinned, run-unused}
-use Rattle.qcow2_clusters.proofs.EndsAtRest.{begun, quiet-halted}
+use Rattle.qcow2_clusters.proofs.EndsAtRest.{begun, quiet-halted, lent_by}
 use Rattle.qcow2_clusters.proofs.RoomAfterAllocations.{leaves-as, marked-as}
 
 -- The content of one cluster fits several.
@@ -43,7 +43,7 @@ whole-fits content n size some whole =
     omega (arith, whole, le)
 
 module _ {S : Type 0} (state : S → StorageState) (c : Clusters S) (empty : AreEmpty c.caches) (room : HasEntries c.caches) (n : ℕ) (mid : Clusters S)
-    (entry : FreeEntry) (a : AllocatesClusters state (mark_in c) n false (begun c) (Ok entry) (begun mid) (mark_in mid)) (some : 0 < n) (content : List ℕ)
+    (entry : FreeEntry) (a : AllocatesClusters state n false (lent_by c) (Ok entry) (lent_by mid)) (some : 0 < n) (content : List ℕ)
     (long : length content ≤ n * cluster_size c.file.header.fields) (after : ImageFile S) (header : after.header ≡ mid.file.header) where
   abbrev x : ℕ
   x = entry.first

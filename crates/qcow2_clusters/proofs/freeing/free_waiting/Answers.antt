@@ -2,9 +2,9 @@ use Rattle.std.proofs.Common.{sym, subst}
 use Rattle.qcow2_metadata.specs.Tables.{TableValue}
 use Rattle.qcow2_alloc.specs.Allocators.{mark_of}
 use Rattle.qcow2_alloc.specs.Freeing.{Frees}
-use Rattle.qcow2_alloc.specs.State.{lent as allocating}
+use Rattle.qcow2_alloc.specs.State.{lent as allocating, with_mark}
 use Rattle.qcow2_clusters.specs.Rest.{lent}
-use Rattle.qcow2_clusters.proofs.EndsAtRest.{begun}
+use Rattle.qcow2_clusters.proofs.EndsAtRest.{lent_by}
 use Rattle.qcow2_clusters.proofs.FreesAtRest.{frees-waiting}
 use Rattle.qcow2_clusters.proofs.StartsAtRest.{freed-unpinned}
 use Rattle.qcow2_clusters.proofs.freeing.free_waiting.Goals as goal
@@ -18,11 +18,10 @@ pub returns : goal.returns
 returns g c =
     let freed = c.process_clusters_to_free-freed in
     let state = g.S.Storage.state in
-    let mark = mark_of c.args.space.now.allocator in
     let old = lent c.args.file.now c.args.caches.now c.args.space.now in
     let mid = lent freed.new.file freed.new.caches (record { allocator = freed.new.self; to_free = freed.new.list }) in
-    let frees : Frees state mark (begun old) freed.result (begun mid) (mark_of freed.new.self) =
-    subst (λ (t : TableValue). Frees state mark (begun old) freed.result (allocating t freed.new.caches freed.new.file freed.new.list.entries) (mark_of freed.new.self))
+    let frees : Frees state (lent_by old) freed.result (lent_by mid) =
+    subst (λ (t : TableValue). Frees state (lent_by old) freed.result (with_mark (allocating t freed.new.caches freed.new.file freed.new.list.entries) (mark_of freed.new.self)))
     (sym freed.ensures.table) freed.ensures.frees in
     frees-waiting state old c.requires.rest c.requires.room mid freed.result frees
     c.settle.result c.settle.new.file c.settle.new.caches c.settle.ensures freed.ensures.ok freed.ensures.held
