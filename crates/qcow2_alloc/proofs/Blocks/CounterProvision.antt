@@ -30,7 +30,7 @@ use Rattle.qcow2_alloc.specs.Going.{WasNotCutOff}
 use Rattle.qcow2_alloc.specs.GrowingTables.{GrowsTable, IsInRoomToGrow, IsLengthenedByTable, NoPlaceToGrow, table_run}
 use Rattle.qcow2_alloc.specs.HandingOutOne.{HandsOut, ReadiesCounter, ReadiesWord, leaked_by}
 use Rattle.qcow2_alloc.specs.Quiet.{IsSound, counted}
-use Rattle.qcow2_alloc.specs.State.{ImageState, lent, metadata, IsGuarded, with_mark, AllocatorState}
+use Rattle.qcow2_alloc.specs.State.{lent, metadata, IsGuarded, with_mark, AllocatorState}
 use Rattle.qcow2_alloc.proofs.Causes.{cause-weaker, cause-told}
 use Rattle.qcow2_alloc.proofs.Blocks.BlockCreationCalls.{allocating-weaker}
 use Rattle.qcow2_alloc.proofs.Handing.CountSequences.{allocating-none, allocating-as, allocating-then}
@@ -106,25 +106,25 @@ limit-numbered fault is = absurd (cc is)
 pub other-numbered : (fault : Fault) → number_of fault ≢ 12 → (number : ℕ) → fault ≢ Limit number
 other-numbered fault apart number is = apart (ap (λ (f : Fault). number_of f) is)
 
-module _ {S : Type 0} (state : S → StorageState) (mark cluster : ℕ) (s : ImageState S) where
+module _ {S : Type 0} (state : S → StorageState) (cluster : ℕ) (s : AllocatorState S) where
   abbrev k : ℕ
   k = counters_of_block s.file.header.fields
 
   -- Nothing was to be done.
-  stands : (answer : Readiness) → HandsOut state leaked_by s (ready_so answer) s
+  stands : (answer : Readiness) → HandsOut state leaked_by s.image (ready_so answer) s.image
   stands answer = record {
     leaked = λ _. 0;
     leaks = leaks-none _ _ (ready_so answer);
-    step = allocating-none state s;
+    step = allocating-none state s.image;
     list = inl refl;
     cause = refl;
   }
 
-  pub word-stands : cluster / k < length s.table.words → ReadiesWord state cluster (with_mark s mark) (ready_so Ready) (with_mark s mark)
+  pub word-stands : cluster / k < length s.table.words → ReadiesWord state cluster s (ready_so Ready) s
   word-stands inside = record { did = stands Ready; mark = refl; there = λ yes. inside; barred = λ order keeps sound no. absurd (ready-apart no); near = λ order keeps sound c none more. absurd (not-more _ _ refl none more) }
 
   -- The table has grown,
-  module _ (past : length s.table.words ≤ cluster / k) (result : Result Unit Fault) (s' : AllocatorState S) (grows : GrowsTable state (cluster / k) (with_mark s mark) result s') where
+  module _ (past : length s.table.words ≤ cluster / k) (result : Result Unit Fault) (s' : AllocatorState S) (grows : GrowsTable state (cluster / k) s result s') where
     grown-list : (r : Result Unit Fault) → OnOk r (IsGrownLength (words_of_cluster s.file.header.fields) k (cluster / k) (length s'.table.words)) → OnOk r (s'.pending ≡ s.pending ++ table_run s.file.header.fields) → OnErr r (s'.pending ≡ s.pending)
         → IsLengthenedByTable s.file.header.fields s.table s'.table s.pending s'.pending
     grown-list (Ok done) grown waits kept = inr (longer-than _ _ _ past grown.enough.above, waits)
@@ -133,12 +133,12 @@ module _ {S : Type 0} (state : S → StorageState) (mark cluster : ℕ) (s : Ima
     no-leak : (result ≡ Err CacheFull → ⊥) → (c : ℕ) → grows.leaked c ≡ 0
     no-leak = grows.leaks.none
 
-    pub word-made : result ≡ Ok tt → ReadiesWord state cluster (with_mark s mark) (ready_so Ready) s'
+    pub word-made : result ≡ Ok tt → ReadiesWord state cluster s (ready_so Ready) s'
     word-made ok = record {
       did = record {
         leaked = λ _. 0;
         leaks = leaks-none _ _ (ready_so Ready);
-        step = allocating-as state (WasNotCutOff result) (WasNotCutOff (ready_so Ready)) grows.leaked (λ _. 0) s s'.image (λ whole. subst (λ (r : Result Unit Fault). WasNotCutOff r) (sym ok) tt) (no-leak (ok-apart result ok)) grows.step;
+        step = allocating-as state (WasNotCutOff result) (WasNotCutOff (ready_so Ready)) grows.leaked (λ _. 0) s.image s'.image (λ whole. subst (λ (r : Result Unit Fault). WasNotCutOff r) (sym ok) tt) (no-leak (ok-apart result ok)) grows.step;
         list = grown-list result grows.enough grows.waits grows.kept;
         cause = of-cause _ _ _ result ok grows.cause;
       };
@@ -148,20 +148,20 @@ module _ {S : Type 0} (state : S → StorageState) (mark cluster : ℕ) (s : Ima
       near = λ order keeps sound c none more. inr (in-room order keeps sound c none more);
     }
       where
-        in-room : order_of s.caches ≡ L2DependsOnRb → IsTrue (state s.file.image).shape.keeps → IsSound (metadata state s) → (c : ℕ) → counted (metadata state s) c ≡ 0 → 0 < counted (metadata state s'.image) c
-            → IsInRoomToGrow (metadata state s) mark (cluster / k) c
+        in-room : order_of s.caches ≡ L2DependsOnRb → IsTrue (state s.file.image).shape.keeps → IsSound (metadata state s.image) → (c : ℕ) → counted (metadata state s.image) c ≡ 0 → 0 < counted (metadata state s'.image) c
+            → IsInRoomToGrow (metadata state s.image) s.mark (cluster / k) c
         in-room order keeps sound c none more =
             let grown = of-ok result ok (grows.grown order keeps sound) in
             let inside = covered-inside c grown.first grown.total (some-more _ _ _ (grown.counts c) none more) in
             (past, grown.first, grown.total, grown.clusters, grown.room, inside.0, inside.1)
 
     -- or has no place,
-    pub word-barred : (number : ℕ) → result ≡ Err (Limit number) → ReadiesWord state cluster (with_mark s mark) (ready_so NoPlace) s'
+    pub word-barred : (number : ℕ) → result ≡ Err (Limit number) → ReadiesWord state cluster s (ready_so NoPlace) s'
     word-barred number limit = record {
       did = record {
         leaked = λ _. 0;
         leaks = leaks-none _ _ (ready_so NoPlace);
-        step = allocating-as state (WasNotCutOff result) (WasNotCutOff (ready_so NoPlace)) grows.leaked (λ _. 0) s s'.image (λ whole. subst (λ (r : Result Unit Fault). WasNotCutOff r) (sym limit) tt) (no-leak (limit-apart result number limit)) grows.step;
+        step = allocating-as state (WasNotCutOff result) (WasNotCutOff (ready_so NoPlace)) grows.leaked (λ _. 0) s.image s'.image (λ whole. subst (λ (r : Result Unit Fault). WasNotCutOff r) (sym limit) tt) (no-leak (limit-apart result number limit)) grows.step;
         list = grown-list result grows.enough grows.waits grows.kept;
         cause = cause.1;
       };
@@ -171,21 +171,21 @@ module _ {S : Type 0} (state : S → StorageState) (mark cluster : ℕ) (s : Ima
       near = λ order keeps sound c none more. absurd (not-more _ _ (grows.barred order keeps sound number limit c) none more);
     }
       where
-        cause : (order_of s.caches ≡ L2DependsOnRb → IsTrue (state s.file.image).shape.keeps → IsSound (metadata state s) → NoPlaceToGrow (metadata state s) mark (cluster / k) number) × ((state s'.file.image).faults ≡ (state s.file.image).faults)
-        cause = subst (λ (r : Result Unit Fault). FailsFor (allocating_causes (IsGuarded state s) (IsLoose s.table s.caches)
-            (λ n. order_of s.caches ≡ L2DependsOnRb → IsTrue (state s.file.image).shape.keeps → IsSound (metadata state s) → NoPlaceToGrow (metadata state s) mark (cluster / k) n)
+        cause : (order_of s.caches ≡ L2DependsOnRb → IsTrue (state s.file.image).shape.keeps → IsSound (metadata state s.image) → NoPlaceToGrow (metadata state s.image) s.mark (cluster / k) number) × ((state s'.file.image).faults ≡ (state s.file.image).faults)
+        cause = subst (λ (r : Result Unit Fault). FailsFor (allocating_causes (IsGuarded state s.image) (IsLoose s.table s.caches)
+            (λ n. order_of s.caches ≡ L2DependsOnRb → IsTrue (state s.file.image).shape.keeps → IsSound (metadata state s.image) → NoPlaceToGrow (metadata state s.image) s.mark (cluster / k) n)
             (state s.file.image).faults (state s'.file.image).faults) r) limit grows.cause
 
     -- or was refused.
-    pub word-refused : (fault : Fault) → result ≡ Err fault → ((number : ℕ) → fault ≢ Limit number) → ReadiesWord state cluster (with_mark s mark) (not_ready fault) s'
+    pub word-refused : (fault : Fault) → result ≡ Err fault → ((number : ℕ) → fault ≢ Limit number) → ReadiesWord state cluster s (not_ready fault) s'
     word-refused fault is other = record {
       did = record {
         leaked = grows.leaked;
         leaks = record { none = λ full. grows.leaks.none (λ at. full (same-fault result fault is at)); pinned = grows.leaks.pinned };
-        step = allocating-as state (WasNotCutOff result) (WasNotCutOff (not_ready fault)) grows.leaked grows.leaked s s'.image (λ whole. subst (λ (r : Result Unit Fault). WasNotCutOff r) (sym is) whole) (λ c. refl) grows.step;
+        step = allocating-as state (WasNotCutOff result) (WasNotCutOff (not_ready fault)) grows.leaked grows.leaked s.image s'.image (λ whole. subst (λ (r : Result Unit Fault). WasNotCutOff r) (sym is) whole) (λ c. refl) grows.step;
         list = grown-list result grows.enough grows.waits grows.kept;
-        cause = never-limit _ _ _ _ _ _ fault other (subst (λ (r : Result Unit Fault). FailsFor (allocating_causes (IsGuarded state s) (IsLoose s.table s.caches)
-            (λ n. order_of s.caches ≡ L2DependsOnRb → IsTrue (state s.file.image).shape.keeps → IsSound (metadata state s) → NoPlaceToGrow (metadata state s) mark (cluster / k) n)
+        cause = never-limit _ _ _ _ _ _ fault other (subst (λ (r : Result Unit Fault). FailsFor (allocating_causes (IsGuarded state s.image) (IsLoose s.table s.caches)
+            (λ n. order_of s.caches ≡ L2DependsOnRb → IsTrue (state s.file.image).shape.keeps → IsSound (metadata state s.image) → NoPlaceToGrow (metadata state s.image) s.mark (cluster / k) n)
             (state s.file.image).faults (state s'.file.image).faults) r) is grows.cause);
       };
       mark = grows.mark;
@@ -195,12 +195,12 @@ module _ {S : Type 0} (state : S → StorageState) (mark cluster : ℕ) (s : Ima
     }
 
   -- There is a word for the cluster, and its block is made.
-  module _ (mid : ImageState S) (mid_mark : ℕ) where
+  module _ (mid : AllocatorState S) where
     -- There was no place for one,
-    pub counter-barred : ReadiesWord state cluster (with_mark s mark) (ready_so NoPlace) (with_mark mid mid_mark) → ReadiesCounter state cluster (with_mark s mark) (ready_so NoPlace) (with_mark mid mid_mark)
+    pub counter-barred : ReadiesWord state cluster s (ready_so NoPlace) mid → ReadiesCounter state cluster s (ready_so NoPlace) mid
     counter-barred word = record { did = word.did; mark = word.mark; there = λ yes. absurd (ready-apart (sym yes)); barred = word.barred; near = word.near }
 
-    module _ (word : ReadiesWord state cluster (with_mark s mark) (ready_so Ready) (with_mark mid mid_mark)) (reach : IsInReach s.file.header.fields.cluster_bits cluster) (table' : TableValue) (new : MetadataCaches S) (after : ImageFile S) (mark' : ℕ) (still : mark' ≡ mid_mark) where
+    module _ (word : ReadiesWord state cluster s (ready_so Ready) mid) (reach : IsInReach s.file.header.fields.cluster_bits cluster) (table' : TableValue) (new : MetadataCaches S) (after : ImageFile S) (mark' : ℕ) (still : mark' ≡ mid.mark) where
       header-moved : (P : Header → Type 0) → P (with_refcount_table s.file.header word.did.step.moved.0 word.did.step.moved.1) → P mid.file.header
       header-moved P p = subst P (sym word.did.step.moved.2) p
 
@@ -212,22 +212,22 @@ module _ {S : Type 0} (state : S → StorageState) (mark cluster : ℕ) (s : Ima
       never-far : (number : ℕ) → ((i : ℕ) × (cluster / k ≤ i) × (i < cluster / k + 1) × (number ≤ i * counters_of_block mid.file.header.fields) × (IsInReach mid.file.header.fields.cluster_bits number → ⊥)) → ⊥
       never-far number (i, above, below, le, far) = far (nearer mid.file.header.fields.cluster_bits number _ le (near i above below))
 
-      both : (ok' : Type 0) → Allocating state ok' (λ _. 0) mid (lent table' new after mid.pending) → Allocating state ok' (λ _. 0) s (lent table' new after mid.pending)
-      both ok' two = allocating-as state ok' ok' (λ c. leaked_by (ready_so Ready) word.did.leaked c + 0) (λ _. 0) s (lent table' new after mid.pending) (λ o. o) (λ c. refl)
-          (allocating-then state ⊤ ok' (leaked_by (ready_so Ready) word.did.leaked) (λ _. 0) s mid (lent table' new after mid.pending) tt word.did.step two)
+      both : (ok' : Type 0) → Allocating state ok' (λ _. 0) mid.image (lent table' new after mid.pending) → Allocating state ok' (λ _. 0) s.image (lent table' new after mid.pending)
+      both ok' two = allocating-as state ok' ok' (λ c. leaked_by (ready_so Ready) word.did.leaked c + 0) (λ _. 0) s.image (lent table' new after mid.pending) (λ o. o) (λ c. refl)
+          (allocating-then state ⊤ ok' (leaked_by (ready_so Ready) word.did.leaked) (λ _. 0) s.image mid.image (lent table' new after mid.pending) tt word.did.step two)
 
       blocks-behind : IsLengthenedByTable s.file.header.fields s.table mid.table s.pending mid.pending → length table'.words ≡ length mid.table.words → IsLengthenedByTable s.file.header.fields s.table table' s.pending mid.pending
       blocks-behind (inl same) long = inl same
       blocks-behind (inr (longer, waits)) long = inr (subst (λ n. length s.table.words < n) (sym long) longer, waits)
 
-      holds-still : IsGuarded state s → IsGuarded state mid
+      holds-still : IsGuarded state s.image → IsGuarded state mid.image
       holds-still holds = let quiet = word.did.step.quiet holds.1 in (keeps_on (state s.file.image) (state mid.file.image) quiet.shape holds.0, word.did.step.order ∙ holds.1, (quiet.holds holds.0 holds.2 tt).0)
 
       -- or now there is a block,
-      pub counter-made : (made : Provision) → MakesBlocks state (cluster / k) (cluster / k + 1) mid (so made) (lent table' new after mid.pending)
-          → (order_of mid.caches ≡ L2DependsOnRb → IsTrue (state mid.file.image).shape.keeps → IsSound (metadata state mid)
-          → FillsFrom mark (cluster / k) (cluster / k + 1) (metadata state mid) (metadata_of state after new table' mid.pending))
-          → ReadiesCounter state cluster (with_mark s mark) (ready_so Ready) (with_mark (lent table' new after mid.pending) mark')
+      pub counter-made : (made : Provision) → MakesBlocks state (cluster / k) (cluster / k + 1) mid.image (so made) (lent table' new after mid.pending)
+          → (order_of mid.caches ≡ L2DependsOnRb → IsTrue (state mid.file.image).shape.keeps → IsSound (metadata state mid.image)
+          → FillsFrom s.mark (cluster / k) (cluster / k + 1) (metadata state mid.image) (metadata_of state after new table' mid.pending))
+          → ReadiesCounter state cluster s (ready_so Ready) (with_mark (lent table' new after mid.pending) mark')
       counter-made made blocks fills = record {
         did = record {
           leaked = λ _. 0;
@@ -239,7 +239,7 @@ module _ {S : Type 0} (state : S → StorageState) (mark cluster : ℕ) (s : Ima
         mark = still ∙ word.mark;
         there = λ yes. blocks.named (cluster / k) (unchanged (cluster / k)) (behind (cluster / k));
         barred = λ order keeps sound no. absurd (ready-apart no);
-        near = λ order keeps sound c none more. elim (cases_eq (counted (metadata state mid) c) 0) [
+        near = λ order keeps sound c none more. elim (cases_eq (counted (metadata state mid.image) c) 0) [
           | inr made-before ↦ word.near order keeps sound c none (some-of _ made-before)
           | inl still ↦
               let held = holds-still (keeps, order, sound) in
@@ -250,7 +250,7 @@ module _ {S : Type 0} (state : S → StorageState) (mark cluster : ℕ) (s : Ima
       }
 
       -- or none could be made.
-      pub counter-unmade : (fault : Fault) → MakesBlocks state (cluster / k) (cluster / k + 1) mid (refused fault) (lent table' new after mid.pending) → ReadiesCounter state cluster (with_mark s mark) (not_ready fault) (with_mark (lent table' new after mid.pending) mark')
+      pub counter-unmade : (fault : Fault) → MakesBlocks state (cluster / k) (cluster / k + 1) mid.image (refused fault) (lent table' new after mid.pending) → ReadiesCounter state cluster s (not_ready fault) (with_mark (lent table' new after mid.pending) mark')
       counter-unmade fault blocks = record {
         did = record {
           leaked = λ _. 0;

@@ -22,7 +22,7 @@ use Rattle.qcow2_alloc.specs.Going.{IsMild}
 use Rattle.qcow2_alloc.specs.GrowingTables.{Leaks, GrowsTable}
 use Rattle.qcow2_alloc.specs.Quiet.{Metadata, IsSound}
 use Rattle.qcow2_alloc.specs.ReadyingBlocks.{HasMade, HasMore, NoneCanBeMade, ReadiesBlocks}
-use Rattle.qcow2_alloc.specs.State.{ImageState, lent, metadata, with_mark, AllocatorState}
+use Rattle.qcow2_alloc.specs.State.{lent, metadata, with_mark, AllocatorState}
 use Rattle.qcow2_alloc.proofs.Causes.{cause-weaker, fails-weaker}
 use Rattle.qcow2_alloc.proofs.Blocks.BlockCreationCalls.{allocating-weaker}
 use Rattle.qcow2_alloc.proofs.Blocks.BlockRows.{refused, so}
@@ -46,16 +46,16 @@ leaks-on sound sound' loose loose' fault leaked from from' leaks = record {
 pub leaks-ok : {T : Type 0} (sound : Type 0) (loose : Bool → Type 0) (v : T) (leaked : ℕ → ℕ) → Leaks sound loose (Ok v) leaked → (c : ℕ) → leaked c ≡ 0
 leaks-ok sound loose v leaked leaks c = leaks.none (λ is. absurd (cc)) c
 
-module _ {S : Type 0} (state : S → StorageState) (mark at first last : ℕ) (s : ImageState S) where
+module _ {S : Type 0} (state : S → StorageState) (at first last : ℕ) (s : AllocatorState S) where
   abbrev Start : Metadata
-  Start = metadata state s
+  Start = metadata state s.image
 
   abbrev Knows : Type 0 → Type 0
   Knows P = order_of s.caches ≡ L2DependsOnRb → IsTrue (state s.file.image).shape.keeps → IsSound Start → P
 
   -- The table has words for all: blocks are made.
-  pub blocks-ready : last < length s.table.words → (result : Result Provision Fault) (table' : TableValue) (new : MetadataCaches S) (after : ImageFile S) (mark' : ℕ) → mark' ≡ mark → MakesBlocks state first (last + 1) s result (lent table' new after s.pending)
-      → Knows (OnOk result (FillsFrom mark first (last + 1) Start (metadata_of state after new table' s.pending))) → ReadiesBlocks state at first last (with_mark s mark) result (with_mark (lent table' new after s.pending) mark')
+  pub blocks-ready : last < length s.table.words → (result : Result Provision Fault) (table' : TableValue) (new : MetadataCaches S) (after : ImageFile S) (mark' : ℕ) → mark' ≡ s.mark → MakesBlocks state first (last + 1) s.image result (lent table' new after s.pending)
+      → Knows (OnOk result (FillsFrom s.mark first (last + 1) Start (metadata_of state after new table' s.pending))) → ReadiesBlocks state at first last s result (with_mark (lent table' new after s.pending) mark')
   blocks-ready inside result table' new after mark' still makes fills = record {
     leaked = λ _. 0;
     leaks = leaks-none _ _ result;
@@ -72,7 +72,7 @@ module _ {S : Type 0} (state : S → StorageState) (mark at first last : ℕ) (s
     cause = fails-weaker _ _ (allocating-weaker (λ holds. holds) (λ any loose. loose) far-all refl) (λ same. same) result makes.cause;
   }
     where
-      filled : (r : Result Provision Fault) → OnOk r (FillsFrom mark first (last + 1) Start (metadata_of state after new table' s.pending)) → IfOk r (λ made. made ≡ Extended → HasMade mark at first last Start (metadata_of state after new table' s.pending))
+      filled : (r : Result Provision Fault) → OnOk r (FillsFrom s.mark first (last + 1) Start (metadata_of state after new table' s.pending)) → IfOk r (λ made. made ≡ Extended → HasMade s.mark at first last Start (metadata_of state after new table' s.pending))
       filled (Ok made) is = λ some. inl (inside, makes.long, is)
       filled (Err fault) is = tt
 
@@ -84,7 +84,7 @@ module _ {S : Type 0} (state : S → StorageState) (mark at first last : ℕ) (s
       more (Ok made) fewer = λ some. inr (makes.long, fewer some)
       more (Err fault) fewer = tt
 
-      far-all : (number : ℕ) → ((i : ℕ) × (first ≤ i) × (i < last + 1) × (number ≤ i * counters_of_block s.file.header.fields) × (IsInReach s.file.header.fields.cluster_bits number → ⊥)) → Knows (NoneCanBeMade mark at first last number Start)
+      far-all : (number : ℕ) → ((i : ℕ) × (first ≤ i) × (i < last + 1) × (number ≤ i * counters_of_block s.file.header.fields) × (IsInReach s.file.header.fields.cluster_bits number → ⊥)) → Knows (NoneCanBeMade s.mark at first last number Start)
       far-all number (i, above, below, le, far) order keeps sound = inl (λ all.
           let near : IsInReach s.file.header.fields.cluster_bits (i * counters_of_block s.file.header.fields) = all i above (omega (arith, below)) in
           let more = mul-le-mul_right (2 ^ s.file.header.fields.cluster_bits) le in
@@ -92,7 +92,7 @@ module _ {S : Type 0} (state : S → StorageState) (mark at first last : ℕ) (s
 
   module _ (past : length s.table.words ≤ last) (s' : AllocatorState S) where
     -- It hasn't: it grows,
-    pub table-ready : last ≤ at → GrowsTable state at (with_mark s mark) (Ok tt) s' → ReadiesBlocks state at first last (with_mark s mark) (so Extended) s'
+    pub table-ready : last ≤ at → GrowsTable state at s (Ok tt) s' → ReadiesBlocks state at first last s (so Extended) s'
     table-ready behind grows = record {
       leaked = grows.leaked;
       leaks = record { none = λ other c. leaks-ok _ _ tt grows.leaked grows.leaks c; pinned = grows.leaks.pinned };
@@ -110,7 +110,7 @@ module _ {S : Type 0} (state : S → StorageState) (mark at first last : ℕ) (s
     }
 
     -- or that is refused.
-    pub table-not-ready : (fault : Fault) → GrowsTable state at (with_mark s mark) (Err fault) s' → ReadiesBlocks state at first last (with_mark s mark) (Err fault) s'
+    pub table-not-ready : (fault : Fault) → GrowsTable state at s (Err fault) s' → ReadiesBlocks state at first last s (Err fault) s'
     table-not-ready fault grows = record {
       leaked = grows.leaked;
       leaks = leaks-on _ _ _ _ fault grows.leaked (λ holds. holds) (λ any loose. loose) grows.leaks;

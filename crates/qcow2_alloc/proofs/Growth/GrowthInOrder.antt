@@ -32,16 +32,16 @@ use Rattle.qcow2_alloc.proofs.Caching.Loose.{loose-all}
 use Rattle.qcow2_alloc.proofs.Quiet.QuietFlushes.{memory-quietly, quiet-none}
 use Rattle.qcow2_alloc.proofs.Blocks.RunProvision.{leaks-none}
 
-module _ {S : Type 0} (state : S → StorageState) (mark at : ℕ) (s : ImageState S) (mid : MetadataCaches S) (between : ImageFile S) where
+module _ {S : Type 0} (state : S → StorageState) (at : ℕ) (s : AllocatorState S) (mid : MetadataCaches S) (between : ImageFile S) where
   abbrev Start : Metadata
-  Start = metadata state s
+  Start = metadata state s.image
 
   abbrev Mid : Metadata
   Mid = metadata_of state between mid s.table s.pending
 
   -- Caches that are as loose as those were, and have as much room.
-  pub shape-behind : (result : Result Unit Fault) (s' : ImageState S) → Announced state s result (lent s.table mid between s.pending) → MovedTable between.header s'.file.header → ((any : Bool) → IsLoose s.table mid any → IsLoose s'.table s'.caches any) → KeepsTables mid s'.caches
-      → StaysInShape s s'
+  pub shape-behind : (result : Result Unit Fault) (s' : ImageState S) → Announced state s.image result (lent s.table mid between s.pending) → MovedTable between.header s'.file.header → ((any : Bool) → IsLoose s.table mid any → IsLoose s'.table s'.caches any) → KeepsTables mid s'.caches
+      → StaysInShape s.image s'
   shape-behind result s' first moved loose room = record {
     moved = subst (λ (H : Header). MovedTable H s'.file.header) first.header moved;
     loose = λ any all. loose any (first.loose any all);
@@ -49,7 +49,7 @@ module _ {S : Type 0} (state : S → StorageState) (mark at : ℕ) (s : ImageSta
   }
 
   -- There was no grown copy of the table, or no room for the clusters of this one: nothing has changed.
-  pub not-copied : (fault : Fault) → WhyNotGrown s.file.header.fields s.table at fault → GrowsReftable state at (with_mark s mark) (failed fault) (with_mark s mark)
+  pub not-copied : (fault : Fault) → WhyNotGrown s.file.header.fields s.table at fault → GrowsReftable state at s (failed fault) s
   not-copied fault why = record {
     leaked = λ _. 0;
     leaks = leaks-none _ _ (failed fault);
@@ -67,14 +67,14 @@ module _ {S : Type 0} (state : S → StorageState) (mark at : ℕ) (s : ImageSta
     cause = by-fault fault why;
   }
     where
-      by-fault : (f : Fault) → WhyNotGrown s.file.header.fields s.table at f → HasCause (allocating_causes (IsKept state s) (IsLoose s.table s.caches) (λ number. IsTrue (state s.file.image).shape.keeps → IsSound Start → NoPlaceToGrow Start mark at number) (state s.file.image).faults (state s.file.image).faults) f
+      by-fault : (f : Fault) → WhyNotGrown s.file.header.fields s.table at f → HasCause (allocating_causes (IsKept state s.image) (IsLoose s.table s.caches) (λ number. IsTrue (state s.file.image).shape.keeps → IsSound Start → NoPlaceToGrow Start s.mark at number) (state s.file.image).faults (state s.file.image).faults) f
       by-fault Memory why = tt
       by-fault DamagedTable why = λ known. why (ap (λ (l : Layout). l.cluster_bits) known.1.table.layout)
       by-fault (Limit number) why = (λ keeps sound. inl why, refl)
       by-fault other why = absurd why
 
   -- Where that was refused nothing grew,
-  pub not-announced : (fault : Fault) → Announced state s (failed fault) (lent s.table mid between s.pending) → GrowsReftable state at (with_mark s mark) (failed fault) (with_mark (lent s.table mid between s.pending) mark)
+  pub not-announced : (fault : Fault) → Announced state s.image (failed fault) (lent s.table mid between s.pending) → GrowsReftable state at s (failed fault) (with_mark (lent s.table mid between s.pending) s.mark)
   not-announced fault first = record {
     leaked = λ _. 0;
     leaks = leaks-none _ _ (failed fault);
@@ -93,13 +93,13 @@ module _ {S : Type 0} (state : S → StorageState) (mark at : ℕ) (s : ImageSta
   }
 
   -- and else it grows as it does under that order.
-  module _ (first : Announced state s (Ok tt) (lent s.table mid between s.pending)) (result : Result Unit Fault) (s' : AllocatorState S)
-      (grows : GrowsTable state at (with_mark (lent s.table mid between s.pending) mark) result s') where
+  module _ (first : Announced state s.image (Ok tt) (lent s.table mid between s.pending)) (result : Result Unit Fault) (s' : AllocatorState S)
+      (grows : GrowsTable state at (with_mark (lent s.table mid between s.pending) s.mark) result s') where
     abbrev End : Metadata
     End = metadata state s'.image
 
-    grown : (r : Result Unit Fault) → IsTrue (state s.file.image).shape.keeps → IsSound Start → OnOk r (TableGrown mark at Mid End) → OnOk r (TableGrown mark at Start End)
-    grown (Ok done) keeps sound is = grown-as Start Mid first.header refl (first.counts keeps sound tt) mark at End is
+    grown : (r : Result Unit Fault) → IsTrue (state s.file.image).shape.keeps → IsSound Start → OnOk r (TableGrown s.mark at Mid End) → OnOk r (TableGrown s.mark at Start End)
+    grown (Ok done) keeps sound is = grown-as Start Mid first.header refl (first.counts keeps sound tt) s.mark at End is
     grown (Err fault) keeps sound is = tt
 
     enough : (r : Result Unit Fault) → OnOk r (IsGrownLength (words_of_cluster between.header.fields) (counters_of_block between.header.fields) at (length s'.table.words))
@@ -119,15 +119,15 @@ module _ {S : Type 0} (state : S → StorageState) (mark at : ℕ) (s : ImageSta
     stays (Ok done) is = tt
     stays (Err fault) is = λ mild. let both = is mild in (both.0, both.1 ∙ first.header)
 
-    pub announced-grows : GrowsReftable state at (with_mark s mark) result s'
+    pub announced-grows : GrowsReftable state at s result s'
     announced-grows = record {
       leaked = grows.leaked;
-      leaks = record { none = grows.leaks.none; pinned = λ holds loose. let still = sound-behind state s mid between first holds.0 holds.1 in grows.leaks.pinned (still.0, first.order, still.1) (first.loose true loose) };
+      leaks = record { none = grows.leaks.none; pinned = λ holds loose. let still = sound-behind state s.image mid between first holds.0 holds.1 in grows.leaks.pinned (still.0, first.order, still.1) (first.loose true loose) };
       faults = λ whole. faultless-then (first.faults tt) (grows.step.faults whole);
-      quiet = quiet-behind state s mid between first (WasNotCutOff result) grows.leaked (state s'.file.image) End grows.step.quiet;
-      raised = λ keeps sound whole. let still = sound-behind state s mid between first keeps sound in
-          raised-behind state s mid between first End keeps sound (grows.step.raised first.order still.0 still.1 whole);
-      grown = λ keeps sound. let still = sound-behind state s mid between first keeps sound in grown result keeps sound (grows.grown first.order still.0 still.1);
+      quiet = quiet-behind state s.image mid between first (WasNotCutOff result) grows.leaked (state s'.file.image) End grows.step.quiet;
+      raised = λ keeps sound whole. let still = sound-behind state s.image mid between first keeps sound in
+          raised-behind state s.image mid between first End keeps sound (grows.step.raised first.order still.0 still.1 whole);
+      grown = λ keeps sound. let still = sound-behind state s.image mid between first keeps sound in grown result keeps sound (grows.grown first.order still.0 still.1);
       enough = enough result grows.enough;
       order = ordered result;
       mark = grows.mark;
@@ -135,6 +135,6 @@ module _ {S : Type 0} (state : S → StorageState) (mark at : ℕ) (s : ImageSta
       waits = waits result grows.waits;
       kept = grows.kept;
       stays = stays result grows.stays;
-      cause = fails-weaker _ _ (allocates-behind state s mid between first (λ number full keeps sound. let still = sound-behind state s mid between first keeps sound in no-place-as Start Mid first.header refl (first.counts keeps sound tt) mark at number (full first.order still.0 still.1)))
+      cause = fails-weaker _ _ (allocates-behind state s.image mid between first (λ number full keeps sound. let still = sound-behind state s.image mid between first keeps sound in no-place-as Start Mid first.header refl (first.counts keeps sound tt) s.mark at number (full first.order still.0 still.1)))
           (λ same. same ∙ first.cause) result grows.cause;
     }

@@ -27,7 +27,7 @@ use Rattle.qcow2_alloc.specs.MakingRoom.{run_of}
 use Rattle.qcow2_alloc.specs.MovingTables.{clusters_of, IsPlan, WhyNotGrown, WhyNotPlaced, IsFreeIn, WasSound, FillsRoom, EntersFree}
 use Rattle.qcow2_alloc.specs.Quiet.{Metadata, counted, IsSound}
 use Rattle.qcow2_alloc.specs.SearchingClusters.{IsSafeWith, Looked}
-use Rattle.qcow2_alloc.specs.State.{ImageState, lent, metadata, with_mark}
+use Rattle.qcow2_alloc.specs.State.{lent, metadata, with_mark, AllocatorState}
 use Rattle.qcow2_alloc.proofs.Causes.{cause-weaker, fails-weaker}
 use Rattle.qcow2_alloc.proofs.Handing.CountSequences.{allocating-none, allocating-as}
 use Rattle.qcow2_alloc.proofs.Flushing.Faultless.{faultless-then}
@@ -38,26 +38,26 @@ use Rattle.qcow2_alloc.proofs.Blocks.BlockCreationCalls.{first-counted, can-name
 use Rattle.qcow2_alloc.proofs.Quiet.QuietGiven.{quietly-given, quietly-then-given}
 use Rattle.qcow2_alloc.proofs.Quiet.QuietThen.{quietly-otherwise}
 
-module _ {S : Type 0} (state : S → StorageState) (mark at : ℕ) (image : ImageState S) where
+module _ {S : Type 0} (state : S → StorageState) (at : ℕ) (s : AllocatorState S) where
   abbrev start : Metadata
-  start = metadata state image
+  start = metadata state s.image
 
   abbrev Keeps : Type 0
-  Keeps = IsTrue (state image.file.image).shape.keeps
+  Keeps = IsTrue (state s.file.image).shape.keeps
 
   abbrev Sound : Type 0
-  Sound = Keeps × (order_of image.caches ≡ L2DependsOnRb) × IsSound start
+  Sound = Keeps × (order_of s.caches ≡ L2DependsOnRb) × IsSound start
 
   abbrev Full : ℕ → Type 0
-  Full number = order_of image.caches ≡ L2DependsOnRb → Keeps → IsSound start → NoPlaceToGrow start mark at number
+  Full number = order_of s.caches ≡ L2DependsOnRb → Keeps → IsSound start → NoPlaceToGrow start s.mark at number
 
-  safe-with : Keeps → IsSound start → IsSafeWith state image.table image.caches image.file
+  safe-with : Keeps → IsSound start → IsSafeWith state s.table s.caches s.file
   safe-with keeps sound = record { keeps = keeps; safe = sound.safe; table_of_file = sound.table }
 
   -- It is refused, and nothing was counted.
-  not-grown : (fault : Fault) (C : MetadataCaches S) (fC : ImageFile S) → Allocating state (IsMild fault) (λ _. 0) image (lent image.table C fC image.pending) → fC.header ≡ image.file.header
-      → (Keeps → IsSound start → (number : ℕ) → fault ≡ Limit number → (c : ℕ) → counted (metadata_of state fC C image.table image.pending) c ≡ counted start c)
-      → HasCause (allocating_causes Sound (IsLoose image.table image.caches) Full (state image.file.image).faults (state fC.image).faults) fault → GrowsTable state at (with_mark image mark) (failed fault) (with_mark (lent image.table C fC image.pending) mark)
+  not-grown : (fault : Fault) (C : MetadataCaches S) (fC : ImageFile S) → Allocating state (IsMild fault) (λ _. 0) s.image (lent s.table C fC s.pending) → fC.header ≡ s.file.header
+      → (Keeps → IsSound start → (number : ℕ) → fault ≡ Limit number → (c : ℕ) → counted (metadata_of state fC C s.table s.pending) c ≡ counted start c)
+      → HasCause (allocating_causes Sound (IsLoose s.table s.caches) Full (state s.file.image).faults (state fC.image).faults) fault → GrowsTable state at s (failed fault) (with_mark (lent s.table C fC s.pending) s.mark)
   not-grown fault C fC step header same why = record {
     leaked = λ _. 0;
     leaks = record { none = λ not c. refl; pinned = λ holds loose c. refl };
@@ -73,49 +73,49 @@ module _ {S : Type 0} (state : S → StorageState) (mark at : ℕ) (image : Imag
   }
 
   -- There is no copy of the table,
-  pub no-copy : (fault : Fault) → WhyNotGrown image.file.header.fields image.table at fault → GrowsTable state at (with_mark image mark) (failed fault) (with_mark image mark)
-  no-copy fault why = not-grown fault image.caches image.file (allocating-as state ⊤ (IsMild fault) (λ _. 0) (λ _. 0) image image (λ mild. tt) (λ c. refl) (allocating-none state image)) refl (λ keeps sound number is c. refl) (by-fault fault why)
+  pub no-copy : (fault : Fault) → WhyNotGrown s.file.header.fields s.table at fault → GrowsTable state at s (failed fault) s
+  no-copy fault why = not-grown fault s.caches s.file (allocating-as state ⊤ (IsMild fault) (λ _. 0) (λ _. 0) s.image s.image (λ mild. tt) (λ c. refl) (allocating-none state s.image)) refl (λ keeps sound number is c. refl) (by-fault fault why)
     where
-      by-fault : (fault : Fault) → WhyNotGrown image.file.header.fields image.table at fault → HasCause (allocating_causes Sound (IsLoose image.table image.caches) Full (state image.file.image).faults (state image.file.image).faults) fault
+      by-fault : (fault : Fault) → WhyNotGrown s.file.header.fields s.table at fault → HasCause (allocating_causes Sound (IsLoose s.table s.caches) Full (state s.file.image).faults (state s.file.image).faults) fault
       by-fault Memory why = tt
       by-fault DamagedTable why = λ known. why (ap (λ (l : Layout). l.cluster_bits) known.2.table.layout)
       by-fault (Limit number) why = (λ order keeps sound. inl why, refl)
       by-fault other why = absurd why
 
   -- or the search for a room was refused,
-  pub no-room : (fault : Fault) (C : MetadataCaches S) (fC : ImageFile S) → Looked state {T = Run} image.table (cached_file image.caches image.file) (Err fault) (cached_file C fC) → GrowsTable state at (with_mark image mark) (failed fault) (with_mark (lent image.table C fC image.pending) mark)
+  pub no-room : (fault : Fault) (C : MetadataCaches S) (fC : ImageFile S) → Looked state {T = Run} s.table (cached_file s.caches s.file) (Err fault) (cached_file C fC) → GrowsTable state at s (failed fault) (with_mark (lent s.table C fC s.pending) s.mark)
   no-room fault C fC looked =
-      not-grown fault C fC (looked-allocates state image Run (Err fault) C fC looked) looked.header
-      (λ keeps sound number is. counts-looked state image Run (Err fault) C fC looked keeps sound (subst (λ (f : Fault). WasNotCutOff {T = Run} (Err f)) (sym is) tt))
-      (cause-weaker (freeing-allocates (λ known. safe-with known.0 known.2) (λ u. loose-all image.table image.caches u.0 u.2) refl) fault looked.cause)
+      not-grown fault C fC (looked-allocates state s.image Run (Err fault) C fC looked) looked.header
+      (λ keeps sound number is. counts-looked state s.image Run (Err fault) C fC looked keeps sound (subst (λ (f : Fault). WasNotCutOff {T = Run} (Err f)) (sym is) tt))
+      (cause-weaker (freeing-allocates (λ known. safe-with known.0 known.2) (λ u. loose-all s.table s.caches u.0 u.2) refl) fault looked.cause)
 
   -- A room was found for a copy.
-  module _ (room : Run) (copy : TableValue) (from n : ℕ) (C : MetadataCaches S) (fC : ImageFile S) (looks : LooksForRoom state image.table from n (cached_file image.caches image.file) (Ok room) (cached_file C fC)) (from_is : from ≡ min mark (length image.table.words * counters_of_block image.file.header.fields))
-      (n_is : n ≡ clusters_of copy image.file.header.fields.cluster_bits) (long : IsGrownLength (words_of_cluster image.file.header.fields) (counters_of_block image.file.header.fields) at (length copy.words))
-      (whole : clusters_of copy image.file.header.fields.cluster_bits * words_of_cluster image.file.header.fields ≡ length copy.words) where
+  module _ (room : Run) (copy : TableValue) (from n : ℕ) (C : MetadataCaches S) (fC : ImageFile S) (looks : LooksForRoom state s.table from n (cached_file s.caches s.file) (Ok room) (cached_file C fC)) (from_is : from ≡ min s.mark (length s.table.words * counters_of_block s.file.header.fields))
+      (n_is : n ≡ clusters_of copy s.file.header.fields.cluster_bits) (long : IsGrownLength (words_of_cluster s.file.header.fields) (counters_of_block s.file.header.fields) at (length copy.words))
+      (whole : clusters_of copy s.file.header.fields.cluster_bits * words_of_cluster s.file.header.fields ≡ length copy.words) where
     abbrev h : Fields
-    h = image.file.header.fields
+    h = s.file.header.fields
 
     abbrev clusters : ℕ
-    clusters = clusters_of copy image.file.header.fields.cluster_bits
+    clusters = clusters_of copy s.file.header.fields.cluster_bits
 
     there : MetadataCaches S → Metadata
-    there caches = metadata_of state fC caches image.table image.pending
+    there caches = metadata_of state fC caches s.table s.pending
 
-    found : Sound → IsFirstRoom image.table (counters_of_block h) (counted start) (room_from start mark) clusters room.first room.len
+    found : Sound → IsFirstRoom s.table (counters_of_block h) (counted start) (room_from start s.mark) clusters room.first room.len
     found known =
-        subst (λ (k : ℕ). IsFirstRoom image.table (counters_of_block h) (counted start) (room_from start mark) k room.first room.len) n_is
-        (subst (λ (f : ℕ). IsFirstRoom image.table (counters_of_block h) (counted start) f n room.first room.len) from_is (looks.found (safe-with known.0 known.2)))
+        subst (λ (k : ℕ). IsFirstRoom s.table (counters_of_block h) (counted start) (room_from start s.mark) k room.first room.len) n_is
+        (subst (λ (f : ℕ). IsFirstRoom s.table (counters_of_block h) (counted start) f n room.first room.len) from_is (looks.found (safe-with known.0 known.2)))
 
-    room-to-grow : Sound → IsRoomToGrow start mark at room.first room.len clusters
+    room-to-grow : Sound → IsRoomToGrow start s.mark at room.first room.len clusters
     room-to-grow known = record { long = subst (λ (l : ℕ). IsGrownLength (words_of_cluster h) (counters_of_block h) at l) (sym whole) long; room = found known }
 
     -- It can't take it.
-    pub no-place : (fault : Fault) → 1 ≤ room.len → WhyNotPlaced fC.header.fields image.table room copy fault → GrowsTable state at (with_mark image mark) (failed fault) (with_mark (lent image.table C fC image.pending) mark)
+    pub no-place : (fault : Fault) → 1 ≤ room.len → WhyNotPlaced fC.header.fields s.table room copy fault → GrowsTable state at s (failed fault) (with_mark (lent s.table C fC s.pending) s.mark)
     no-place fault some why =
-        not-grown fault C fC (allocating-as state ⊤ (IsMild fault) (λ _. 0) (λ _. 0) image (lent image.table C fC image.pending) (λ mild. tt) (λ c. refl) (looked-allocates state image Run (Ok room) C fC looks.looked)) looks.looked.header
-        (λ keeps sound number is. counts-looked state image Run (Ok room) C fC looks.looked keeps sound tt)
-        (by-fault fault (subst (λ (H : Header). WhyNotPlaced H.fields image.table room copy fault) looks.looked.header why))
+        not-grown fault C fC (allocating-as state ⊤ (IsMild fault) (λ _. 0) (λ _. 0) s.image (lent s.table C fC s.pending) (λ mild. tt) (λ c. refl) (looked-allocates state s.image Run (Ok room) C fC looks.looked)) looks.looked.header
+        (λ keeps sound number is. counts-looked state s.image Run (Ok room) C fC looks.looked keeps sound tt)
+        (by-fault fault (subst (λ (H : Header). WhyNotPlaced H.fields s.table room copy fault) looks.looked.header why))
       where
         behind : Sound → room.first ≢ 0
         behind known none =
@@ -124,7 +124,7 @@ module _ {S : Type 0} (state : S → StorageState) (mark at : ℕ) (image : Imag
             let one = first-counted start known.2 in
             omega (arith, first, one)
 
-        by-fault : (fault : Fault) → WhyNotPlaced h image.table room copy fault → HasCause (allocating_causes Sound (IsLoose image.table image.caches) Full (state image.file.image).faults (state fC.image).faults) fault
+        by-fault : (fault : Fault) → WhyNotPlaced h s.table room copy fault → HasCause (allocating_causes Sound (IsLoose s.table s.caches) Full (state s.file.image).faults (state fC.image).faults) fault
         by-fault Memory why = tt
         by-fault DamagedTable why = λ known. why (behind known, can-name start known.2 (room.first + (room.len - 1)) (λ none. behind known (omega (arith, none))))
         by-fault (Limit number) why = (
@@ -141,44 +141,44 @@ module _ {S : Type 0} (state : S → StorageState) (mark at : ℕ) (image : Imag
         by-fault other why = absurd why
 
     -- It takes it, as it was planned.
-    module _ (placed : TableValue) (plan_there : IsPlan fC.header.fields image.table room placed) (same : length placed.words ≡ length copy.words)
-        (result : Result Unit Fault) (sD : ImageState S) (fills : EntersFree state room placed (lent image.table C fC image.pending) result sD)
-        (waits : OnOk result (sD.pending ≡ image.pending ++ table_run fC.header.fields)) (kept : OnErr result (sD.pending ≡ image.pending)) (mark' : ℕ) (still : mark' ≡ mark) where
+    module _ (placed : TableValue) (plan_there : IsPlan fC.header.fields s.table room placed) (same : length placed.words ≡ length copy.words)
+        (result : Result Unit Fault) (sD : AllocatorState S) (fills : EntersFree state room placed (lent s.table C fC s.pending) result sD.image)
+        (waits : OnOk result (sD.pending ≡ s.pending ++ table_run fC.header.fields)) (kept : OnErr result (sD.pending ≡ s.pending)) (still : sD.mark ≡ s.mark) where
       abbrev mid : Metadata
-      mid = metadata_of state fC C image.table image.pending
+      mid = metadata_of state fC C s.table s.pending
 
       abbrev end : Metadata
-      end = metadata state sD
+      end = metadata state sD.image
 
-      abbrev looked : Looked state image.table (cached_file image.caches image.file) (Ok room) (cached_file C fC)
+      abbrev looked : Looked state s.table (cached_file s.caches s.file) (Ok room) (cached_file C fC)
       looked = looks.looked
 
-      plan : IsPlan h image.table room placed
-      plan = subst (λ (H : Header). IsPlan H.fields image.table room placed) looked.header plan_there
+      plan : IsPlan h s.table room placed
+      plan = subst (λ (H : Header). IsPlan H.fields s.table room placed) looked.header plan_there
 
       abbrev Was : Type 0
-      Was = WasSound state image
+      Was = WasSound state s.image
 
-      free : Was → IsFreeIn state room (lent image.table C fC image.pending)
+      free : Was → IsFreeIn state room (lent s.table C fC s.pending)
       free known = (
         looked.order ∙ known.0,
-        λ c above below. counts-looked state image Run (Ok room) C fC looked known.1 known.2 tt c ∙ (found (known.1, known.0, known.2)).room.free c above below,
+        λ c above below. counts-looked state s.image Run (Ok room) C fC looked known.1 known.2 tt c ∙ (found (known.1, known.0, known.2)).room.free c above below,
       )
 
-      abbrev filled : FillsRoom state Was room placed (lent image.table C fC image.pending) result sD
-      filled = fills image.caches image.file free
+      abbrev filled : FillsRoom state Was room placed (lent s.table C fC s.pending) result sD.image
+      filled = fills s.caches s.file free
 
-      abbrev one : Allocating state ⊤ (λ _. 0) image (lent image.table C fC image.pending)
-      one = looked-allocates state image Run (Ok room) C fC looked
+      abbrev one : Allocating state ⊤ (λ _. 0) s.image (lent s.table C fC s.pending)
+      one = looked-allocates state s.image Run (Ok room) C fC looked
 
       on : Keeps → IsTrue (state fC.image).shape.keeps
-      on keeps = keeps_on (state image.file.image) (state fC.image) looked.going.shape keeps
+      on keeps = keeps_on (state s.file.image) (state fC.image) looked.going.shape keeps
 
-      mid-sound : order_of image.caches ≡ L2DependsOnRb → Keeps → IsSound start → IsSound mid
+      mid-sound : order_of s.caches ≡ L2DependsOnRb → Keeps → IsSound start → IsSound mid
       mid-sound order keeps sound = ((one.quiet order).holds keeps sound tt).0
 
       mid-counts : Keeps → IsSound start → (c : ℕ) → counted mid c ≡ counted start c
-      mid-counts keeps sound = counts-looked state image Run (Ok room) C fC looked keeps sound tt
+      mid-counts keeps sound = counts-looked state s.image Run (Ok room) C fC looked keeps sound tt
 
       from-ok : (r : Result Unit Fault) {X : Type 0} → r ≡ Ok tt → OnOk r X → X
       from-ok (Ok done) is x = x
@@ -191,7 +191,7 @@ module _ {S : Type 0} (state : S → StorageState) (mark at : ℕ) (image : Imag
       clusters-same : clusters_of placed h.cluster_bits ≡ clusters
       clusters-same = ap (λ l. (8 * l + (2 ^ h.cluster_bits - 1)) / 2 ^ h.cluster_bits) same
 
-      table-grown : order_of image.caches ≡ L2DependsOnRb → Keeps → IsSound start → result ≡ Ok tt → TableGrown mark at start end
+      table-grown : order_of s.caches ≡ L2DependsOnRb → Keeps → IsSound start → result ≡ Ok tt → TableGrown s.mark at start end
       table-grown order keeps sound done =
           let is : sD.table ≡ record placed { modified = false } = from-ok result done filled.table_is in
           let words : (i : ℕ) → slice_index sD.table.words i ≡ slice_index placed.words i = λ i. ap (λ (t : TableValue). slice_index t.words i) is in
@@ -204,20 +204,20 @@ module _ {S : Type 0} (state : S → StorageState) (mark at : ℕ) (image : Imag
             long = ap (λ (t : TableValue). length t.words) is ∙ plan.grown.long ∙ ap (λ k. k * words_of_cluster h) clusters-same;
             placed = ap (λ (t : TableValue). t.cluster) is ∙ plan.grown.placed;
             news = λ i lack. ap block_offset (words i) ∙ plan.grown.news i lack;
-            olds = λ i not. ap block_offset (words i) ∙ plan.grown.olds i (elim (cases_Bool (lacks image.table (counters_of_block h) room.first room.len i)) [ inl lack ↦ absurd (not lack) | inr off ↦ off ]);
+            olds = λ i not. ap block_offset (words i) ∙ plan.grown.olds i (elim (cases_Bool (lacks s.table (counters_of_block h) room.first room.len i)) [ inl lack ↦ absurd (not lack) | inr off ↦ off ]);
             counts = λ c. from-ok result done (filled.counts (order, keeps, sound) (on keeps) (mid-sound order keeps sound)) c ∙ ap (λ k. k + covers c (run_of room.first room.len)) (mid-counts keeps sound c);
           }
 
-      pub grows : GrowsTable state at (with_mark image mark) result (with_mark sD mark')
+      pub grows : GrowsTable state at s result sD
       grows = record {
         leaked = filled.leaked;
         leaks = record { none = filled.leaks.none; pinned = λ holds loose. filled.leaks.pinned (was-on holds) (looked.loose true loose) };
         step = record {
           faults = λ whole. faultless-then (one.faults tt) (filled.faults whole);
-          quiet = λ order. quietly-given (WasNotCutOff result) filled.leaked (λ _. 0) (state image.file.image) start (state sD.file.image) end (filled.shape ∙ looked.going.shape) (later_both _ _ _ looked.going.later filled.later) (λ keeps sound.
-              quietly-otherwise (WasNotCutOff result) (λ c. 0 + filled.leaked c) (λ c. 0 + 0) filled.leaked (λ _. 0) (state image.file.image) start (state sD.file.image) end (λ s c. omega arith) (λ s c used none. refl)
-              (quietly-then-given ⊤ (WasNotCutOff result) (λ _. 0) (λ _. 0) filled.leaked (λ _. 0) (state image.file.image) start (state fC.image) mid (state sD.file.image) end tt (λ s c some. refl) (one.quiet order) filled.shape filled.later
-              (λ k s s1 quiet. filled.quiet (order, keeps, sound))));
+          quiet = λ order. quietly-given (WasNotCutOff result) filled.leaked (λ _. 0) (state s.file.image) start (state sD.file.image) end (filled.shape ∙ looked.going.shape) (later_both _ _ _ looked.going.later filled.later) (λ keeps sound.
+              quietly-otherwise (WasNotCutOff result) (λ c. 0 + filled.leaked c) (λ c. 0 + 0) filled.leaked (λ _. 0) (state s.file.image) start (state sD.file.image) end (λ sound' c. omega arith) (λ sound' c used none. refl)
+              (quietly-then-given ⊤ (WasNotCutOff result) (λ _. 0) (λ _. 0) filled.leaked (λ _. 0) (state s.file.image) start (state fC.image) mid (state sD.file.image) end tt (λ sound' c some. refl) (one.quiet order) filled.shape filled.later
+              (λ keeps' sound' there quiet. filled.quiet (order, keeps, sound))));
           raised = λ order keeps sound ok c. elim (filled.raised (order, keeps, sound) (on keeps) (mid-sound order keeps sound) ok c) [
             | inl stays ↦ inl (stays ∙ mid-counts keeps sound c)
             | inr up ↦ inr (sym (mid-counts keeps sound c) ∙ up.0, up.1)
@@ -232,14 +232,14 @@ module _ {S : Type 0} (state : S → StorageState) (mark at : ℕ) (image : Imag
         barred = λ order keeps sound number is. absurd (never result number is filled.cause);
         enough = on-ok result (λ done. subst (λ (l : ℕ). IsGrownLength (words_of_cluster h) (counters_of_block h) at l) (sym (ap (λ (t : TableValue). length t.words) (from-ok result done filled.table_is) ∙ same)) long);
         mark = still;
-        waits = subst (λ (H : Header). OnOk result (sD.pending ≡ image.pending ++ table_run H.fields)) looked.header waits;
+        waits = subst (λ (H : Header). OnOk result (sD.pending ≡ s.pending ++ table_run H.fields)) looked.header waits;
         kept = kept;
-        stays = subst (λ (H : Header). IfErr result (λ fault. IsMild fault → (sD.table ≡ image.table) × (sD.file.header ≡ H))) looked.header filled.stays;
+        stays = subst (λ (H : Header). IfErr result (λ fault. IsMild fault → (sD.table ≡ s.table) × (sD.file.header ≡ H))) looked.header filled.stays;
         cause = fails-weaker _ _ (counting-allocates was-on looked.loose looked.cause) (λ same. same ∙ looked.cause) result filled.cause;
       }
         where
           was-on : Sound → Was × IsTrue (state fC.image).shape.keeps × IsSound mid
           was-on known = ((known.1, known.0, known.2), on known.0, mid-sound known.1 known.0 known.2)
 
-          never : (r : Result Unit Fault) (number : ℕ) → r ≡ Err (Limit number) → FailsFor (counting_causes (Was × IsTrue (state fC.image).shape.keeps × IsSound mid) (IsLoose image.table C) (state fC.image).faults (state sD.file.image).faults) r → ⊥
-          never r number is why = subst (λ (x : Result Unit Fault). FailsFor (counting_causes (Was × IsTrue (state fC.image).shape.keeps × IsSound mid) (IsLoose image.table C) (state fC.image).faults (state sD.file.image).faults) x) is why
+          never : (r : Result Unit Fault) (number : ℕ) → r ≡ Err (Limit number) → FailsFor (counting_causes (Was × IsTrue (state fC.image).shape.keeps × IsSound mid) (IsLoose s.table C) (state fC.image).faults (state sD.file.image).faults) r → ⊥
+          never r number is why = subst (λ (x : Result Unit Fault). FailsFor (counting_causes (Was × IsTrue (state fC.image).shape.keeps × IsSound mid) (IsLoose s.table C) (state fC.image).faults (state sD.file.image).faults) x) is why

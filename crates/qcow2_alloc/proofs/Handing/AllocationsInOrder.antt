@@ -26,7 +26,7 @@ use Rattle.qcow2_alloc.specs.HandingOut.{AllocatesClusterAt, AllocatesClusters, 
 use Rattle.qcow2_alloc.specs.HandingOutOne.{AllocatesAt}
 use Rattle.qcow2_alloc.specs.Quiet.{Metadata, IsSound, Quietly, counted}
 use Rattle.qcow2_alloc.specs.ReadyingRuns.{Allocates, IsRunCounted, IsRunTold, handed_by}
-use Rattle.qcow2_alloc.specs.State.{ImageState, lent, metadata, IsKept, with_mark, AllocatorState}
+use Rattle.qcow2_alloc.specs.State.{lent, metadata, IsKept, with_mark, AllocatorState, marked_metadata}
 use Rattle.qcow2_alloc.proofs.Causes.{cause-weaker, fails-weaker}
 use Rattle.qcow2_alloc.proofs.Blocks.BlockCreationCalls.{freeing-allocates, allocating-weaker}
 use Rattle.qcow2_alloc.proofs.Handing.CountSequences.{moved-none}
@@ -42,15 +42,15 @@ use Rattle.qcow2_alloc.proofs.Quiet.QuietFlushes.{memory-quietly, quiet-none, qu
 use Rattle.qcow2_alloc.proofs.Quiet.QuietThen.{fewer-counted, quietly-then, quietly-otherwise}
 use Rattle.qcow2_alloc.proofs.Blocks.RunProvision.{leaks-none}
 
-module _ {S : Type 0} (state : S → StorageState) (mark cluster : ℕ) (s : ImageState S) (mid : MetadataCaches S) (between : ImageFile S) where
+module _ {S : Type 0} (state : S → StorageState) (cluster : ℕ) (s : AllocatorState S) (mid : MetadataCaches S) (between : ImageFile S) where
   abbrev Start : Metadata
-  Start = metadata state s
+  Start = metadata state s.image
 
   abbrev Mid : Metadata
   Mid = metadata_of state between mid s.table s.pending
 
   -- One cluster isn't where that was refused,
-  pub at-not-announced : (fault : Fault) → Announced state s (failed fault) (lent s.table mid between s.pending) → AllocatesClusterAt state cluster (with_mark s mark) (not_handed fault) (with_mark (lent s.table mid between s.pending) mark)
+  pub at-not-announced : (fault : Fault) → Announced state s.image (failed fault) (lent s.table mid between s.pending) → AllocatesClusterAt state cluster s (not_handed fault) (with_mark (lent s.table mid between s.pending) s.mark)
   at-not-announced fault first = record {
     leaked = λ _. 0;
     leaks = leaks-none _ _ (not_handed fault);
@@ -64,18 +64,18 @@ module _ {S : Type 0} (state : S → StorageState) (mark cluster : ℕ) (s : Ima
     stays = refl;
     marked = λ keeps sound whole marked c below. let same = first.counts keeps sound whole c in let was = marked c below in omega (arith, same, was);
     order = tt;
-    shape = shape-behind state mark cluster s mid between (failed fault) (lent s.table mid between s.pending) first (moved-none between.header between.header refl) (λ any loose. loose) (record { tables = refl; blocks = refl; entries = refl });
+    shape = shape-behind state cluster s mid between (failed fault) (lent s.table mid between s.pending) first (moved-none between.header between.header refl) (λ any loose. loose) (record { tables = refl; blocks = refl; entries = refl });
     list = inl refl;
     cause = cause-weaker (freeing-allocates (λ holds. holds) (λ u. loose-all s.table s.caches u.0 u.2) refl) fault first.cause;
   }
 
   -- and else as it is under that order.
-  module _ (first : Announced state s (Ok tt) (lent s.table mid between s.pending)) (result : Result (Option FreeEntry) Fault) (s' : AllocatorState S)
-      (at : AllocatesAt state (λ m. IsBarred m mark cluster) cluster (with_mark (lent s.table mid between s.pending) mark) result s') where
+  module _ (first : Announced state s.image (Ok tt) (lent s.table mid between s.pending)) (result : Result (Option FreeEntry) Fault) (s' : AllocatorState S)
+      (at : AllocatesAt state (λ m. IsBarred m s.mark cluster) cluster (with_mark (lent s.table mid between s.pending) s.mark) result s') where
     abbrev End : Metadata
     End = metadata state s'.image
 
-    answered : (r : Result (Option FreeEntry) Fault) → IsTrue (state s.file.image).shape.keeps → IsSound Start → IfOk r (IsHandedAt (IsBarred Mid mark cluster) cluster Mid End) → IfOk r (IsHandedAt (IsBarred Start mark cluster) cluster Start End)
+    answered : (r : Result (Option FreeEntry) Fault) → IsTrue (state s.file.image).shape.keeps → IsSound Start → IfOk r (IsHandedAt (IsBarred Mid s.mark cluster) cluster Mid End) → IfOk r (IsHandedAt (IsBarred Start s.mark cluster) cluster Start End)
     answered (Ok (Some entry)) keeps sound (zero, is, unnamed, free) = (let same = first.counts keeps sound tt cluster in omega (arith, same, zero), is, unnamed, free)
     answered (Ok None) keeps sound (inl more) = inl (let same = first.counts keeps sound tt cluster in omega (arith, same, more))
     answered (Ok None) keeps sound (inr (inl stands)) = inr (inl stands)
@@ -83,22 +83,22 @@ module _ {S : Type 0} (state : S → StorageState) (mark cluster : ℕ) (s : Ima
     answered (Ok None) keeps sound (inr (inr (inr (past, number, none)))) = inr (inr (inr (
       subst (λ (H : Header). length s.table.words ≤ cluster / counters_of_block H.fields) first.header past,
       number,
-      no-place-as Start Mid first.header refl (first.counts keeps sound tt) mark (cluster / counters_of_block s.file.header.fields) number (subst (λ (H : Header). NoPlaceToGrow Mid mark (cluster / counters_of_block H.fields) number) first.header none),
+      no-place-as Start Mid first.header refl (first.counts keeps sound tt) s.mark (cluster / counters_of_block s.file.header.fields) number (subst (λ (H : Header). NoPlaceToGrow Mid s.mark (cluster / counters_of_block H.fields) number) first.header none),
     )))
     answered (Err fault) keeps sound said = tt
 
-    room-there : IsTrue (state s.file.image).shape.keeps → IsSound Start → (c : ℕ) → IsInRoomToGrow Mid mark (cluster / counters_of_block between.header.fields) c → IsInRoomToGrow Start mark (cluster / counters_of_block s.file.header.fields) c
+    room-there : IsTrue (state s.file.image).shape.keeps → IsSound Start → (c : ℕ) → IsInRoomToGrow Mid s.mark (cluster / counters_of_block between.header.fields) c → IsInRoomToGrow Start s.mark (cluster / counters_of_block s.file.header.fields) c
     room-there keeps sound c (past, begin, total, clusters, room, from, to) = (
       subst (λ (H : Header). length s.table.words ≤ cluster / counters_of_block H.fields) first.header past,
       begin,
       total,
       clusters,
-      room-as Start Mid first.header refl (first.counts keeps sound tt) mark (cluster / counters_of_block s.file.header.fields) begin total clusters (subst (λ (H : Header). IsRoomToGrow Mid mark (cluster / counters_of_block H.fields) begin total clusters) first.header room),
+      room-as Start Mid first.header refl (first.counts keeps sound tt) s.mark (cluster / counters_of_block s.file.header.fields) begin total clusters (subst (λ (H : Header). IsRoomToGrow Mid s.mark (cluster / counters_of_block H.fields) begin total clusters) first.header room),
       from,
       to,
     )
 
-    nearby : (r : Result (Option FreeEntry) Fault) → IsTrue (state s.file.image).shape.keeps → IsSound Start → IfOk r (λ _. IsTakenFor mark cluster Mid End) → IfOk r (λ _. IsTakenFor mark cluster Start End)
+    nearby : (r : Result (Option FreeEntry) Fault) → IsTrue (state s.file.image).shape.keeps → IsSound Start → IfOk r (λ _. IsTakenFor s.mark cluster Mid End) → IfOk r (λ _. IsTakenFor s.mark cluster Start End)
     nearby (Err fault) keeps sound said = tt
     nearby (Ok found) keeps sound said = λ c none more. elim (said c (let same = first.counts keeps sound tt c in omega (arith, same, none)) more) [ inl le ↦ inl le | inr room ↦ inr (room-there keeps sound c room) ]
 
@@ -106,31 +106,31 @@ module _ {S : Type 0} (state : S → StorageState) (mark cluster : ℕ) (s : Ima
     ordered (Ok found) = at.did.step.order ∙ first.order
     ordered (Err fault) = tt
 
-    pub at-announced : AllocatesClusterAt state cluster (with_mark s mark) result s'
+    pub at-announced : AllocatesClusterAt state cluster s result s'
     at-announced = record {
       leaked = at.did.leaked;
-      leaks = record { none = at.did.leaks.none; pinned = λ holds loose. let still = sound-behind state s mid between first holds.0 holds.1 in at.did.leaks.pinned (still.0, first.order, still.1) (first.loose true loose) };
+      leaks = record { none = at.did.leaks.none; pinned = λ holds loose. let still = sound-behind state s.image mid between first holds.0 holds.1 in at.did.leaks.pinned (still.0, first.order, still.1) (first.loose true loose) };
       faults = λ whole. faultless-then (first.faults tt) (at.did.step.faults whole);
-      quiet = quiet-behind state s mid between first (WasNotCutOff result) (handed_at result at.did.leaked) (state s'.file.image) End at.did.step.quiet;
-      raised = λ keeps sound whole. let still = sound-behind state s mid between first keeps sound in
-          raised-behind state s mid between first End keeps sound (at.did.step.raised first.order still.0 still.1 whole);
+      quiet = quiet-behind state s.image mid between first (WasNotCutOff result) (handed_at result at.did.leaked) (state s'.file.image) End at.did.step.quiet;
+      raised = λ keeps sound whole. let still = sound-behind state s.image mid between first keeps sound in
+          raised-behind state s.image mid between first End keeps sound (at.did.step.raised first.order still.0 still.1 whole);
       one = subst (λ (H : Header). IfOk result (IsOneAt cluster H.fields.cluster_bits)) first.header at.one;
-      answer = λ keeps sound. let still = sound-behind state s mid between first keeps sound in answered result keeps sound (at.answer first.order still.0 still.1);
-      near = λ keeps sound. let still = sound-behind state s mid between first keeps sound in nearby result keeps sound (at.near first.order still.0 still.1);
+      answer = λ keeps sound. let still = sound-behind state s.image mid between first keeps sound in answered result keeps sound (at.answer first.order still.0 still.1);
+      near = λ keeps sound. let still = sound-behind state s.image mid between first keeps sound in nearby result keeps sound (at.near first.order still.0 still.1);
       further = at.further;
       stays = at.stays;
-      marked = λ keeps sound whole marked. let still = sound-behind state s mid between first keeps sound in
-          at.marked first.order still.0 still.1 whole (marked-behind state s mid between first mark keeps sound marked);
+      marked = λ keeps sound whole marked. let still = sound-behind state s.image mid between first keeps sound in
+          at.marked first.order still.0 still.1 whole (marked-behind state s.image mid between first s.mark keeps sound marked);
       order = ordered result;
-      shape = shape-behind state mark cluster s mid between (Ok tt) s'.image first at.did.step.moved at.did.step.loose at.did.step.room;
+      shape = shape-behind state cluster s mid between (Ok tt) s'.image first at.did.step.moved at.did.step.loose at.did.step.room;
       list = subst (λ (H : Header). IsLengthenedByTable H.fields s.table s'.table s.pending s'.pending) first.header at.did.list;
-      cause = fails-weaker _ _ (allocates-behind state s mid between first (λ n full. full)) (λ same. same ∙ first.cause) result at.did.cause;
+      cause = fails-weaker _ _ (allocates-behind state s.image mid between first (λ n full. full)) (λ same. same ∙ first.cause) result at.did.cause;
     }
 
 -- Nothing was freed, and nothing has changed, for want of memory.
-memory-unfreed : {S : Type 0} (state : S → StorageState) (s : ImageState S) (mark : ℕ) → Frees state (with_mark s mark) (failed Memory) (with_mark s mark)
-memory-unfreed state s mark =
-    let m = metadata state s in
+memory-unfreed : {S : Type 0} (state : S → StorageState) (s : AllocatorState S) → Frees state s (failed Memory) s
+memory-unfreed state s =
+    let m = metadata state s.image in
     record {
       faults = λ whole. absurd whole;
       quiet = memory-quietly _ (λ _. 0) (λ _. 0) (state s.file.image) m m (λ sound whole. (sound, quiet-none m sound));
@@ -158,28 +158,28 @@ covers-inside : (c : ℕ) (e : FreeEntry) → e.first ≤ c → c < e.first + e.
 covers-inside c e above below = rw (le-leb e.first c above, lt-ltb c (e.first + e.count) below) refl
 
 -- Clusters in a row are handed out: what waits is freed first.
-module _ {S : Type 0} (state : S → StorageState) (mark n : ℕ) (is_metadata : Bool) (image : ImageState S) where
+module _ {S : Type 0} (state : S → StorageState) (n : ℕ) (is_metadata : Bool) (start : AllocatorState S) where
   abbrev First : Metadata
-  First = metadata state image
+  First = metadata state start.image
 
   -- That was refused,
-  module _ (fault : Fault) (mark1 : ℕ) (A : MetadataCaches S) (fA : ImageFile S) (pA : List FreeEntry) (frees : Frees state (with_mark image mark) (failed fault) (with_mark (lent image.table A fA pA) mark1)) (rest : IsRestInTurn image.pending pA) where
+  module _ (fault : Fault) (mark1 : ℕ) (A : MetadataCaches S) (fA : ImageFile S) (pA : List FreeEntry) (frees : Frees state start (failed fault) (with_mark (lent start.table A fA pA) mark1)) (rest : IsRestInTurn start.pending pA) where
     abbrev Rest : Metadata
-    Rest = metadata_of state fA A image.table pA
+    Rest = metadata_of state fA A start.table pA
 
-    not-limited : IsSearched (refused_run fault) → HasCause (freeing_causes (IsKept state image) (HasSpareRoom image.caches) (state image.file.image).faults (state fA.image).faults) fault → ⊥
+    not-limited : IsSearched (refused_run fault) → HasCause (freeing_causes (IsKept state start.image) (HasSpareRoom start.caches) (state start.file.image).faults (state fA.image).faults) fault → ⊥
     not-limited searched why = by-fault fault searched why
       where
-        by-fault : (f : Fault) → IsSearched (refused_run f) → HasCause (freeing_causes (IsKept state image) (HasSpareRoom image.caches) (state image.file.image).faults (state fA.image).faults) f → ⊥
+        by-fault : (f : Fault) → IsSearched (refused_run f) → HasCause (freeing_causes (IsKept state start.image) (HasSpareRoom start.caches) (state start.file.image).faults (state fA.image).faults) f → ⊥
         by-fault (Limit number) searched why = why
         by-fault f searched why = searched
 
-    pub run-not-freed : AllocatesClusters state n is_metadata (with_mark image mark) (refused_run fault) (with_mark (lent image.table A fA pA) mark1)
+    pub run-not-freed : AllocatesClusters state n is_metadata start (refused_run fault) (with_mark (lent start.table A fA pA) mark1)
     run-not-freed = record {
       leaked = λ _. 0;
       leaks = leaks-none _ _ (refused_run fault);
       faults = frees.faults;
-      quiet = quietly-weaker _ (WasNotCutOff (refused_run fault)) (λ _. 0) (λ _. 0) (state image.file.image) First (state fA.image) Rest (λ sound whole. inl whole) frees.quiet;
+      quiet = quietly-weaker _ (WasNotCutOff (refused_run fault)) (λ _. 0) (λ _. 0) (state start.file.image) First (state fA.image) Rest (λ sound whole. inl whole) frees.quiet;
       run = tt;
       unnamed = λ keeps sound. tt;
       answer = failed fault;
@@ -210,36 +210,36 @@ module _ {S : Type 0} (state : S → StorageState) (mark n : ℕ) (is_metadata :
       further = tt;
       stays = refl;
       order = tt;
-      shape = record { moved = moved-none image.file.header fA.header frees.header; loose = loose-on image.table image.caches A frees.pins frees.room.blocks; room = frees.room };
+      shape = record { moved = moved-none start.file.header fA.header frees.header; loose = loose-on start.table start.caches A frees.pins frees.room.blocks; room = frees.room };
       list = inl refl;
       cause = cause-weaker (freeing-allocates (λ holds. holds) (λ u. u.2.room) refl) fault frees.cause;
     }
 
   -- or not begun, for want of memory,
-  pub run-not-held : AllocatesClusters state n is_metadata (with_mark image mark) (refused_run Memory) (with_mark image mark)
-  run-not-held = run-not-freed Memory mark image.caches image.file image.pending (memory-unfreed state image mark) (rest-all image.pending)
+  pub run-not-held : AllocatesClusters state n is_metadata start (refused_run Memory) start
+  run-not-held = run-not-freed Memory start.mark start.caches start.file start.pending (memory-unfreed state start) (rest-all start.pending)
 
   -- or there was nothing left.
-  module _ (mark1 : ℕ) (A : MetadataCaches S) (fA : ImageFile S) (frees : Frees state (with_mark image mark) (Ok tt) (with_mark (lent image.table A fA []) mark1)) (B : MetadataCaches S) (fB : ImageFile S) where
+  module _ (mark1 : ℕ) (A : MetadataCaches S) (fA : ImageFile S) (frees : Frees state start (Ok tt) (with_mark (lent start.table A fA []) mark1)) (B : MetadataCaches S) (fB : ImageFile S) where
     abbrev Freed : Metadata
-    Freed = metadata_of state fA A image.table []
+    Freed = metadata_of state fA A start.table []
 
     abbrev Ready : Metadata
-    Ready = metadata_of state fB B image.table []
+    Ready = metadata_of state fB B start.table []
 
-    freed-loose : (any : Bool) → IsLoose image.table image.caches any → IsLoose image.table A any
-    freed-loose = loose-on image.table image.caches A frees.pins frees.room.blocks
+    freed-loose : (any : Bool) → IsLoose start.table start.caches any → IsLoose start.table A any
+    freed-loose = loose-on start.table start.caches A frees.pins frees.room.blocks
 
-    still-sound : IsTrue (state image.file.image).shape.keeps → IsSound First → IsTrue (state fA.image).shape.keeps × IsSound Freed
-    still-sound keeps sound = (keeps_on (state image.file.image) (state fA.image) frees.quiet.shape keeps, (frees.quiet.holds keeps sound (inl tt)).0)
+    still-sound : IsTrue (state start.file.image).shape.keeps → IsSound First → IsTrue (state fA.image).shape.keeps × IsSound Freed
+    still-sound keeps sound = (keeps_on (state start.file.image) (state fA.image) frees.quiet.shape keeps, (frees.quiet.holds keeps sound (inl tt)).0)
 
-    quiet-on : (ok : Type 0) (handed : ℕ → ℕ) (s : StorageState) (m : Metadata) → Quietly ok handed (λ _. 0) (state fA.image) Freed s m → Quietly ok handed (λ _. 0) (state image.file.image) First s m
+    quiet-on : (ok : Type 0) (handed : ℕ → ℕ) (s : StorageState) (m : Metadata) → Quietly ok handed (λ _. 0) (state fA.image) Freed s m → Quietly ok handed (λ _. 0) (state start.file.image) First s m
     quiet-on ok handed s m second =
-        quietly-otherwise ok (λ c. 0 + handed c) (λ c. 0 + 0) handed (λ _. 0) (state image.file.image) First s m (λ sound c. omega arith) (λ sound c used none. omega arith)
-        (quietly-then _ ok (λ _. 0) (λ _. 0) handed (λ _. 0) (state image.file.image) First (state fA.image) Freed s m (inl tt) (λ sound c some. refl) frees.quiet second)
+        quietly-otherwise ok (λ c. 0 + handed c) (λ c. 0 + 0) handed (λ _. 0) (state start.file.image) First s m (λ sound c. omega arith) (λ sound c used none. omega arith)
+        (quietly-then _ ok (λ _. 0) (λ _. 0) handed (λ _. 0) (state start.file.image) First (state fA.image) Freed s m (inl tt) (λ sound c some. refl) frees.quiet second)
 
     -- The announcement was refused,
-    pub run-not-announced : (fault : Fault) → Announced state (lent image.table A fA []) (failed fault) (lent image.table B fB []) → AllocatesClusters state n is_metadata (with_mark image mark) (refused_run fault) (with_mark (lent image.table B fB []) mark1)
+    pub run-not-announced : (fault : Fault) → Announced state (lent start.table A fA []) (failed fault) (lent start.table B fB []) → AllocatesClusters state n is_metadata start (refused_run fault) (with_mark (lent start.table B fB []) mark1)
     run-not-announced fault second = record {
       leaked = λ _. 0;
       leaks = leaks-none _ _ (refused_run fault);
@@ -252,7 +252,7 @@ module _ {S : Type 0} (state : S → StorageState) (mark n : ℕ) (is_metadata :
       at = fA;
       left = [];
       frees = frees;
-      rest = rest-none image.pending;
+      rest = rest-none start.pending;
       halted = λ other is. let e = is in absurd (cc e);
       mid = record { image = Ready; mark = mark1 };
       mid_left = refl;
@@ -276,41 +276,41 @@ module _ {S : Type 0} (state : S → StorageState) (mark n : ℕ) (is_metadata :
       stays = refl;
       order = tt;
       shape = record {
-        moved = moved-none image.file.header fB.header (second.header ∙ frees.header);
+        moved = moved-none start.file.header fB.header (second.header ∙ frees.header);
         loose = λ any loose. second.loose any (freed-loose any loose);
         room = record { tables = second.room.tables ∙ frees.room.tables; blocks = second.room.blocks ∙ frees.room.blocks; entries = second.room.entries ∙ frees.room.entries };
       };
       list = inl refl;
-      cause = cause-weaker (freeing-allocates (λ holds. still-sound holds.0 holds.1) (λ u. loose-all image.table A u.0 (freed-loose u.0 u.2)) frees.cause) fault second.cause;
+      cause = cause-weaker (freeing-allocates (λ holds. still-sound holds.0 holds.1) (λ u. loose-all start.table A u.0 (freed-loose u.0 u.2)) frees.cause) fault second.cause;
     }
       where
-        quiet : Quietly (WasNotCutOff (refused_run fault)) (λ _. 0) (λ _. 0) (state image.file.image) First (state fB.image) Ready
+        quiet : Quietly (WasNotCutOff (refused_run fault)) (λ _. 0) (λ _. 0) (state start.file.image) First (state fB.image) Ready
         quiet = quiet-on (WasNotCutOff (refused_run fault)) (λ _. 0) (state fB.image) Ready second.quiet
 
-        marked : IsTrue (state image.file.image).shape.keeps → IsSound First → WasNotCutOff (refused_run fault) → IsMarked First mark → IsMarked Ready mark1
+        marked : IsTrue (state start.file.image).shape.keeps → IsSound First → WasNotCutOff (refused_run fault) → IsMarked First start.mark → IsMarked Ready mark1
         marked keeps sound whole was c below =
             let still = still-sound keeps sound in
             let same = second.counts still.0 still.1 whole c in
             let more = frees.marked keeps sound (inl tt) was c below in
             omega (arith, same, more)
 
-        never : (f : Fault) → IsSearched (refused_run f) → HasCause (freeing_causes (IsTrue (state fA.image).shape.keeps × IsSound Freed) (IsLoose image.table A true) (state fA.image).faults (state fB.image).faults) f → ⊥
+        never : (f : Fault) → IsSearched (refused_run f) → HasCause (freeing_causes (IsTrue (state fA.image).shape.keeps × IsSound Freed) (IsLoose start.table A true) (state fA.image).faults (state fB.image).faults) f → ⊥
         never (Limit number) searched why = why
         never f searched why = searched
 
     -- or a run was searched for.
-    module _ (second : Announced state (lent image.table A fA []) (Ok tt) (lent image.table B fB [])) (result : Result FreeEntry Fault) (s' : AllocatorState S)
-        (third : Allocates state n is_metadata (with_mark (lent image.table B fB []) mark1) result s') where
+    module _ (second : Announced state (lent start.table A fA []) (Ok tt) (lent start.table B fB [])) (result : Result FreeEntry Fault) (s' : AllocatorState S)
+        (third : Allocates state n is_metadata (with_mark (lent start.table B fB []) mark1) result s') where
       abbrev Last : Metadata
       Last = metadata state s'.image
 
-      ready-sound : IsTrue (state image.file.image).shape.keeps → IsSound First → IsTrue (state fB.image).shape.keeps × IsSound Ready
-      ready-sound keeps sound = let still = still-sound keeps sound in sound-behind state (lent image.table A fA []) B fB second still.0 still.1
+      ready-sound : IsTrue (state start.file.image).shape.keeps → IsSound First → IsTrue (state fB.image).shape.keeps × IsSound Ready
+      ready-sound keeps sound = let still = still-sound keeps sound in sound-behind state (lent start.table A fA []) B fB second still.0 still.1
 
-      ready-marked : IsTrue (state image.file.image).shape.keeps → IsSound First → IsMarked First mark → IsMarked Ready mark1
-      ready-marked keeps sound marked = let still = still-sound keeps sound in marked-behind state (lent image.table A fA []) B fB second mark1 still.0 still.1 (frees.marked keeps sound (inl tt) marked)
+      ready-marked : IsTrue (state start.file.image).shape.keeps → IsSound First → IsMarked First start.mark → IsMarked Ready mark1
+      ready-marked keeps sound marked = let still = still-sound keeps sound in marked-behind state (lent start.table A fA []) B fB second mark1 still.0 still.1 (frees.marked keeps sound (inl tt) marked)
 
-      is-freed : IsTrue (state image.file.image).shape.keeps → IsSound First → IsFreed (record { image = First; mark = mark }) (record { image = Ready; mark = mark1 })
+      is-freed : IsTrue (state start.file.image).shape.keeps → IsSound First → IsFreed (marked_metadata state start) (record { image = Ready; mark = mark1 })
       is-freed keeps sound = let quiet = ((quiet-on ⊤ (λ _. 0) (state fB.image) Ready second.quiet).holds keeps sound tt).1 in record {
         sound = (ready-sound keeps sound).1;
         quiet = quiet;
@@ -321,7 +321,7 @@ module _ {S : Type 0} (state : S → StorageState) (mark n : ℕ) (is_metadata :
         marked = ready-marked keeps sound;
       }
 
-      same-shape : StaysInShape image s'.image
+      same-shape : StaysInShape start.image s'.image
       same-shape = record {
         moved = subst (λ (H : Header). MovedTable H s'.file.header) (second.header ∙ frees.header) third.step.moved;
         loose = λ any loose. third.step.loose any (second.loose any (freed-loose any loose));
@@ -331,10 +331,10 @@ module _ {S : Type 0} (state : S → StorageState) (mark n : ℕ) (is_metadata :
       abbrev RunIs : ℕ → FreeEntry → Type 0
       RunIs bits entry = (entry.count ≡ n) × (entry.metadata ≡ is_metadata) × (0 < n → (entry.first ≢ 0) × IsInReach bits (entry.first + (n - 1)))
 
-      runs : IfOk result (RunIs image.file.header.fields.cluster_bits)
+      runs : IfOk result (RunIs start.file.header.fields.cluster_bits)
       runs = subst (λ (H : Header). IfOk result (RunIs H.fields.cluster_bits)) (second.header ∙ frees.header) third.run
 
-      unnamed-run : IsTrue (state image.file.image).shape.keeps → IsSound First → (r : Result FreeEntry Fault) → result ≡ r → IfOk r (RunIs image.file.header.fields.cluster_bits) → IfOk r (IsRunCounted mark1 n Last)
+      unnamed-run : IsTrue (state start.file.image).shape.keeps → IsSound First → (r : Result FreeEntry Fault) → result ≡ r → IfOk r (RunIs start.file.header.fields.cluster_bits) → IfOk r (IsRunCounted mark1 n Last)
           → IfOk r (λ entry. (c : ℕ) → entry.first ≤ c → c < entry.first + n → counted Ready c ≡ 0) → IfOk r (AreUnnamed Last)
       unnamed-run keeps sound (Err fault) is run taken fresh = tt
       unnamed-run keeps sound (Ok entry) is run taken fresh = λ c above below.
@@ -350,13 +350,13 @@ module _ {S : Type 0} (state : S → StorageState) (mark n : ℕ) (is_metadata :
       run-ordered (Ok entry) = third.step.order ∙ second.order
       run-ordered (Err fault) = tt
 
-      pub run-announced : AllocatesClusters state n is_metadata (with_mark image mark) result s'
+      pub run-announced : AllocatesClusters state n is_metadata start result s'
       run-announced = record {
         leaked = third.leaked;
         leaks = record { none = third.leaks.none; pinned = λ holds loose. let still = ready-sound holds.0 holds.1 in third.leaks.pinned (still.0, second.order, still.1) (second.loose true (freed-loose true loose)) };
         faults = λ whole. faultless-then (frees.faults tt) (faultless-then (second.faults tt) (third.step.faults whole));
         quiet = quiet-on (WasNotCutOff result) (handed_by result third.leaked) (state s'.file.image) Last
-            (quiet-behind state (lent image.table A fA []) B fB second (WasNotCutOff result) (handed_by result third.leaked) (state s'.file.image) Last third.step.quiet);
+            (quiet-behind state (lent start.table A fA []) B fB second (WasNotCutOff result) (handed_by result third.leaked) (state s'.file.image) Last third.step.quiet);
         run = runs;
         unnamed = λ keeps sound. let still = ready-sound keeps sound in unnamed-run keeps sound result refl runs (third.taken second.order still.0 still.1) (third.fresh second.order still.0 still.1);
         answer = Ok tt;
@@ -364,7 +364,7 @@ module _ {S : Type 0} (state : S → StorageState) (mark n : ℕ) (is_metadata :
         at = fA;
         left = [];
         frees = frees;
-        rest = rest-none image.pending;
+        rest = rest-none start.pending;
         halted = λ other is. let e = is in absurd (cc e);
         mid = record { image = Ready; mark = mark1 };
         mid_left = refl;
@@ -380,8 +380,8 @@ module _ {S : Type 0} (state : S → StorageState) (mark n : ℕ) (is_metadata :
         stays = third.stays;
         order = run-ordered result;
         shape = same-shape;
-        list = subst (λ (H : Header). IsLengthenedByTable H.fields image.table s'.table [] s'.pending) (second.header ∙ frees.header) third.list;
+        list = subst (λ (H : Header). IsLengthenedByTable H.fields start.table s'.table [] s'.pending) (second.header ∙ frees.header) third.list;
         cause = fails-weaker _ _ (allocating-weaker (λ holds. still-sound holds.0 holds.1) freed-loose (λ n full keeps sound. let still = still-sound keeps sound in full still.0 still.1) frees.cause) (λ same. same ∙ frees.cause) result
-            (fails-weaker _ (allocating_causes (IsKept state (lent image.table A fA [])) (IsLoose image.table A) (λ number. IsTrue (state fA.image).shape.keeps → IsSound Freed → IsCrowded Ready mark1 n × IsRunTold Last mark1 n number) (state fA.image).faults (state s'.file.image).faults)
-            (allocates-behind state (lent image.table A fA []) B fB second (λ n full keeps sound. let still = sound-behind state (lent image.table A fA []) B fB second keeps sound in full second.order still.0 still.1)) (λ same. same ∙ second.cause) result third.cause);
+            (fails-weaker _ (allocating_causes (IsKept state (lent start.table A fA [])) (IsLoose start.table A) (λ number. IsTrue (state fA.image).shape.keeps → IsSound Freed → IsCrowded Ready mark1 n × IsRunTold Last mark1 n number) (state fA.image).faults (state s'.file.image).faults)
+            (allocates-behind state (lent start.table A fA []) B fB second (λ n full keeps sound. let still = sound-behind state (lent start.table A fA []) B fB second keeps sound in full second.order still.0 still.1)) (λ same. same ∙ second.cause) result third.cause);
       }

@@ -25,7 +25,7 @@ use Rattle.qcow2_alloc.specs.GrowingTables.{IsTakenFor}
 use Rattle.qcow2_alloc.specs.HandingOut.{handed_at, IsBarred, IsHandedAt, IsOneAt}
 use Rattle.qcow2_alloc.specs.HandingOutOne.{AllocatesAt, ReadiesCounter, leaked_by}
 use Rattle.qcow2_alloc.specs.Quiet.{Metadata, IsSound, counted}
-use Rattle.qcow2_alloc.specs.State.{ImageState, lent, metadata, IsGuarded, with_mark}
+use Rattle.qcow2_alloc.specs.State.{lent, metadata, IsGuarded, with_mark, AllocatorState}
 use Rattle.qcow2_alloc.proofs.Causes.{fails-weaker}
 use Rattle.qcow2_alloc.proofs.Blocks.BlockCreationCalls.{allocating-weaker}
 use Rattle.qcow2_alloc.proofs.Handing.CountSequences.{counted-still, allocating-none, allocating-as, allocating-then}
@@ -42,20 +42,20 @@ marked-raised m m' mark raised marked c below = counted-still m m' c raised (mar
 pub free-raised : (m m' : Metadata) (c : ℕ) → OnlyRaised m m' → counted m' c ≡ 0 → counted m c ≡ 0
 free-raised m m' c raised zero = elim (raised c) [ inl same ↦ omega (arith, same, zero) | inr up ↦ up.0 ]
 
-module _ {S : Type 0} (state : S → StorageState) (mark cluster : ℕ) (s : ImageState S) where
+module _ {S : Type 0} (state : S → StorageState) (cluster : ℕ) (s : AllocatorState S) where
   abbrev Old : Metadata
-  Old = metadata state s
+  Old = metadata state s.image
 
   abbrev Barred : Metadata → Type 0
-  Barred m = IsBarred m mark cluster
+  Barred m = IsBarred m s.mark cluster
 
   -- A cluster that words can't name isn't handed out,
-  pub out-of-reach : (IsInReach s.file.header.fields.cluster_bits cluster → ⊥) → AllocatesAt state Barred cluster (with_mark s mark) (handed_so None) (with_mark s mark)
+  pub out-of-reach : (IsInReach s.file.header.fields.cluster_bits cluster → ⊥) → AllocatesAt state Barred cluster s (handed_so None) s
   out-of-reach far = record {
     did = record {
       leaked = λ _. 0;
       leaks = leaks-none _ _ (handed_so None);
-      step = allocating-none state s;
+      step = allocating-none state s.image;
       list = inl refl;
       cause = refl;
     };
@@ -67,24 +67,25 @@ module _ {S : Type 0} (state : S → StorageState) (mark cluster : ℕ) (s : Ima
     marked = λ order keeps sound whole marked. marked;
   }
 
-  module _ (mid : ImageState S) (mid_mark : ℕ) where
+  module _ (mid : AllocatorState S) where
     abbrev Mid : Metadata
-    Mid = metadata state mid
+    Mid = metadata state mid.image
 
     -- nor one that there is no counter for,
-    pub uncounted-at : ReadiesCounter state cluster (with_mark s mark) (ready_so NoPlace) (with_mark mid mid_mark) → AllocatesAt state Barred cluster (with_mark s mark) (handed_so None) (with_mark mid mark)
+    pub uncounted-at : ReadiesCounter state cluster s (ready_so NoPlace) mid → AllocatesAt state Barred cluster s (handed_so None) mid
     uncounted-at counter = record {
       did = record { leaked = λ _. 0; leaks = leaks-none _ _ (handed_so None); step = counter.did.step; list = counter.did.list; cause = counter.did.cause };
       one = tt;
       answer = λ order keeps sound. inr (inr (counter.barred order keeps sound refl));
       near = counter.near;
-      further = refl;
+      further = counter.mark;
       stays = tt;
-      marked = λ order keeps sound whole marked. marked-raised Old Mid mark (counter.did.step.raised order keeps sound tt) marked;
+      marked = λ order keeps sound whole marked c below.
+          marked-raised Old Mid s.mark (counter.did.step.raised order keeps sound tt) marked c (let same = counter.mark in omega (arith, same, below));
     }
 
     -- nor any where that is refused.
-    pub refused-at : (fault : Fault) → ReadiesCounter state cluster (with_mark s mark) (not_ready fault) (with_mark mid mid_mark) → AllocatesAt state Barred cluster (with_mark s mark) (not_handed fault) (with_mark mid mark)
+    pub refused-at : (fault : Fault) → ReadiesCounter state cluster s (not_ready fault) mid → AllocatesAt state Barred cluster s (not_handed fault) mid
     refused-at fault counter = record {
       did = record {
         leaked = counter.did.leaked;
@@ -97,21 +98,25 @@ module _ {S : Type 0} (state : S → StorageState) (mark cluster : ℕ) (s : Ima
       answer = λ order keeps sound. tt;
       near = λ order keeps sound. tt;
       further = tt;
-      stays = refl;
-      marked = λ order keeps sound whole marked. marked-raised Old Mid mark (counter.did.step.raised order keeps sound whole) marked;
+      stays = counter.mark;
+      marked = λ order keeps sound whole marked c below.
+          marked-raised Old Mid s.mark (counter.did.step.raised order keeps sound whole) marked c (let same = counter.mark in omega (arith, same, below));
     }
 
-    module _ (counter : ReadiesCounter state cluster (with_mark s mark) (ready_so Ready) (with_mark mid mid_mark)) (result : Result (Option FreeEntry) Fault) (new : MetadataCaches S) (after : ImageFile S) (mark' : ℕ)
-        (one : AllocatesAt state (λ _. ⊥) cluster (with_mark mid mark) result (with_mark (lent mid.table new after mid.pending) mark')) where
+    module _ (counter : ReadiesCounter state cluster s (ready_so Ready) mid) (result : Result (Option FreeEntry) Fault) (new : MetadataCaches S) (after : ImageFile S) (mark' : ℕ)
+        (taken : AllocatesAt state (λ _. ⊥) cluster mid result (with_mark (lent mid.table new after mid.pending) mark')) where
+      one : AllocatesAt state (λ _. ⊥) cluster (with_mark mid.image s.mark) result (with_mark (lent mid.table new after mid.pending) mark')
+      one = subst (λ m. AllocatesAt state (λ _. ⊥) cluster (with_mark mid.image m) result (with_mark (lent mid.table new after mid.pending) mark')) counter.mark taken
+
       abbrev New : Metadata
       New = metadata_of state after new mid.table mid.pending
 
-      holds-still : IsGuarded state s → IsGuarded state mid
+      holds-still : IsGuarded state s.image → IsGuarded state mid.image
       holds-still holds = let quiet = counter.did.step.quiet holds.1 in (keeps_on (state s.file.image) (state mid.file.image) quiet.shape holds.0, counter.did.step.order ∙ holds.1, (quiet.holds holds.0 holds.2 tt).0)
 
-      both : Allocating state (WasNotCutOff result) (handed_at result one.did.leaked) s (lent mid.table new after mid.pending)
-      both = allocating-as state (WasNotCutOff result) (WasNotCutOff result) (λ c. leaked_by (ready_so Ready) counter.did.leaked c + handed_at result one.did.leaked c) (handed_at result one.did.leaked) s (lent mid.table new after mid.pending) (λ w. w) (λ c. omega arith)
-          (allocating-then state ⊤ (WasNotCutOff result) (leaked_by (ready_so Ready) counter.did.leaked) (handed_at result one.did.leaked) s mid (lent mid.table new after mid.pending) tt counter.did.step one.did.step)
+      both : Allocating state (WasNotCutOff result) (handed_at result one.did.leaked) s.image (lent mid.table new after mid.pending)
+      both = allocating-as state (WasNotCutOff result) (WasNotCutOff result) (λ c. leaked_by (ready_so Ready) counter.did.leaked c + handed_at result one.did.leaked c) (handed_at result one.did.leaked) s.image (lent mid.table new after mid.pending) (λ w. w) (λ c. omega arith)
+          (allocating-then state ⊤ (WasNotCutOff result) (leaked_by (ready_so Ready) counter.did.leaked) (handed_at result one.did.leaked) s.image mid.image (lent mid.table new after mid.pending) tt counter.did.step one.did.step)
 
       -- None is answered of a cluster that is counted by now: it was before, or something stands in it.
       taken-by : result ≡ Ok None → order_of s.caches ≡ L2DependsOnRb → IsTrue (state s.file.image).shape.keeps → IsSound Old → 0 < counted Mid cluster → (0 < counted Old cluster) ⊎ (0 < structure New.file New.header.fields (meets New.header.fields cluster))
@@ -134,7 +139,7 @@ module _ {S : Type 0} (state : S → StorageState) (mark cluster : ℕ) (s : Ima
       answered (Err fault) is order keeps sound said = tt
 
       -- What was counted anew was so for its counter, or is the cluster.
-      nearby : (r : Result (Option FreeEntry) Fault) → order_of s.caches ≡ L2DependsOnRb → IsTrue (state s.file.image).shape.keeps → IsSound Old → IfOk r (λ _. IsTakenFor mark cluster Mid New) → IfOk r (λ _. IsTakenFor mark cluster Old New)
+      nearby : (r : Result (Option FreeEntry) Fault) → order_of s.caches ≡ L2DependsOnRb → IsTrue (state s.file.image).shape.keeps → IsSound Old → IfOk r (λ _. IsTakenFor s.mark cluster Mid New) → IfOk r (λ _. IsTakenFor s.mark cluster Old New)
       nearby (Err fault) order keeps sound said = tt
       nearby (Ok found) order keeps sound said = λ c none more. elim (cases_eq (counted Mid c) 0) [
         | inr made ↦ counter.near order keeps sound c none (omega (arith, made))
@@ -150,7 +155,7 @@ module _ {S : Type 0} (state : S → StorageState) (mark cluster : ℕ) (s : Ima
               counter.there refl (ap block_offset (get_or_past mid.table.words (cluster / counters_of_block s.file.header.fields) 0 here))
 
       -- Else it is handed out where it is free.
-      pub readied-at : AllocatesAt state Barred cluster (with_mark s mark) result (with_mark (lent mid.table new after mid.pending) mark')
+      pub readied-at : AllocatesAt state Barred cluster s result (with_mark (lent mid.table new after mid.pending) mark')
       readied-at = record {
         did = record {
           leaked = one.did.leaked;
@@ -164,5 +169,5 @@ module _ {S : Type 0} (state : S → StorageState) (mark cluster : ℕ) (s : Ima
         near = λ order keeps sound. let held = holds-still (keeps, order, sound) in nearby result order keeps sound (one.near held.1 held.0 held.2);
         further = one.further;
         stays = one.stays;
-        marked = λ order keeps sound whole marked. let held = holds-still (keeps, order, sound) in one.marked held.1 held.0 held.2 whole (marked-raised Old Mid mark (counter.did.step.raised order keeps sound tt) marked);
+        marked = λ order keeps sound whole marked. let held = holds-still (keeps, order, sound) in one.marked held.1 held.0 held.2 whole (marked-raised Old Mid s.mark (counter.did.step.raised order keeps sound tt) marked);
       }

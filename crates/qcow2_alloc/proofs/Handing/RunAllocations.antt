@@ -26,7 +26,7 @@ use Rattle.qcow2_alloc.specs.Going.{WasNotCutOff}
 use Rattle.qcow2_alloc.specs.MakingRoom.{run_of}
 use Rattle.qcow2_alloc.specs.Quiet.{Metadata, IsSound, counted}
 use Rattle.qcow2_alloc.specs.ReadyingRuns.{Allocates, IsRunCounted, ReadiesRun, handed_by, mark_behind}
-use Rattle.qcow2_alloc.specs.State.{ImageState, lent, metadata, with_mark}
+use Rattle.qcow2_alloc.specs.State.{ImageState, lent, metadata, with_mark, AllocatorState}
 use Rattle.qcow2_alloc.proofs.Causes.{cause-weaker}
 use Rattle.qcow2_alloc.proofs.Blocks.BlockCreationCalls.{counting-allocates}
 use Rattle.qcow2_alloc.proofs.Handing.CountSequences.{allocating-none, allocating-as, raised-then}
@@ -106,19 +106,19 @@ lost-pinned : (sound : Type 0) (loose : Bool → Type 0) (a b : ℕ) (fault : Fa
 lost-pinned sound loose a b CacheFull first part why holds all c = absurd (why (true, λ is. holds, all))
 lost-pinned sound loose a b fault first part why holds all c = refl
 
-module _ {S : Type 0} (state : S → StorageState) (mark n : ℕ) (is_metadata : Bool) (s : ImageState S) where
+module _ {S : Type 0} (state : S → StorageState) (n : ℕ) (is_metadata : Bool) (s : AllocatorState S) where
   abbrev mA : Metadata
-  mA = metadata state s
+  mA = metadata state s.image
 
   abbrev Keeps : Type 0
   Keeps = IsTrue (state s.file.image).shape.keeps
 
   abbrev Handing : Result FreeEntry Fault → TableValue → MetadataCaches S → ImageFile S → List FreeEntry → ℕ → Type 0
-  Handing result table' new after pending' mark' = Allocates state n is_metadata (with_mark s mark) result (with_mark (lent table' new after pending') mark')
+  Handing result table' new after pending' mark' = Allocates state n is_metadata s result (with_mark (lent table' new after pending') mark')
 
   -- What can't come about hands out what you like.
   allocating-never : (ok : Type 0) (h h' : ℕ → ℕ) (s' : ImageState S) → (order_of s.caches ≡ L2DependsOnRb → Keeps → IsSound mA → ok → ⊥)
-      → Allocating state ok h s s' → Allocating state ok h' s s'
+      → Allocating state ok h s.image s' → Allocating state ok h' s.image s'
   allocating-never ok h h' s' never step = record {
     faults = step.faults;
     quiet = λ order. let quiet = step.quiet order in record { shape = quiet.shape; later = quiet.later; passes = quiet.passes; holds = λ keeps sound done. absurd (never order keeps sound done) };
@@ -131,12 +131,12 @@ module _ {S : Type 0} (state : S → StorageState) (mark n : ℕ) (is_metadata :
   }
 
   -- A run of no clusters is handed out at the mark.
-  pub none-allocated : n ≡ 0 → Handing (Ok (record { first = mark; count = n; metadata = is_metadata })) s.table s.caches s.file s.pending mark
+  pub none-allocated : n ≡ 0 → Handing (Ok (record { first = s.mark; count = n; metadata = is_metadata })) s.table s.caches s.file s.pending s.mark
   none-allocated zero = record {
     leaked = λ _. 0;
     leaks = record { none = λ other c. refl; pinned = λ holds all c. refl };
-    step = allocating-as state ⊤ ⊤ (λ _. 0) (λ c. covers c (run_of mark n)) s s (λ whole. whole) (λ c. sym (covers-outside c mark n (λ above below. omega (arith, above, below, zero))))
-        (allocating-none state s);
+    step = allocating-as state ⊤ ⊤ (λ _. 0) (λ c. covers c (run_of s.mark n)) s.image s.image (λ whole. whole) (λ c. sym (covers-outside c s.mark n (λ above below. omega (arith, above, below, zero))))
+        (allocating-none state s.image);
     run = (refl, refl, λ some. absurd (omega (arith, some, zero)));
     taken = λ order keeps sound. record {
       behind = omega arith;
@@ -144,39 +144,39 @@ module _ {S : Type 0} (state : S → StorageState) (mark n : ℕ) (is_metadata :
       least = λ z above below. absurd (omega (arith, above, below));
     };
     fresh = λ order keeps sound c above below. absurd (omega (arith, above, below, zero));
-    little = λ order keeps sound. record { early = λ roomy c above below. roomy.free c (omega (arith, above)) below; gapless = λ one. gapless-same mark mA mA (λ c. refl) };
-    moved = sym (behind-here mark n mark refl ∙ omega (arith, zero));
+    little = λ order keeps sound. record { early = λ roomy c above below. roomy.free c (omega (arith, above)) below; gapless = λ one. gapless-same s.mark mA mA (λ c. refl) };
+    moved = sym (behind-here s.mark n s.mark refl ∙ omega (arith, zero));
     stays = tt;
     marked = λ order keeps sound whole marked. marked;
     list = inl refl;
     cause = refl;
   }
 
-  module _ (sB : ImageState S) (mid_mark : ℕ) where
+  module _ (sB : AllocatorState S) where
     abbrev mB : Metadata
-    mB = metadata state sB
+    mB = metadata state sB.image
 
     -- No run was made ready.
-    pub run-refused : (fault : Fault) → ReadiesRun state n (with_mark s mark) (Err fault) (with_mark sB mid_mark) → Handing (Err fault) sB.table sB.caches sB.file sB.pending mark
+    pub run-refused : (fault : Fault) → ReadiesRun state n s (Err fault) sB → Handing (Err fault) sB.table sB.caches sB.file sB.pending sB.mark
     run-refused fault ready = record {
       leaked = ready.leaked;
       leaks = leaks-on _ _ _ _ fault ready.leaked (λ holds. holds) (λ any loose. loose) ready.leaks;
-      step = allocating-as state (WasNotCutOff {T = ℕ} (Err fault)) (WasNotCutOff {T = FreeEntry} (Err fault)) ready.leaked (handed_by (Err fault) ready.leaked) s sB (λ whole. whole) (λ c. refl) ready.step;
+      step = allocating-as state (WasNotCutOff {T = ℕ} (Err fault)) (WasNotCutOff {T = FreeEntry} (Err fault)) ready.leaked (handed_by (Err fault) ready.leaked) s.image sB.image (λ whole. whole) (λ c. refl) ready.step;
       run = tt;
       taken = λ order keeps sound. tt;
       fresh = λ order keeps sound. tt;
       little = λ order keeps sound. tt;
       moved = tt;
-      stays = refl;
-      marked = λ order keeps sound whole. marked-on mA mB mark (ready.step.raised order keeps sound whole);
+      stays = ready.mark;
+      marked = λ order keeps sound whole marked c below. marked-on mA mB s.mark (ready.step.raised order keeps sound whole) marked c (let same = ready.mark in omega (arith, same, below));
       list = ready.list;
       cause = ready.cause;
     }
 
-    module _ (first : ℕ) (ready : ReadiesRun state n (with_mark s mark) (Ok first) (with_mark sB mid_mark)) where
+    module _ (first : ℕ) (ready : ReadiesRun state n s (Ok first) sB) where
       -- So far none was handed out.
-      begun : Allocating state ⊤ (λ _. 0) s sB
-      begun = allocating-as state ⊤ ⊤ ready.leaked (λ _. 0) s sB (λ whole. whole) (leaks-ok _ _ first ready.leaked ready.leaks) ready.step
+      begun : Allocating state ⊤ (λ _. 0) s.image sB.image
+      begun = allocating-as state ⊤ ⊤ ready.leaked (λ _. 0) s.image sB.image (λ whole. whole) (leaks-ok _ _ first ready.leaked ready.leaks) ready.step
 
       free : order_of s.caches ≡ L2DependsOnRb → Keeps → IsSound mA → (c : ℕ) → first ≤ c → c < first + n → counted mB c ≡ 0
       free order keeps sound = (ready.found order keeps sound).free
@@ -206,12 +206,12 @@ module _ {S : Type 0} (state : S → StorageState) (mark n : ℕ) (is_metadata :
         mC = metadata_of state fC C sB.table sB.pending
 
         -- A part of the run is counted, each cluster of it once.
-        counted-more : (result : Result Unit Fault) (counts : CountsRun state first n sB result (lent sB.table C fC sB.pending)) → order_of s.caches ≡ L2DependsOnRb → Keeps → IsSound mA → WasNotCutOff result → (c : ℕ) → counted mC c ≡ counted mB c + covers c (run_of first counts.part)
+        counted-more : (result : Result Unit Fault) (counts : CountsRun state first n sB.image result (lent sB.table C fC sB.pending)) → order_of s.caches ≡ L2DependsOnRb → Keeps → IsSound mA → WasNotCutOff result → (c : ℕ) → counted mC c ≡ counted mB c + covers c (run_of first counts.part)
         counted-more result counts order keeps sound whole =
             let there = holds-on (keeps, order, sound) in
             counts.raised there.1 there.0 there.2 (free order keeps sound) whole
 
-        part-raised : (result : Result Unit Fault) → CountsRun state first n sB result (lent sB.table C fC sB.pending) → order_of s.caches ≡ L2DependsOnRb → Keeps → IsSound mA → WasNotCutOff result → OnlyRaised mB mC
+        part-raised : (result : Result Unit Fault) → CountsRun state first n sB.image result (lent sB.table C fC sB.pending) → order_of s.caches ≡ L2DependsOnRb → Keeps → IsSound mA → WasNotCutOff result → OnlyRaised mB mC
         part-raised result counts order keeps sound whole c =
             let more = counted-more result counts order keeps sound whole c in
             let le = counts.inside in
@@ -223,7 +223,7 @@ module _ {S : Type 0} (state : S → StorageState) (mark n : ℕ) (is_metadata :
               ]
             ]
 
-        part-allocates : (result : Result Unit Fault) (counts : CountsRun state first n sB result (lent sB.table C fC sB.pending)) → Allocating state (WasNotCutOff result) (λ c. covers c (run_of first counts.part)) s (lent sB.table C fC sB.pending)
+        part-allocates : (result : Result Unit Fault) (counts : CountsRun state first n sB.image result (lent sB.table C fC sB.pending)) → Allocating state (WasNotCutOff result) (λ c. covers c (run_of first counts.part)) s.image (lent sB.table C fC sB.pending)
         part-allocates result counts =
             let part : ℕ → ℕ = λ c. covers c (run_of first counts.part) in record {
               faults = λ whole. faultless-then (begun.faults tt) (counts.faults whole);
@@ -239,10 +239,10 @@ module _ {S : Type 0} (state : S → StorageState) (mark n : ℕ) (is_metadata :
             }
 
         abbrev Stopped : Fault → (ℕ → ℕ) → Type 0
-        Stopped f h = Allocating state (WasNotCutOff {T = FreeEntry} (Err f)) h s (lent sB.table C fC sB.pending)
+        Stopped f h = Allocating state (WasNotCutOff {T = FreeEntry} (Err f)) h s.image (lent sB.table C fC sB.pending)
 
         -- Counting is refused.
-        pub count-refused : (fault : Fault) → CountsRun state first n sB (Err fault) (lent sB.table C fC sB.pending) → Handing (Err fault) sB.table C fC sB.pending mark
+        pub count-refused : (fault : Fault) → CountsRun state first n sB.image (Err fault) (lent sB.table C fC sB.pending) → Handing (Err fault) sB.table C fC sB.pending sB.mark
         count-refused fault counts = record {
           leaked = lost fault first counts.part;
           leaks = record { none = lost-none fault first counts.part; pinned = λ holds all. lost-pinned CanCount (IsLoose sB.table sB.caches) _ _ fault first counts.part counts.cause (holds-on holds) (begun.loose true all) };
@@ -252,14 +252,15 @@ module _ {S : Type 0} (state : S → StorageState) (mark n : ℕ) (is_metadata :
           fresh = λ order keeps sound. tt;
           little = λ order keeps sound. tt;
           moved = tt;
-          stays = refl;
-          marked = λ order keeps sound whole. marked-on mA mC mark ((part-allocates (Err fault) counts).raised order keeps sound whole);
+          stays = ready.mark;
+          marked = λ order keeps sound whole marked c below.
+              marked-on mA mC s.mark ((part-allocates (Err fault) counts).raised order keeps sound whole) marked c (let same = ready.mark in omega (arith, same, below));
           list = ready.list;
           cause = cause-weaker (counting-allocates holds-on begun.loose ready.cause) fault counts.cause;
         }
           where
             stopped : (f : Fault) → HasCause (counting_causes CanCount (IsLoose sB.table sB.caches) (state sB.file.image).faults (state fC.image).faults) f → Stopped f (λ c. covers c (run_of first counts.part)) → Stopped f (handed_by (Err f) (lost f first counts.part))
-            stopped CacheFull why step = allocating-as state (WasNotCutOff {T = FreeEntry} (Err CacheFull)) (WasNotCutOff {T = FreeEntry} (Err CacheFull)) _ _ s (lent sB.table C fC sB.pending) (λ whole. whole) (λ c. refl) step
+            stopped CacheFull why step = allocating-as state (WasNotCutOff {T = FreeEntry} (Err CacheFull)) (WasNotCutOff {T = FreeEntry} (Err CacheFull)) _ _ s.image (lent sB.table C fC sB.pending) (λ whole. whole) (λ c. refl) step
             stopped Memory why step = allocating-never _ _ _ (lent sB.table C fC sB.pending) (λ order keeps sound whole. whole) step
             stopped Storage why step = allocating-never _ _ _ (lent sB.table C fC sB.pending) (λ order keeps sound whole. whole) step
             stopped DamagedTable why step = allocating-never _ _ _ (lent sB.table C fC sB.pending) (λ order keeps sound whole. why (holds-on (keeps, order, sound))) step
@@ -267,14 +268,14 @@ module _ {S : Type 0} (state : S → StorageState) (mark n : ℕ) (is_metadata :
             stopped other why step = absurd why
 
         -- All are counted.
-        module _ (counts : CountsRun state first n sB (Ok tt) (lent sB.table C fC sB.pending)) where
+        module _ (counts : CountsRun state first n sB.image (Ok tt) (lent sB.table C fC sB.pending)) where
           abbrev entry : FreeEntry
           entry = record { first = first; count = n; metadata = is_metadata }
 
           once : order_of s.caches ≡ L2DependsOnRb → Keeps → IsSound mA → (c : ℕ) → counted mC c ≡ counted mB c + covers c (run_of first n)
           once order keeps sound c = subst (λ k. counted mC c ≡ counted mB c + covers c (run_of first k)) counts.whole (counted-more (Ok tt) counts order keeps sound tt c)
 
-          run-counted : order_of s.caches ≡ L2DependsOnRb → Keeps → IsSound mA → IsRunCounted mark n mC entry
+          run-counted : order_of s.caches ≡ L2DependsOnRb → Keeps → IsSound mA → IsRunCounted s.mark n mC entry
           run-counted order keeps sound =
               let found = ready.found order keeps sound in record {
                 behind = found.behind;
@@ -292,7 +293,7 @@ module _ {S : Type 0} (state : S → StorageState) (mark n : ℕ) (is_metadata :
               }
 
           -- It is among the clusters that are enough,
-          run-early : order_of s.caches ≡ L2DependsOnRb → Keeps → IsSound mA → (roomy : IsRoomy mA mark n) (c : ℕ) → roomy.first + room_for mA.header.fields n ≤ c → c < roomy.first + roomy.total → counted mC c ≡ 0
+          run-early : order_of s.caches ≡ L2DependsOnRb → Keeps → IsSound mA → (roomy : IsRoomy mA s.mark n) (c : ℕ) → roomy.first + room_for mA.header.fields n ≤ c → c < roomy.first + roomy.total → counted mC c ≡ 0
           run-early order keeps sound roomy c above below =
               let made = ready.little order keeps sound in
               let none = made.0.early roomy c above below in
@@ -302,7 +303,7 @@ module _ {S : Type 0} (state : S → StorageState) (mark n : ℕ) (is_metadata :
               omega (arith, none, apart, more)
 
           -- and leaves no gap.
-          run-gapless : order_of s.caches ≡ L2DependsOnRb → Keeps → IsSound mA → n ≤ 1 → IsGapless mark mA mC
+          run-gapless : order_of s.caches ≡ L2DependsOnRb → Keeps → IsSound mA → n ≤ 1 → IsGapless s.mark mA mC
           run-gapless order keeps sound one c none some d from to =
               let more = once order keeps sound c in
               let still : 0 < counted mB d → 0 < counted mC d = (λ was. let more' = once order keeps sound d in omega (arith, was, more')) in
@@ -318,11 +319,11 @@ module _ {S : Type 0} (state : S → StorageState) (mark n : ℕ) (is_metadata :
                     still (subst (λ x. 0 < counted mB x) here met.3)
               ]
 
-          pub run-allocated : Handing (Ok entry) sB.table C fC sB.pending (mark_behind mark n first)
+          pub run-allocated : Handing (Ok entry) sB.table C fC sB.pending (mark_behind s.mark n first)
           run-allocated = record {
             leaked = λ _. 0;
             leaks = record { none = λ other c. refl; pinned = λ holds all c. refl };
-            step = allocating-as state ⊤ ⊤ (λ c. covers c (run_of first counts.part)) (handed_by (Ok entry) (λ _. 0)) s (lent sB.table C fC sB.pending) (λ whole. whole)
+            step = allocating-as state ⊤ ⊤ (λ c. covers c (run_of first counts.part)) (handed_by (Ok entry) (λ _. 0)) s.image (lent sB.table C fC sB.pending) (λ whole. whole)
                 (λ c. ap (λ k. covers c (run_of first k)) counts.whole) (part-allocates (Ok tt) counts);
             run = (refl, refl, λ some. (ready.some, ready.reach));
             taken = run-counted;
@@ -333,7 +334,7 @@ module _ {S : Type 0} (state : S → StorageState) (mark n : ℕ) (is_metadata :
             little = λ order keeps sound. record { early = run-early order keeps sound; gapless = run-gapless order keeps sound };
             moved = refl;
             stays = tt;
-            marked = λ order keeps sound whole. marked-behind mA mC mark n entry ((part-allocates (Ok tt) counts).raised order keeps sound tt) (run-counted order keeps sound);
+            marked = λ order keeps sound whole. marked-behind mA mC s.mark n entry ((part-allocates (Ok tt) counts).raised order keeps sound tt) (run-counted order keeps sound);
             list = ready.list;
             cause = counts.cause ∙ ready.cause;
           }

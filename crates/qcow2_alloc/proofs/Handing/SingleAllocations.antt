@@ -26,7 +26,7 @@ use Rattle.qcow2_alloc.specs.HandingOutOne.{AllocatesAt, CountsOne, counting_of}
 use Rattle.qcow2_alloc.specs.MakingRoom.{run_of}
 use Rattle.qcow2_alloc.specs.Quiet.{Metadata, IsSound, Quietly, counted, one_at}
 use Rattle.qcow2_alloc.specs.SearchingClusters.{LooksForFree}
-use Rattle.qcow2_alloc.specs.State.{ImageState, lent, metadata, IsGuarded, with_mark}
+use Rattle.qcow2_alloc.specs.State.{lent, metadata, IsGuarded, with_mark, AllocatorState}
 use Rattle.qcow2_alloc.proofs.Causes.{cause-weaker}
 use Rattle.qcow2_alloc.proofs.Blocks.BlockCreationCalls.{counting-allocates, freeing-allocates}
 use Rattle.qcow2_alloc.proofs.Flushing.Faultless.{faultless-then}
@@ -56,9 +56,9 @@ same-place (Some d) c test = elim (cases_eq d c) [
   | inr apart ↦ absurd (let unequal = ne_eqb d c apart in let yes : not (nat_eq d c) ≡ true = rw unequal refl in let both = sym test ∙ yes in cc)
 ]
 
-module _ {S : Type 0} (state : S → StorageState) (mark cluster : ℕ) (s : ImageState S) where
+module _ {S : Type 0} (state : S → StorageState) (cluster : ℕ) (s : AllocatorState S) where
   abbrev Old : Metadata
-  Old = metadata state s
+  Old = metadata state s.image
 
   abbrev k : ℕ
   k = counters_of_block s.file.header.fields
@@ -67,14 +67,14 @@ module _ {S : Type 0} (state : S → StorageState) (mark cluster : ℕ) (s : Ima
   Looks result mid between = LooksForFree state s.table cluster ((cluster / k + 1) * k) (cached_file s.caches s.file) result (cached_file mid between)
 
   -- The search was refused,
-  pub search-refused : (fault : Fault) (mid : MetadataCaches S) (between : ImageFile S) → Looks (Err fault) mid between → AllocatesAt state (λ _. ⊥) cluster (with_mark s mark) (not_handed fault) (with_mark (lent s.table mid between s.pending) mark)
+  pub search-refused : (fault : Fault) (mid : MetadataCaches S) (between : ImageFile S) → Looks (Err fault) mid between → AllocatesAt state (λ _. ⊥) cluster s (not_handed fault) (with_mark (lent s.table mid between s.pending) s.mark)
   search-refused fault mid between looks = record {
     did = record {
       leaked = λ _. 0;
       leaks = leaks-none _ _ (not_handed fault);
-      step = looked-allocates state s (Option ℕ) (Err fault) mid between looks.looked;
+      step = looked-allocates state s.image (Option ℕ) (Err fault) mid between looks.looked;
       list = inl refl;
-      cause = cause-weaker (freeing-allocates (λ holds. sound-safe state s holds.0 holds.2) (λ u. loose-all s.table s.caches u.0 u.2) refl) fault looks.looked.cause;
+      cause = cause-weaker (freeing-allocates (λ holds. sound-safe state s.image holds.0 holds.2) (λ u. loose-all s.table s.caches u.0 u.2) refl) fault looks.looked.cause;
     };
     one = tt;
     answer = λ order keeps sound. tt;
@@ -82,7 +82,7 @@ module _ {S : Type 0} (state : S → StorageState) (mark cluster : ℕ) (s : Ima
     further = tt;
     stays = refl;
     marked = λ order keeps sound whole marked c below.
-        let same = counts-looked state s (Option ℕ) (Err fault) mid between looks.looked keeps sound whole c in
+        let same = counts-looked state s.image (Option ℕ) (Err fault) mid between looks.looked keeps sound whole c in
         let was = marked c below in
         omega (arith, same, was);
   }
@@ -92,22 +92,22 @@ module _ {S : Type 0} (state : S → StorageState) (mark cluster : ℕ) (s : Ima
     Mid = metadata_of state between mid s.table s.pending
 
     counts-same : IsTrue (state s.file.image).shape.keeps → IsSound Old → (c : ℕ) → counted Mid c ≡ counted Old c
-    counts-same keeps sound c = counts-looked state s (Option ℕ) (Ok found) mid between looks.looked keeps sound tt c
+    counts-same keeps sound c = counts-looked state s.image (Option ℕ) (Ok found) mid between looks.looked keeps sound tt c
 
     -- or has found that the cluster is counted,
-    pub counted-already : found ≢ Some cluster → AllocatesAt state (λ _. ⊥) cluster (with_mark s mark) (handed_so None) (with_mark (lent s.table mid between s.pending) mark)
+    pub counted-already : found ≢ Some cluster → AllocatesAt state (λ _. ⊥) cluster s (handed_so None) (with_mark (lent s.table mid between s.pending) s.mark)
     counted-already other = record {
       did = record {
         leaked = λ _. 0;
         leaks = leaks-none _ _ (handed_so None);
-        step = looked-allocates state s (Option ℕ) (Ok found) mid between looks.looked;
+        step = looked-allocates state s.image (Option ℕ) (Ok found) mid between looks.looked;
         list = inl refl;
         cause = looks.looked.cause;
       };
       one = tt;
       answer = λ order keeps sound.
           let same = counts-same keeps sound cluster in
-          let more = counted-found state s cluster some found mid between looks keeps sound other in
+          let more = counted-found state s.image cluster some found mid between looks keeps sound other in
           inl (omega (arith, same, more));
       near = λ order keeps sound c none some'. absurd (let same = counts-same keeps sound c in omega (arith, same, none, some'));
       further = refl;
@@ -116,18 +116,18 @@ module _ {S : Type 0} (state : S → StorageState) (mark cluster : ℕ) (s : Ima
     }
 
     module _ (is : found ≡ Some cluster) (reach : IsInReach s.file.header.fields.cluster_bits cluster) (result : Result (Option FreeEntry) Fault) (new : MetadataCaches S) (after : ImageFile S) (mark' : ℕ) (counted_one : CountsOne state cluster (lent s.table mid between s.pending) result (lent s.table new after s.pending))
-        (further : IfOk result (λ o. mark' ≡ mark_past mark cluster o)) (stays : OnErr result (mark' ≡ mark)) where
+        (further : IfOk result (λ o. mark' ≡ mark_past s.mark cluster o)) (stays : OnErr result (mark' ≡ s.mark)) where
       abbrev New : Metadata
       New = metadata_of state after new s.table s.pending
 
       free : IsTrue (state s.file.image).shape.keeps → IsSound Old → counted Mid cluster ≡ 0
-      free keeps sound = free-found state s cluster some found mid between looks keeps sound is
+      free keeps sound = free-found state s.image cluster some found mid between looks keeps sound is
 
       was-free : IsTrue (state s.file.image).shape.keeps → IsSound Old → counted Old cluster ≡ 0
       was-free keeps sound = let same = counts-same keeps sound cluster in let zero = free keeps sound in omega (arith, same, zero)
 
-      looked-step : Allocating state ⊤ (λ _. 0) s (lent s.table mid between s.pending)
-      looked-step = looked-allocates state s (Option ℕ) (Ok found) mid between looks.looked
+      looked-step : Allocating state ⊤ (λ _. 0) s.image (lent s.table mid between s.pending)
+      looked-step = looked-allocates state s.image (Option ℕ) (Ok found) mid between looks.looked
 
       abbrev given : ℕ → ℕ
       given d = covers d (run_of cluster counted_one.counts.part)
@@ -177,7 +177,7 @@ module _ {S : Type 0} (state : S → StorageState) (mark cluster : ℕ) (s : Ima
                 ]
           ]
 
-      step : (handed : ℕ → ℕ) → ((c : ℕ) → given c ≡ handed c) → Allocating state (WasNotCutOff result) handed s (lent s.table new after s.pending)
+      step : (handed : ℕ → ℕ) → ((c : ℕ) → given c ≡ handed c) → Allocating state (WasNotCutOff result) handed s.image (lent s.table new after s.pending)
       step handed same = record {
         faults = λ whole. faultless-then (looked-step.faults tt) (counted_one.counts.faults (whole-as result whole));
         quiet = λ order. quietly-otherwise (WasNotCutOff result) given (λ _. 0) handed (λ _. 0) (state s.file.image) Old (state after.image) New (λ sound c. let is' = same c in omega (arith, is')) (λ sound c used none. none) (quietly order);
@@ -193,7 +193,7 @@ module _ {S : Type 0} (state : S → StorageState) (mark cluster : ℕ) (s : Ima
           (IsLoose s.table mid) (state between.image).faults (state after.image).faults) (counting_of result)
       caused = counted_one.counts.cause
 
-      knows : IsGuarded state s → IsTrue (state between.image).shape.keeps × (order_of mid ≡ L2DependsOnRb) × IsSound Mid
+      knows : IsGuarded state s.image → IsTrue (state between.image).shape.keeps × (order_of mid ≡ L2DependsOnRb) × IsSound Mid
           × ((c : ℕ) → cluster ≤ c → c < cluster + 1 → (counted Mid c ≡ 0) × (block_offset (slice_index s.table.words (c / counters_of_block between.header.fields)) ≢ 0))
       knows holds =
           let first = looked-step.quiet holds.1 in (
@@ -208,10 +208,10 @@ module _ {S : Type 0} (state : S → StorageState) (mark cluster : ℕ) (s : Ima
             ),
           )
 
-      further-marked : (mark'' : ℕ) → (mark'' ≤ mark) ⊎ ((mark'' ≡ cluster + 1) × (mark ≡ cluster) × (counted_one.counts.part ≡ 1)) → order_of s.caches ≡ L2DependsOnRb → IsTrue (state s.file.image).shape.keeps → IsSound Old → WasNotCutOff result → IsMarked Old mark → IsMarked New mark''
+      further-marked : (mark'' : ℕ) → (mark'' ≤ s.mark) ⊎ ((mark'' ≡ cluster + 1) × (s.mark ≡ cluster) × (counted_one.counts.part ≡ 1)) → order_of s.caches ≡ L2DependsOnRb → IsTrue (state s.file.image).shape.keeps → IsSound Old → WasNotCutOff result → IsMarked Old s.mark → IsMarked New mark''
       further-marked mark'' near order keeps sound whole marked c below =
           let up = counts-more order keeps sound whole c in
-          elim (cases_lt c mark) [
+          elim (cases_lt c s.mark) [
             | inl earlier ↦ let was = marked c earlier in omega (arith, up, was)
             | inr past ↦ elim near [
               | inl le ↦ absurd (omega (arith, below, le, past))
@@ -224,12 +224,12 @@ module _ {S : Type 0} (state : S → StorageState) (mark cluster : ℕ) (s : Ima
           ]
 
       -- or counted none,
-      pub refused-one : (fault : Fault) → result ≡ Err fault → AllocatesAt state (λ _. ⊥) cluster (with_mark s mark) result (with_mark (lent s.table new after s.pending) mark')
-      refused-one fault refused = subst (λ (r : Result (Option FreeEntry) Fault). AllocatesAt state (λ _. ⊥) cluster (with_mark s mark) r (with_mark (lent s.table new after s.pending) mark')) (sym refused) record {
+      pub refused-one : (fault : Fault) → result ≡ Err fault → AllocatesAt state (λ _. ⊥) cluster s result (with_mark (lent s.table new after s.pending) mark')
+      refused-one fault refused = subst (λ (r : Result (Option FreeEntry) Fault). AllocatesAt state (λ _. ⊥) cluster s r (with_mark (lent s.table new after s.pending) mark')) (sym refused) record {
         did = record {
           leaked = λ _. 0;
           leaks = leaks-none _ _ (not_handed fault);
-          step = subst (λ (r : Result (Option FreeEntry) Fault). Allocating state (WasNotCutOff r) (λ _. 0) s (lent s.table new after s.pending)) refused (step (λ _. 0) (given-none none));
+          step = subst (λ (r : Result (Option FreeEntry) Fault). Allocating state (WasNotCutOff r) (λ _. 0) s.image (lent s.table new after s.pending)) refused (step (λ _. 0) (given-none none));
           list = inl refl;
           cause = cause-weaker (counting-allocates knows looked-step.loose looks.looked.cause) fault
               (subst (λ (r : Result (Option FreeEntry) Fault). FailsFor (counting_causes (IsTrue (state between.image).shape.keeps × (order_of mid ≡ L2DependsOnRb) × IsSound Mid × ((c : ℕ) → cluster ≤ c → c < cluster + 1 → (counted Mid c ≡ 0) × (block_offset (slice_index s.table.words (c / counters_of_block between.header.fields)) ≢ 0)))
@@ -248,19 +248,19 @@ module _ {S : Type 0} (state : S → StorageState) (mark cluster : ℕ) (s : Ima
           none : counted_one.counts.part ≡ 0
           none = subst (λ (r : Result (Option FreeEntry) Fault). OnErr r (counted_one.counts.part ≡ 0)) refused counted_one.exact
 
-          mark-is : mark' ≡ mark
-          mark-is = subst (λ (r : Result (Option FreeEntry) Fault). OnErr r (mark' ≡ mark)) refused stays
+          mark-is : mark' ≡ s.mark
+          mark-is = subst (λ (r : Result (Option FreeEntry) Fault). OnErr r (mark' ≡ s.mark)) refused stays
 
       abbrev itself : FreeEntry
       itself = record { first = cluster; count = 1; metadata = false }
 
       -- or counted it, and hands it out.
-      pub handed-one : (entry : Option FreeEntry) → result ≡ Ok entry → AllocatesAt state (λ _. ⊥) cluster (with_mark s mark) result (with_mark (lent s.table new after s.pending) mark')
-      handed-one entry ok = subst (λ (r : Result (Option FreeEntry) Fault). AllocatesAt state (λ _. ⊥) cluster (with_mark s mark) r (with_mark (lent s.table new after s.pending) mark')) (sym (ok ∙ ap (λ (o : Option FreeEntry). Ok o) entry-is)) record {
+      pub handed-one : (entry : Option FreeEntry) → result ≡ Ok entry → AllocatesAt state (λ _. ⊥) cluster s result (with_mark (lent s.table new after s.pending) mark')
+      handed-one entry ok = subst (λ (r : Result (Option FreeEntry) Fault). AllocatesAt state (λ _. ⊥) cluster s r (with_mark (lent s.table new after s.pending) mark')) (sym (ok ∙ ap (λ (o : Option FreeEntry). Ok o) entry-is)) record {
         did = record {
           leaked = λ _. 0;
           leaks = leaks-none _ _ (handed_so (Some itself));
-          step = subst (λ (r : Result (Option FreeEntry) Fault). Allocating state (WasNotCutOff r) (one_at cluster) s (lent s.table new after s.pending)) ok (step (one_at cluster) (given-one one));
+          step = subst (λ (r : Result (Option FreeEntry) Fault). Allocating state (WasNotCutOff r) (one_at cluster) s.image (lent s.table new after s.pending)) ok (step (one_at cluster) (given-one one));
           list = inl refl;
           cause = faults ∙ looks.looked.cause;
         };
@@ -303,18 +303,18 @@ module _ {S : Type 0} (state : S → StorageState) (mark cluster : ℕ) (s : Ima
           faults = subst (λ (r : Result (Option FreeEntry) Fault). FailsFor (counting_causes (IsTrue (state between.image).shape.keeps × (order_of mid ≡ L2DependsOnRb) × IsSound Mid × ((c : ℕ) → cluster ≤ c → c < cluster + 1 → (counted Mid c ≡ 0) × (block_offset (slice_index s.table.words (c / counters_of_block between.header.fields)) ≢ 0)))
               (IsLoose s.table mid) (state between.image).faults (state after.image).faults) (counting_of r)) ok caused
 
-          mark-is : mark' ≡ (if cluster == mark then cluster + 1 else mark)
-          mark-is = subst (λ (o : Option FreeEntry). mark' ≡ mark_past mark cluster o) entry-is (subst (λ (r : Result (Option FreeEntry) Fault). IfOk r (λ o. mark' ≡ mark_past mark cluster o)) ok further)
+          mark-is : mark' ≡ (if cluster == s.mark then cluster + 1 else s.mark)
+          mark-is = subst (λ (o : Option FreeEntry). mark' ≡ mark_past s.mark cluster o) entry-is (subst (λ (r : Result (Option FreeEntry) Fault). IfOk r (λ o. mark' ≡ mark_past s.mark cluster o)) ok further)
 
-          near : (mark' ≤ mark) ⊎ ((mark' ≡ cluster + 1) × (mark ≡ cluster) × (counted_one.counts.part ≡ 1))
-          near = elim (cases_eq cluster mark) [
-            | inl here ↦ inr (mark-is ∙ rw (eq-eqb cluster mark here) refl, sym here, one)
-            | inr apart ↦ inl (let is' : mark' ≡ mark = mark-is ∙ rw (ne_eqb cluster mark apart) refl in omega (arith, is'))
+          near : (mark' ≤ s.mark) ⊎ ((mark' ≡ cluster + 1) × (s.mark ≡ cluster) × (counted_one.counts.part ≡ 1))
+          near = elim (cases_eq cluster s.mark) [
+            | inl here ↦ inr (mark-is ∙ rw (eq-eqb cluster s.mark here) refl, sym here, one)
+            | inr apart ↦ inl (let is' : mark' ≡ s.mark = mark-is ∙ rw (ne_eqb cluster s.mark apart) refl in omega (arith, is'))
           ]
 
-      pub counted-or-not : AllocatesAt state (λ _. ⊥) cluster (with_mark s mark) result (with_mark (lent s.table new after s.pending) mark')
+      pub counted-or-not : AllocatesAt state (λ _. ⊥) cluster s result (with_mark (lent s.table new after s.pending) mark')
       counted-or-not = by-result result refl
         where
-          by-result : (r : Result (Option FreeEntry) Fault) → result ≡ r → AllocatesAt state (λ _. ⊥) cluster (with_mark s mark) result (with_mark (lent s.table new after s.pending) mark')
+          by-result : (r : Result (Option FreeEntry) Fault) → result ≡ r → AllocatesAt state (λ _. ⊥) cluster s result (with_mark (lent s.table new after s.pending) mark')
           by-result (Ok entry) ok = handed-one entry ok
           by-result (Err fault) refused = refused-one fault refused

@@ -12,57 +12,54 @@ use Rattle.qcow2_alloc.proofs.allocation.Allocator.allocate.Goals as goal
 
 pub returns-then-eq-clause-allocates : goal.returns-then-eq-clause-allocates
 returns-then-eq-clause-allocates g c =
-    let s = seen c.args.self.now c.args.caches.now c.args.file.now c.args.list.now in
-    let mark = mark_of c.args.self.now in
+    let s = lent_to c.args.self.now c.args.caches.now c.args.file.now c.args.list.now in
     let zero = eqb-true c.args.count 0 (sym c.eq.ensures ∙ c.if-eq.true) in
-    subst (λ (e : FreeEntry). Allocates g.S.Storage.state c.args.count c.args.metadata (with_mark s mark) (Ok e) (with_mark s mark))
+    subst (λ (e : FreeEntry). Allocates g.S.Storage.state c.args.count c.args.metadata s (Ok e) s)
     (sym c.pending_run.ensures)
-    (none-allocated g.S.Storage.state mark c.args.count c.args.metadata s zero)
+    (none-allocated g.S.Storage.state c.args.count c.args.metadata s zero)
 
 pub returns-in_err-first-clause-allocates : goal.returns-in_err-first-clause-allocates
 returns-in_err-first-clause-allocates g c = rw (handed-on _ _ c.from_residual.ensures.1) (
-    let s = seen c.args.self.now c.args.caches.now c.args.file.now c.args.list.now in
+    let s = lent_to c.args.self.now c.args.caches.now c.args.file.now c.args.list.now in
     let state = g.S.Storage.state in
     let new = c.ready_run.new in
     let s' = lent_to new.self new.caches new.file new.list in
-    let ready : ReadiesRun state c.args.count (with_mark s (mark_of c.args.self.now)) (Err c.in_err-first.field-0.0) s' =
-    subst (λ (n : ℕ). ReadiesRun state n (with_mark s (mark_of c.args.self.now)) (Err c.in_err-first.field-0.0) s') c.count.view_is c.in_err-first.ensures.readies in
-    subst (λ (m : ℕ). Allocates state c.args.count c.args.metadata (with_mark s (mark_of c.args.self.now)) (Err c.in_err-first.field-0.0) (with_mark s'.image m)) (sym c.in_err-first.ensures.readies.mark)
-    (run-refused state (mark_of c.args.self.now) c.args.count c.args.metadata s s'.image s'.mark c.in_err-first.field-0.0 ready))
+    let ready : ReadiesRun state c.args.count s (Err c.in_err-first.field-0.0) s' =
+    subst (λ (n : ℕ). ReadiesRun state n s (Err c.in_err-first.field-0.0) s') c.count.view_is c.in_err-first.ensures.readies in
+    run-refused state c.args.count c.args.metadata s s' c.in_err-first.field-0.0 ready)
 
 pub returns-clause-allocates : goal.returns-clause-allocates
 returns-clause-allocates g c =
-    let s = seen c.args.self.now c.args.caches.now c.args.file.now c.args.list.now in
+    let s = lent_to c.args.self.now c.args.caches.now c.args.file.now c.args.list.now in
     let state = g.S.Storage.state in
     let mid = c.ready_run.new in
-    let between = seen mid.self mid.caches mid.file mid.list in
+    let between = lent_to mid.self mid.caches mid.file mid.list in
     let new = c.count_run.new in
     let entry : ℕ → FreeEntry = λ n. record { first = c.in_ok-first.first; count = n; metadata = c.args.metadata } in
-    let ready : ReadiesRun state c.args.count (with_mark s (mark_of c.args.self.now)) (Ok c.in_ok-first.first) (with_mark between (mark_of mid.self)) =
-    subst (λ (n : ℕ). ReadiesRun state n (with_mark s (mark_of c.args.self.now)) (Ok c.in_ok-first.first) (with_mark between (mark_of mid.self))) c.count.view_is c.in_ok-first.ensures.readies in
-    let counts : CountsRun state c.in_ok-first.first c.args.count between (Ok tt) (seen mid.self new.caches new.file mid.list) =
-    subst (λ (n : ℕ). CountsRun state c.in_ok-first.first n between (Ok tt) (seen mid.self new.caches new.file mid.list)) c.count.view_is (c.in_ok-count_run.ensures mid.list.entries) in
+    let ready : ReadiesRun state c.args.count s (Ok c.in_ok-first.first) between =
+    subst (λ (n : ℕ). ReadiesRun state n s (Ok c.in_ok-first.first) between) c.count.view_is c.in_ok-first.ensures.readies in
+    let counts : CountsRun state c.in_ok-first.first c.args.count between.image (Ok tt) (seen mid.self new.caches new.file mid.list) =
+    subst (λ (n : ℕ). CountsRun state c.in_ok-first.first n between.image (Ok tt) (seen mid.self new.caches new.file mid.list)) c.count.view_is (c.in_ok-count_run.ensures mid.list.entries) in
     let marked : c.next_mark-self.result ≡ mark_behind (mark_of c.args.self.now) c.args.count c.in_ok-first.first =
     c.next_mark-self.ensures ∙ ap (λ (n : ℕ). mark_behind (mark_of mid.self) n c.in_ok-first.first) c.count.view_is ∙ ap (λ (m : ℕ). mark_behind m c.args.count c.in_ok-first.first) c.in_ok-first.ensures.readies.mark in
-    subst (λ (m : ℕ). Allocates state c.args.count c.args.metadata (with_mark s (mark_of c.args.self.now)) (Ok c.pending_run-2.result) (with_mark (seen mid.self new.caches new.file mid.list) m)) (sym marked)
-    (subst (λ (e : FreeEntry). Allocates state c.args.count c.args.metadata (with_mark s (mark_of c.args.self.now)) (Ok e) (with_mark (seen mid.self new.caches new.file mid.list) (mark_behind (mark_of c.args.self.now) c.args.count c.in_ok-first.first)))
+    subst (λ (m : ℕ). Allocates state c.args.count c.args.metadata s (Ok c.pending_run-2.result) (with_mark (seen mid.self new.caches new.file mid.list) m)) (sym marked)
+    (subst (λ (e : FreeEntry). Allocates state c.args.count c.args.metadata s (Ok e) (with_mark (seen mid.self new.caches new.file mid.list) (mark_behind (mark_of c.args.self.now) c.args.count c.in_ok-first.first)))
     (sym (c.pending_run-2.ensures ∙ ap entry c.count.view_is))
-    (run-allocated state (mark_of c.args.self.now) c.args.count c.args.metadata s between (mark_of mid.self) c.in_ok-first.first ready new.caches new.file counts))
+    (run-allocated state c.args.count c.args.metadata s between c.in_ok-first.first ready new.caches new.file counts))
 
 pub returns-in_err-count_run-clause-allocates : goal.returns-in_err-count_run-clause-allocates
 returns-in_err-count_run-clause-allocates g c = rw (handed-on _ _ c.from_residual-in_err-count_run.ensures.1) (
-    let s = seen c.args.self.now c.args.caches.now c.args.file.now c.args.list.now in
+    let s = lent_to c.args.self.now c.args.caches.now c.args.file.now c.args.list.now in
     let state = g.S.Storage.state in
     let mid = c.ready_run.new in
-    let between = seen mid.self mid.caches mid.file mid.list in
+    let between = lent_to mid.self mid.caches mid.file mid.list in
     let new = c.count_run.new in
     let fault = c.in_err-count_run.field-0.0 in
-    let ready : ReadiesRun state c.args.count (with_mark s (mark_of c.args.self.now)) (Ok c.in_ok-first.first) (with_mark between (mark_of mid.self)) =
-    subst (λ (n : ℕ). ReadiesRun state n (with_mark s (mark_of c.args.self.now)) (Ok c.in_ok-first.first) (with_mark between (mark_of mid.self))) c.count.view_is c.in_ok-first.ensures.readies in
-    let counts : CountsRun state c.in_ok-first.first c.args.count between (Err fault) (seen mid.self new.caches new.file mid.list) =
-    subst (λ (n : ℕ). CountsRun state c.in_ok-first.first n between (Err fault) (seen mid.self new.caches new.file mid.list)) c.count.view_is (c.in_err-count_run.ensures mid.list.entries) in
-    subst (λ (m : ℕ). Allocates state c.args.count c.args.metadata (with_mark s (mark_of c.args.self.now)) (Err fault) (with_mark (seen mid.self new.caches new.file mid.list) m)) (sym c.in_ok-first.ensures.readies.mark)
-    (count-refused state (mark_of c.args.self.now) c.args.count c.args.metadata s between (mark_of mid.self) c.in_ok-first.first ready new.caches new.file fault counts))
+    let ready : ReadiesRun state c.args.count s (Ok c.in_ok-first.first) between =
+    subst (λ (n : ℕ). ReadiesRun state n s (Ok c.in_ok-first.first) between) c.count.view_is c.in_ok-first.ensures.readies in
+    let counts : CountsRun state c.in_ok-first.first c.args.count between.image (Err fault) (seen mid.self new.caches new.file mid.list) =
+    subst (λ (n : ℕ). CountsRun state c.in_ok-first.first n between.image (Err fault) (seen mid.self new.caches new.file mid.list)) c.count.view_is (c.in_err-count_run.ensures mid.list.entries) in
+    count-refused state c.args.count c.args.metadata s between c.in_ok-first.first ready new.caches new.file fault counts)
 
 pub returns-then-eq-clause-spares : goal.returns-then-eq-clause-spares
 returns-then-eq-clause-spares g c = λ not. (not, refl, refl, refl, clean-none g.S.Storage.state c.args.caches.now c.args.file.now)

@@ -19,9 +19,9 @@ returns-in_err-hold-clause-allocates g c = rw (handed-on _ _ c.from_residual.ens
     let t = table_of c.args.self.now in
     let entries = c.args.list.now.entries in
     let refused = c.in_err-hold.ensures.err in
-    subst (λ (l : FreeList). AllocatesClusterAt state c.args.cluster (with_mark (lent t c.args.caches.now c.args.file.now entries) mark) (not_handed c.in_err-hold.field-0.0) (with_mark (lent t c.args.caches.now c.args.file.now l.entries) mark)) (sym refused.1)
-    (subst (λ (f : Fault). AllocatesClusterAt state c.args.cluster (with_mark (lent t c.args.caches.now c.args.file.now entries) mark) (not_handed f) (with_mark (lent t c.args.caches.now c.args.file.now entries) mark)) (sym refused.0)
-    (at-not-announced state mark c.args.cluster (lent t c.args.caches.now c.args.file.now entries) c.args.caches.now c.args.file.now Memory (not-begun state (lent t c.args.caches.now c.args.file.now entries)))))
+    subst (λ (l : FreeList). AllocatesClusterAt state c.args.cluster (lent_to c.args.self.now c.args.caches.now c.args.file.now c.args.list.now) (not_handed c.in_err-hold.field-0.0) (lent_to c.args.self.now c.args.caches.now c.args.file.now l)) (sym refused.1)
+    (subst (λ (f : Fault). AllocatesClusterAt state c.args.cluster (lent_to c.args.self.now c.args.caches.now c.args.file.now c.args.list.now) (not_handed f) (lent_to c.args.self.now c.args.caches.now c.args.file.now c.args.list.now)) (sym refused.0)
+    (at-not-announced state c.args.cluster (lent_to c.args.self.now c.args.caches.now c.args.file.now c.args.list.now) c.args.caches.now c.args.file.now Memory (not-begun state (lent t c.args.caches.now c.args.file.now entries)))))
 
 pub returns-in-Ok-Some-clause-allocates : goal.returns-in-Ok-Some-clause-allocates
 returns-in-Ok-Some-clause-allocates g c =

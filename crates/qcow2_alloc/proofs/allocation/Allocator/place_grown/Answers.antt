@@ -11,7 +11,7 @@ use Rattle.qcow2_types.specs.Pending.{FreeEntry}
 use Rattle.qcow2_alloc.specs.FreeList.{FreeList}
 use Rattle.qcow2_alloc.specs.GrowingTables.{GrowsTable}
 use Rattle.qcow2_alloc.specs.MovingTables.{clusters_of, IsGrownFor}
-use Rattle.qcow2_alloc.specs.State.{lent, seen, with_mark}
+use Rattle.qcow2_alloc.specs.State.{lent, with_mark, lent_to}
 use Rattle.qcow2_alloc.proofs.Freeing.EntryFrees.{failed}
 use Rattle.qcow2_alloc.proofs.Growth.TableGrowth.{no-room, no-place, grows}
 use Rattle.qcow2_alloc.proofs.Growth.CopyPlaces.{whole-fill}
@@ -19,10 +19,10 @@ use Rattle.qcow2_alloc.proofs.allocation.Allocator.place_grown.Goals as goal
 
 pub returns-in-Err-clause-grows : goal.returns-in-Err-clause-grows
 returns-in-Err-clause-grows g c = λ at grown.
-    let s = seen c.args.self.now c.args.caches.now c.args.file.now c.args.list.now in
-    subst (λ (es : List FreeEntry). GrowsTable g.S.Storage.state at (with_mark s (mark_of c.args.self.now)) (failed c.in-Err.fault) (with_mark (lent (table_of c.args.self.now) c.find_room-2.new.caches c.find_room-2.new.file es) (mark_of c.args.self.now)))
+    let s = lent_to c.args.self.now c.args.caches.now c.args.file.now c.args.list.now in
+    subst (λ (es : List FreeEntry). GrowsTable g.S.Storage.state at s (failed c.in-Err.fault) (with_mark (lent (table_of c.args.self.now) c.find_room-2.new.caches c.find_room-2.new.file es) (mark_of c.args.self.now)))
     (sym (ap (λ (l : FreeList). l.entries) c.release.ensures))
-    (no-room g.S.Storage.state (mark_of c.args.self.now) at s c.in-Err.fault c.find_room-2.new.caches c.find_room-2.new.file c.in-Err.ensures.looks.looked)
+    (no-room g.S.Storage.state at s c.in-Err.fault c.find_room-2.new.caches c.find_room-2.new.file c.in-Err.ensures.looks.looked)
 
 -- A grown copy has some clusters, which its words fill,
 filled : (h : Fields) (table : TableValue) (at : ℕ) (copy : TableValue) → 9 ≤ h.cluster_bits → IsGrownFor h table at copy → clusters_of copy h.cluster_bits * words_of_cluster h ≡ length copy.words
@@ -76,9 +76,9 @@ returns-in-Ok-place_copy-clause-grows g c = λ at grown.
     let C = c.find_room-2.new in
     let D = c.enter_room.new in
     let plan = c.in-Ok-place_copy.ensures.ok in
-    grows g.S.Storage.state mark at (lent table c.args.caches.now c.args.file.now c.args.list.now.entries) c.in-Ok.room copy c.room_start-from.result c.find_room.inside.0 C.caches C.file c.in-Ok.ensures.looks
+    grows g.S.Storage.state at (lent_to c.args.self.now c.args.caches.now c.args.file.now c.args.list.now) c.in-Ok.room copy c.room_start-from.result c.find_room.inside.0 C.caches C.file c.in-Ok.ensures.looks
     (c.room_start-from.ensures ∙ ap (λ k. min mark (length table.words * k)) c.rb_bits.ensures.entries) (c.find_room.view_is ∙ c.cluster_count.ensures ∙ ap (λ b. clusters_of copy b) bits) grown.long (filled h table at copy low grown)
-    c.place_copy.new.copy plan.0 plan.1 c.enter_room.result (seen D.self D.caches D.file D.list) c.enter_room.ensures.fills c.enter_room.ensures.waits c.enter_room.ensures.kept (mark_of D.self) c.enter_room.ensures.mark
+    c.place_copy.new.copy plan.0 plan.1 c.enter_room.result (lent_to D.self D.caches D.file D.list) c.enter_room.ensures.fills c.enter_room.ensures.waits c.enter_room.ensures.kept c.enter_room.ensures.mark
 
 pub returns-in-Err-place_copy-clause-grows : goal.returns-in-Err-place_copy-clause-grows
 returns-in-Err-place_copy-clause-grows g c = λ at grown.
@@ -92,8 +92,8 @@ returns-in-Err-place_copy-clause-grows g c = λ at grown.
     let n : c.find_room.inside.0 ≡ clusters_of copy h.cluster_bits = c.find_room.view_is ∙ c.cluster_count.ensures ∙ ap (λ b. clusters_of copy b) bits in
     let one = some-clusters h table at copy low grown in
     let enough = c.in-Ok.ensures.enough in
-    subst (λ (es : List FreeEntry). GrowsTable g.S.Storage.state at (with_mark (lent table c.args.caches.now c.args.file.now c.args.list.now.entries) mark) (failed c.in-Err-place_copy.fault) (with_mark (lent table C.caches C.file es) mark))
+    subst (λ (es : List FreeEntry). GrowsTable g.S.Storage.state at (lent_to c.args.self.now c.args.caches.now c.args.file.now c.args.list.now) (failed c.in-Err-place_copy.fault) (with_mark (lent table C.caches C.file es) mark))
     (sym (ap (λ (l : FreeList). l.entries) c.release-in-Err-place_copy.ensures))
-    (no-place g.S.Storage.state mark at (lent table c.args.caches.now c.args.file.now c.args.list.now.entries) c.in-Ok.room copy c.room_start-from.result c.find_room.inside.0 C.caches C.file c.in-Ok.ensures.looks
+    (no-place g.S.Storage.state at (lent_to c.args.self.now c.args.caches.now c.args.file.now c.args.list.now) c.in-Ok.room copy c.room_start-from.result c.find_room.inside.0 C.caches C.file c.in-Ok.ensures.looks
     (c.room_start-from.ensures ∙ ap (λ k. min mark (length table.words * k)) c.rb_bits.ensures.entries) n grown.long (filled h table at copy low grown)
     c.in-Err-place_copy.fault (omega (arith, n, one, enough)) c.in-Err-place_copy.ensures.err)

@@ -18,9 +18,9 @@ returns-in_err-hold-clause-allocates g c = rw (handed-on _ _ c.from_residual.ens
     let t = table_of c.args.self.now in
     let entries = c.args.list.now.entries in
     let refused = c.in_err-hold.ensures.err in
-    subst (λ (l : FreeList). AllocatesClusters state c.args.count c.args.metadata (with_mark (lent t c.args.caches.now c.args.file.now entries) mark) (refused_run c.in_err-hold.field-0.0) (with_mark (lent t c.args.caches.now c.args.file.now l.entries) mark)) (sym refused.1)
-    (subst (λ (f : Fault). AllocatesClusters state c.args.count c.args.metadata (with_mark (lent t c.args.caches.now c.args.file.now entries) mark) (refused_run f) (with_mark (lent t c.args.caches.now c.args.file.now entries) mark)) (sym refused.0)
-    (run-not-held state mark c.args.count c.args.metadata (lent t c.args.caches.now c.args.file.now entries))))
+    subst (λ (l : FreeList). AllocatesClusters state c.args.count c.args.metadata (lent_to c.args.self.now c.args.caches.now c.args.file.now c.args.list.now) (refused_run c.in_err-hold.field-0.0) (lent_to c.args.self.now c.args.caches.now c.args.file.now l)) (sym refused.1)
+    (subst (λ (f : Fault). AllocatesClusters state c.args.count c.args.metadata (lent_to c.args.self.now c.args.caches.now c.args.file.now c.args.list.now) (refused_run f) (lent_to c.args.self.now c.args.caches.now c.args.file.now c.args.list.now)) (sym refused.0)
+    (run-not-held state c.args.count c.args.metadata (lent_to c.args.self.now c.args.caches.now c.args.file.now c.args.list.now))))
 
 pub returns-in-Ok-clause-allocates : goal.returns-in-Ok-clause-allocates
 returns-in-Ok-clause-allocates g c =
