@@ -4,11 +4,11 @@
 ghost use Rattle.std.specs.Prelude.{◌≡◌, ◌≤◌, ◌<◌, ◌-◌, ◌%◌, ◌^◌, ◌+◌, ℕ, true, Ok, Err, OnOk, OnErr, IfOk, IfErr, Some, None, slice_index, length, min, [], Result, MatchOption};
 
 use crate::cache::MetadataCaches;
-use crate::clusters_to_free::ClustersToFreeList;
+use crate::clusters_to_free::{ClustersToFreeList, PendingAllocation};
 use crate::file::{ImageFile, is_in_reach};
 use imago_storage::{Fault, Storage};
 use qcow2_metadata::{RefTable, Table};
-use qcow2_types::{ClusterCount, ClustersToFreeEntry, HostCluster, PendingClusters};
+use qcow2_types::{ClusterCount, ClustersToFreeEntry, HostCluster};
 use std::alloc::Global;
 
 mod counting;
@@ -264,8 +264,8 @@ impl Allocator {
     /// `process_clusters_to_free`; then it is announced that blocks are written before tables; and then the first run of free clusters
     /// from the mark on is counted. No table names one of them, in the file or in memory. A run of no clusters begins at the mark.
     ///
-    /// The answer is to be spent: by its `make_persistent` once a table names the clusters, and the list's `release`; or by the list's
-    /// `give_back`, for which room is held. That is held before anything else, so want of memory for it leaves all as it was.
+    /// The parts of the answer are to be spent: the clusters by their `make_persistent` once a table names them, and the room by the list's
+    /// `release`; or both by its `give_back`. The room is held before anything else, so want of memory for it leaves all as it was.
     ///
     /// It refuses with `Fault::Limit` only where a sixteenth of the space and three times the clusters asked for aren't free in a row from
     /// the mark on, so only where no quarter of it is, or more than a sixteenth is asked for. It tells the last cluster of the first free
@@ -284,7 +284,7 @@ impl Allocator {
         list: &mut ClustersToFreeList,
         count: ClusterCount,
         metadata: bool,
-    ) -> Result<PendingClusters, Fault>
+    ) -> Result<PendingAllocation, Fault>
         ensures allocates { AllocatesClusters S.state count metadata (lent_to self.old caches.old file.old list.old) result
             (lent_to self.new caches.new file.new list.new) }
         ensures held { list.new.held ≡ held_by result list.old.held }
@@ -303,7 +303,7 @@ impl Allocator {
         count: ClusterCount,
         metadata: bool,
         begun: &mut bool,
-    ) -> Result<PendingClusters, Fault>
+    ) -> Result<PendingAllocation, Fault>
         ensures allocates { AllocatesClusters S.state count metadata (lent_to self.old caches.old file.old list.old) result
             (lent_to self.new caches.new file.new list.new) }
         ensures begins { 0 < count → OnOk result (begun.new ≡ true) }
@@ -311,11 +311,11 @@ impl Allocator {
             (seen self.new caches.new file.new list.new) }
         ensures held { list.new.held ≡ held_by result list.old.held }
     {
-        list.hold()?;
+        let hold = list.hold()?;
         match self.free_and_allocate(file, caches, list, count, metadata, begun) {
-            Ok(pending) => Ok(pending),
+            Ok(pending) => Ok(PendingAllocation { pending, hold }),
             Err(fault) => {
-                list.release();
+                list.release(hold);
                 Err(fault)
             }
         }
@@ -338,20 +338,20 @@ impl Allocator {
         caches: &mut MetadataCaches<S>,
         list: &mut ClustersToFreeList,
         cluster: HostCluster,
-    ) -> Result<Option<PendingClusters>, Fault>
+    ) -> Result<Option<PendingAllocation>, Fault>
         ensures allocates { AllocatesClusterAt S.state cluster (lent_to self.old caches.old file.old list.old) result
             (lent_to self.new caches.new file.new list.new) }
         ensures held { list.new.held ≡ held_at result list.old.held }
     {
-        list.hold()?;
+        let hold = list.hold()?;
         match self.announce_and_allocate_at(file, caches, list, cluster) {
-            Ok(Some(pending)) => Ok(Some(pending)),
+            Ok(Some(pending)) => Ok(Some(PendingAllocation { pending, hold })),
             Ok(None) => {
-                list.release();
+                list.release(hold);
                 Ok(None)
             }
             Err(fault) => {
-                list.release();
+                list.release(hold);
                 Err(fault)
             }
         }
@@ -385,11 +385,11 @@ impl Allocator {
         ensures held { list.new.held ≡ list.old.held }
     {
         let copy = self.grown_copy(&file.header, index)?;
-        list.hold()?;
+        let hold = list.hold()?;
         match caches.l2_depends_on_rb(file) {
-            Ok(()) => self.place_grown(file, caches, list, copy),
+            Ok(()) => self.place_grown(file, caches, list, hold, copy),
             Err(fault) => {
-                list.release();
+                list.release(hold);
                 Err(fault)
             }
         }

@@ -1,6 +1,6 @@
 //! The list of clusters that nothing names any more and that are still counted. The list is imago's `clusters_to_free`. qemu has none:
 //! counts in its cache fall at once.
-ghost use Rattle.std.specs.Prelude.{◌≡◌, ◌==◌, ◌+◌, ◌-◌, ◌<◌, ◌≤◌, [], ◌∷◌, ◌++◌, length, OnOk, IfOk, IfErr};
+ghost use Rattle.std.specs.Prelude.{◌≡◌, ◌==◌, ◌+◌, ◌-◌, ◌<◌, ◌≤◌, [], ◌∷◌, ◌++◌, length, OnOk, IfOk, IfErr, MatchOption};
 ghost use Rattle.std.specs.List.{position, remove};
 ghost use Rattle.imago_storage.specs.declared.fault.Fault.TheVariants.{Memory};
 ghost use Rattle.qcow2_alloc.specs.FreeList.{entry_at, shortened};
@@ -11,10 +11,45 @@ use std::alloc::Global;
 use std::marker::Model;
 use std::mem;
 
+/// Room on a list for the entry of one pending allocation.
+///
+/// It can't be dropped, since nothing would end the hold: the list's `give_back` fills the room, and its `release` lets it go. It doesn't
+/// know its list: that room is held there is a condition of both. Where plain data stands for what is pending, `leave` spends it, and the
+/// list's `held_room` takes it up again.
+#[derive(Debug)]
+pub struct HeldRoom(());
+
+impl HeldRoom {
+    /// Leaves the room to its list, where it stays held.
+    pub fn leave(self) {
+        let HeldRoom(_held) = self;
+    }
+}
+
+/// Clusters that were handed out and that nothing names yet, and room on the list for their entry, in case nothing ever does. Contracts see
+/// the clusters, as of `PendingClusters`.
+///
+/// It can't be dropped: each of its parts is to be spent.
+#[derive(Debug)]
+pub struct PendingAllocation {
+    /// The clusters.
+    pub pending: PendingClusters,
+    /// The room for their entry.
+    pub hold: HeldRoom,
+}
+
+impl Model for PendingAllocation {
+    ghost use Rattle.qcow2_types.specs.Pending.{FreeEntry};
+
+    ghost Value = { FreeEntry };
+
+    ghost view = { λ a. a.pending };
+}
+
 /// Clusters that wait to be counted down, and room held for more of them.
 ///
-/// Contracts see the entries, those that came last at the end, and for how many entries more room is held: one for each pending
-/// allocation that `pending_guard` made and that neither `give_back` nor `release` followed.
+/// Contracts see the entries, those that came last at the end, and for how many entries more room is held: one for each `HeldRoom` of the
+/// list that neither `give_back` nor `release` has spent, those included that were left to it.
 ///
 /// Dropping the list spends its entries: their clusters stay counted and leak.
 #[derive(Debug)]
@@ -97,11 +132,10 @@ impl ClustersToFreeList {
         }
     }
 
-    /// Holds room for the entry of one pending allocation more, which can be made then without memory, by `PendingClusters::new`. Spend the
-    /// value as one of `pending_guard`; where none is made, let the room go by `release`.
+    /// Holds room for the entry of one pending allocation more, which can be made then without memory, by `PendingClusters::new`.
     ///
     /// Refused with `Fault::Memory` where there is no room for it, the list is as it was.
-    pub fn hold(&mut self) -> Result<(), Fault>
+    pub fn hold(&mut self) -> Result<HeldRoom, Fault>
         ensures ok { OnOk result (self.new ≡ record { entries = self.old.entries; held = self.old.held + 1 }) }
         ensures err { IfErr result (λ fault. (fault ≡ Memory) × (self.new ≡ self.old)) }
     {
@@ -109,44 +143,60 @@ impl ClustersToFreeList {
         match self.entries.reserve(held) {
             Ok(()) => {
                 self.held = held;
-                Ok(())
+                Ok(HeldRoom(()))
             }
             Err(_) => Err(Fault::Memory),
         }
     }
 
-    /// The clusters of `entry`, which are to be named, and room held for the entry, in case they never are. Spend the value by
-    /// `give_back`, which frees the clusters after all, or by its `make_persistent`, and then let the room go by `release`.
+    /// Room that was left to the list, if any is held. It is to be taken up once for each time that it was left.
+    pub fn held_room(&self) -> Option<HeldRoom>
+        ensures { MatchOption result (self.now.held ≡ 0) (λ _. 0 < self.now.held) }
+    {
+        if self.held > 0 {
+            Some(HeldRoom(()))
+        } else {
+            None
+        }
+    }
+
+    /// The clusters of `entry`, which are to be named, and room held for the entry, in case they never are. Spend both by `give_back`, which
+    /// frees the clusters after all, or the clusters by their `make_persistent` and the room by `release`.
     ///
     /// Refused with `Fault::Memory` where there is no room for it, it gives the entry back, and the list is as it was.
     pub fn pending_guard(
         &mut self,
         entry: ClustersToFreeEntry,
-    ) -> Result<PendingClusters, (Fault, ClustersToFreeEntry)>
+    ) -> Result<PendingAllocation, (Fault, ClustersToFreeEntry)>
         ensures ok { IfOk result (λ pending. (pending ≡ entry)
             × (self.new ≡ record { entries = self.old.entries; held = self.old.held + 1 })) }
         ensures err { IfErr result (λ e. (e ≡ (Memory, entry)) × (self.new ≡ self.old)) }
     {
         match self.hold() {
-            Ok(()) => Ok(PendingClusters::new(entry)),
+            Ok(hold) => {
+                let pending = PendingClusters::new(entry);
+                Ok(PendingAllocation { pending, hold })
+            }
             Err(fault) => Err((fault, entry)),
         }
     }
 
     /// Adds pending clusters that nothing will name at the end, in the room that was held for them. It takes no memory.
-    pub fn give_back(&mut self, pending: PendingClusters)
+    pub fn give_back(&mut self, hold: HeldRoom, pending: PendingClusters)
         requires { 0 < self.old.held }
         ensures { self.new ≡ record { entries = self.old.entries ++ pending ∷ []; held = self.old.held - 1 } }
     {
+        hold.leave();
         self.held -= 1;
         self.entries.push_reserved(pending.into_entry());
     }
 
     /// Lets the room for one entry go, whose clusters are named now and were spent by `make_persistent`. It takes no memory.
-    pub fn release(&mut self)
+    pub fn release(&mut self, hold: HeldRoom)
         requires { 0 < self.old.held }
         ensures { self.new ≡ record { entries = self.old.entries; held = self.old.held - 1 } }
     {
+        hold.leave();
         self.held -= 1;
     }
 

@@ -12,7 +12,7 @@ ghost use Rattle.qcow2_alloc.specs.State.{lent_to, seen};
 use crate::allocation::Allocator;
 use crate::allocation::searching::Run;
 use crate::cache::MetadataCaches;
-use crate::clusters_to_free::ClustersToFreeList;
+use crate::clusters_to_free::{ClustersToFreeList, HeldRoom};
 use crate::file::ImageFile;
 use imago_storage::{Fault, Storage};
 use qcow2_metadata::{Header, RefTable, Table};
@@ -113,8 +113,8 @@ impl Allocator {
         ensures held { list.new.held ≡ list.old.held }
     {
         let copy = self.grown_copy(&file.header, at)?;
-        list.hold()?;
-        self.place_grown(file, caches, list, copy)
+        let hold = list.hold()?;
+        self.place_grown(file, caches, list, hold, copy)
     }
 
     // Lets a copy that has grown in memory become the refcount table, in the first room for it. The list holds room for the clusters of the
@@ -124,6 +124,7 @@ impl Allocator {
         file: &mut ImageFile<S>,
         caches: &mut MetadataCaches<S>,
         list: &mut ClustersToFreeList,
+        hold: HeldRoom,
         mut copy: RefTable,
     ) -> Result<(), Fault>
         requires grown { (at : ℕ) × (length (table_of self.old).words ≤ at)
@@ -137,15 +138,15 @@ impl Allocator {
         let room = match self.find_room(file, caches, from, copy.cluster_count().0) {
             Ok(room) => room,
             Err(fault) => {
-                list.release();
+                list.release(hold);
                 return Err(fault);
             }
         };
         let taken = room;
         match self.place_copy(&mut copy, &file.header, room) {
-            Ok(()) => self.enter_room(file, caches, list, copy, taken),
+            Ok(()) => self.enter_room(file, caches, list, hold, copy, taken),
             Err(fault) => {
-                list.release();
+                list.release(hold);
                 Err(fault)
             }
         }
@@ -158,6 +159,7 @@ impl Allocator {
         file: &mut ImageFile<S>,
         caches: &mut MetadataCaches<S>,
         list: &mut ClustersToFreeList,
+        hold: HeldRoom,
         table: RefTable,
         room: Run,
     ) -> Result<(), Fault>
@@ -173,7 +175,7 @@ impl Allocator {
         let clusters = file.header.reftable_clusters();
         // No sound image has a refcount table of no clusters.
         if clusters.0 == 0 {
-            list.release();
+            list.release(hold);
             return Err(Fault::DamagedTable);
         }
         let offset = file.header.reftable_offset();
@@ -181,11 +183,11 @@ impl Allocator {
         match self.fill_room(file, caches, table, room) {
             Ok(()) => {
                 let old = ClustersToFreeEntry::metadata(first, clusters);
-                list.give_back(PendingClusters::new(old));
+                list.give_back(hold, PendingClusters::new(old));
                 Ok(())
             }
             Err(fault) => {
-                list.release();
+                list.release(hold);
                 Err(fault)
             }
         }
