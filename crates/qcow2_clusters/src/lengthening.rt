@@ -9,11 +9,11 @@ ghost use Rattle.qcow2_clusters.specs.Storing.{StoresRun, StoresRunUnsettled};
 
 use crate::making_tables::place_l1;
 use crate::space::Space;
-use crate::storing::settle_stored;
+use crate::storing::{Stored, settle_stored};
 use imago_storage::{Fault, Storage};
-use qcow2_alloc::{ClustersToFreeList, ImageFile, MetadataCaches};
+use qcow2_alloc::{ClustersToFreeList, HeldRoom, ImageFile, MetadataCaches, PendingAllocation};
 use qcow2_metadata::{L1Table, Table};
-use qcow2_types::{ClustersToFreeEntry, HostCluster, PendingClusters};
+use qcow2_types::{ClustersToFreeEntry, PendingClusters};
 use std::alloc::Global;
 
 // Writes an L1 table to clusters in a row that it allocates.
@@ -24,7 +24,7 @@ fn allocate_and_write<S: Storage>(
     space: &mut Space,
     table: &mut L1Table,
     begun: &mut bool,
-) -> Result<HostCluster, Fault>
+) -> Result<Stored, Fault>
     requires rest { AreEmpty caches.old }
     requires room { HasEntries caches.old }
     requires bits { table.old.layout.cluster_bits ≡ file.old.header.fields.cluster_bits }
@@ -41,13 +41,14 @@ fn allocate_and_write<S: Storage>(
     let pending = space
         .allocator
         .try_allocate_clusters(file, caches, &mut space.to_free, count, false, begun)?;
+    let PendingAllocation { pending, hold } = pending;
     let cluster = pending.cluster();
     let _parts = pending.into_entry().into_parts();
     table.set_cluster(cluster);
     match table.write(alloc, &mut file.image) {
-        Ok(()) => Ok(cluster),
+        Ok(()) => Ok(Stored { cluster, hold }),
         Err(fault) => {
-            space.to_free.release();
+            space.to_free.release(hold);
             Err(fault)
         }
     }
@@ -61,7 +62,7 @@ fn store_l1<S: Storage>(
     space: &mut Space,
     table: &mut L1Table,
     begun: &mut bool,
-) -> Result<HostCluster, Fault>
+) -> Result<Stored, Fault>
     requires rest { AreEmpty caches.old }
     requires room { HasEntries caches.old }
     requires bits { table.old.layout.cluster_bits ≡ file.old.header.fields.cluster_bits }
@@ -103,7 +104,7 @@ fn name_l1<S: Storage>(
 }
 
 // Puts the clusters of an L1 table behind what waits to be freed, for which room is held: where it has none the room is let go.
-fn give_up_l1(to_free: &mut ClustersToFreeList, l1: &L1Table)
+fn give_up_l1(to_free: &mut ClustersToFreeList, hold: HeldRoom, l1: &L1Table)
     requires placed { IsPlacedTable l1.now }
     requires held { 0 < to_free.old.held }
     ensures { to_free.new ≡ record {
@@ -115,9 +116,9 @@ fn give_up_l1(to_free: &mut ClustersToFreeList, l1: &L1Table)
     match l1.get_cluster() {
         Some(cluster) if l1.entries() > 0 => {
             let entry = ClustersToFreeEntry::metadata(cluster, count);
-            to_free.give_back(PendingClusters::new(entry));
+            to_free.give_back(hold, PendingClusters::new(entry));
         }
-        _ => to_free.release(),
+        _ => to_free.release(hold),
     }
 }
 
@@ -146,15 +147,19 @@ pub fn lengthen_l1<S: Storage>(
 {
     place_l1(l1, &file.header)?;
     let mut grown = l1.clone_and_grow(alloc, index, &file.header)?;
-    store_l1(alloc, file, caches, space, &mut grown, begun)?;
+    let stored = store_l1(alloc, file, caches, space, &mut grown, begun)?;
+    let Stored {
+        cluster: _cluster,
+        hold,
+    } = stored;
     match name_l1(alloc, file, &grown, l1) {
         Ok(()) => {
-            give_up_l1(&mut space.to_free, l1);
+            give_up_l1(&mut space.to_free, hold, l1);
             *l1 = grown;
             Ok(())
         }
         Err(fault) => {
-            space.to_free.release();
+            space.to_free.release(hold);
             Err(fault)
         }
     }

@@ -20,4 +20,4 @@ pub use lengthening::lengthen_l1;
 pub use making_tables::{copy_table, make_table};
 pub use naming::name_run;
 pub use space::Space;
-pub use storing::store_run;
+pub use storing::{Stored, store_run};

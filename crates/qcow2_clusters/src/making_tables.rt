@@ -10,7 +10,7 @@ ghost use Rattle.qcow2_clusters.specs.Sparing.{SparesTop};
 ghost use Rattle.qcow2_clusters.specs.MakingTables.{CopiesTable, EntersTable, FindsTable, IsClusterOf, MakesTable, PlacesL1, PlacesTable};
 
 use crate::space::Space;
-use crate::storing::store;
+use crate::storing::{Stored, store};
 use imago_storage::{Fault, Storage, StorageExt};
 use qcow2_alloc::{ImageFile, MetadataCaches};
 use qcow2_metadata::{Header, L1Table, L2Table, Table};
@@ -72,7 +72,7 @@ fn place_table<S: Storage>(
     index: usize,
     content: &[u8],
     begun: &mut bool,
-) -> Result<HostCluster, Fault>
+) -> Result<Stored, Fault>
     requires rest { AreEmpty caches.old }
     requires room { HasEntries caches.old }
     requires bounds { index < length l1.old.words }
@@ -84,12 +84,12 @@ fn place_table<S: Storage>(
 {
     place_l1(l1, &file.header)?;
     let mut table = L2Table::new_cleared(alloc, &file.header)?;
-    let cluster = store(alloc, file, caches, space, content, begun)?;
+    let Stored { cluster, hold } = store(alloc, file, caches, space, content, begun)?;
     table.set_cluster(cluster);
     match enter_table(alloc, file, l1, index, &table) {
-        Ok(()) => Ok(cluster),
+        Ok(()) => Ok(Stored { cluster, hold }),
         Err(fault) => {
-            space.to_free.release();
+            space.to_free.release(hold);
             Err(fault)
         }
     }
@@ -119,8 +119,10 @@ pub fn make_table<S: Storage>(
         (lent file.new caches.new space.new) }
 {
     let content = clear_content(alloc, &file.header)?;
-    let cluster = place_table(alloc, file, caches, space, l1, index, &content, begun)?;
-    space.to_free.release();
+    let Stored { cluster, hold } = place_table(
+        alloc, file, caches, space, l1, index, &content, begun,
+    )?;
+    space.to_free.release(hold);
     Ok(cluster)
 }
 
@@ -181,8 +183,10 @@ pub fn copy_table<S: Storage>(
         return Err(Fault::DamagedTable);
     };
     let content = read_cluster(alloc, file, old)?;
-    let cluster = place_table(alloc, file, caches, space, l1, index, &content, begun)?;
+    let Stored { cluster, hold } = place_table(
+        alloc, file, caches, space, l1, index, &content, begun,
+    )?;
     let entry = ClustersToFreeEntry::metadata(old, ClusterCount(1));
-    space.to_free.give_back(PendingClusters::new(entry));
+    space.to_free.give_back(hold, PendingClusters::new(entry));
     Ok(cluster)
 }

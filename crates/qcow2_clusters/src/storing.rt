@@ -13,9 +13,41 @@ ghost use Rattle.qcow2_clusters.specs.Storing.{ReachesEnd, ReachesRun, Stores, S
 use crate::settling::settle;
 use crate::space::Space;
 use imago_storage::{Fault, Storage, StorageExt, WriteFault};
-use qcow2_alloc::{ImageFile, MetadataCaches};
+use qcow2_alloc::{HeldRoom, ImageFile, MetadataCaches, PendingAllocation};
 use qcow2_types::{ClusterCount, HostCluster};
 use std::alloc::Global;
+use std::marker::Model;
+
+/// The first of clusters in a row in which something is stored, and room that is held for an entry on the list of clusters to free.
+/// Contracts see the cluster.
+///
+/// It can't be dropped: the room is to be spent.
+#[derive(Debug)]
+pub struct Stored {
+    /// The first of the clusters.
+    pub cluster: HostCluster,
+    /// The room for an entry.
+    pub hold: HeldRoom,
+}
+
+impl Model for Stored {
+    ghost use Rattle.std.specs.Prelude.{ℕ};
+
+    ghost Value = { ℕ };
+
+    ghost view = { λ s. s.cluster };
+}
+
+impl Stored {
+    /// The first of the clusters. The room is left to the list, where it stays held.
+    pub fn leave_room(self) -> HostCluster
+        ensures { result ≡ self }
+    {
+        let Stored { cluster, hold } = self;
+        hold.leave();
+        cluster
+    }
+}
 
 // Writes the content of a cluster that words can name. It sets `begun`, unless it is refused before any change is asked for.
 pub(crate) fn write_cluster<S: Storage>(
@@ -56,7 +88,7 @@ fn allocate_and_write<S: Storage>(
     content: &[u8],
     count: ClusterCount,
     begun: &mut bool,
-) -> Result<HostCluster, Fault>
+) -> Result<Stored, Fault>
     requires rest { AreEmpty caches.old }
     requires room { HasEntries caches.old }
     requires whole { length content.now ≡ cluster_size file.old.header.fields }
@@ -69,12 +101,13 @@ fn allocate_and_write<S: Storage>(
     let pending = space
         .allocator
         .try_allocate_clusters(file, caches, &mut space.to_free, count, false, begun)?;
+    let PendingAllocation { pending, hold } = pending;
     let cluster = pending.cluster();
     let _parts = pending.into_entry().into_parts();
     match write_cluster(alloc, file, cluster, content, begun) {
-        Ok(()) => Ok(cluster),
+        Ok(()) => Ok(Stored { cluster, hold }),
         Err(fault) => {
-            space.to_free.release();
+            space.to_free.release(hold);
             Err(fault)
         }
     }
@@ -85,8 +118,8 @@ pub(crate) fn settle_stored<S: Storage>(
     file: &mut ImageFile<S>,
     caches: &mut MetadataCaches<S>,
     space: &mut Space,
-    stored: Result<HostCluster, Fault>,
-) -> Result<HostCluster, Fault>
+    stored: Result<Stored, Fault>,
+) -> Result<Stored, Fault>
     requires loose { AreUnpinned caches.old }
     requires held { OnOk stored (0 < space.old.to_free.held) }
     ensures stores { (n : ℕ) (content : List ℕ) (c : Clusters S) → length content ≤ n * cluster_size c.file.header.fields
@@ -97,14 +130,20 @@ pub(crate) fn settle_stored<S: Storage>(
         → Spares S.state was c result now (lent file.new caches.new space.new) }
 {
     match stored {
-        Ok(cluster) => match settle(file, caches, Ok(cluster)) {
-            Ok(cluster) => Ok(cluster),
-            Err(fault) => {
-                space.to_free.release();
-                Err(fault)
+        Ok(stored) => {
+            let Stored { cluster, hold } = stored;
+            match settle(file, caches, Ok(cluster)) {
+                Ok(cluster) => Ok(Stored { cluster, hold }),
+                Err(fault) => {
+                    space.to_free.release(hold);
+                    Err(fault)
+                }
             }
+        }
+        Err(fault) => match settle::<S, HostCluster>(file, caches, Err(fault)) {
+            Ok(_cluster) => unreachable!(),
+            Err(fault) => Err(fault),
         },
-        Err(fault) => settle(file, caches, Err(fault)),
     }
 }
 
@@ -147,7 +186,7 @@ pub fn store_run<S: Storage>(
     content: &[u8],
     count: ClusterCount,
     begun: &mut bool,
-) -> Result<HostCluster, Fault>
+) -> Result<Stored, Fault>
     requires rest { AreEmpty caches.old }
     requires room { HasEntries caches.old }
     requires whole { length content.now ≡ cluster_size file.old.header.fields }
@@ -158,10 +197,11 @@ pub fn store_run<S: Storage>(
 {
     let stored = allocate_and_write(alloc, file, caches, space, content, count, begun);
     let first = settle_stored(file, caches, space, stored)?;
-    match reach_end(alloc, file, first, count) {
-        Ok(()) => Ok(first),
+    let Stored { cluster, hold } = first;
+    match reach_end(alloc, file, cluster, count) {
+        Ok(()) => Ok(Stored { cluster, hold }),
         Err(fault) => {
-            space.to_free.release();
+            space.to_free.release(hold);
             Err(fault)
         }
     }
@@ -175,7 +215,7 @@ pub(crate) fn store<S: Storage>(
     space: &mut Space,
     content: &[u8],
     begun: &mut bool,
-) -> Result<HostCluster, Fault>
+) -> Result<Stored, Fault>
     requires rest { AreEmpty caches.old }
     requires room { HasEntries caches.old }
     requires whole { length content.now ≡ cluster_size file.old.header.fields }

@@ -24,6 +24,7 @@ room_for entries held = record { entries = entries; held = held }
 pub returns-in-Ok-clause-stores : goal.returns-in-Ok-clause-stores
 returns-in-Ok-clause-stores g c =
     let state = g.S.Storage.state in
+    let first = c.cluster-cluster.ensures ∙ ap (λ (e : FreeEntry). e.first) c.pending.view_is in
     let old = lent c.args.file.now c.args.caches.now c.args.space.now in
     let h = c.args.file.now.header.fields in
     let ws = c.args.table.now.words in
@@ -35,7 +36,7 @@ returns-in-Ok-clause-stores g c =
     let bits = run-bits state old c.requires.rest c.requires.room n mid (Ok c.in_ok-pending.pending) c.in_ok-pending.ensures.allocates in
     let at : c.cluster-cluster.result * 2 ^ c.args.table.now.layout.cluster_bits ≡ c.in_ok-pending.pending.first * cluster_size
     new.file.header.fields =
-    ap (λ k. k * 2 ^ c.args.table.now.layout.cluster_bits) c.cluster-cluster.ensures ∙ ap (λ b. c.in_ok-pending.pending.first * 2 ^ b)
+    ap (λ k. k * 2 ^ c.args.table.now.layout.cluster_bits) first ∙ ap (λ b. c.in_ok-pending.pending.first * 2 ^ b)
     (c.requires.bits ∙ sym bits) in
     let put = subst (λ p. Put (state new.file.image) (state after.image) p (table_bytes ws) done_so) at
     (subst (λ (t : TableValue). Put (state new.file.image) (state after.image) (table_place t) (table_bytes t.words) done_so)
@@ -46,7 +47,7 @@ returns-in-Ok-clause-stores g c =
     some
     (table_bytes ws) long after refl put c.in_ok-pending.ensures.held in
     subst (λ k. StoresRunUnsettled state k (table_bytes ws) old (Ok c.cluster-cluster.result) (lent after new.caches (record { allocator = new.self; to_free = new.list }))) taken
-    (subst (λ k. StoresRunUnsettled state n (table_bytes ws) old (Ok k) (lent after new.caches (record { allocator = new.self; to_free = new.list }))) (sym c.cluster-cluster.ensures) stores)
+    (subst (λ k. StoresRunUnsettled state n (table_bytes ws) old (Ok k) (lent after new.caches (record { allocator = new.self; to_free = new.list }))) (sym first) stores)
 
 pub returns-in-Ok-clause-stands : goal.returns-in-Ok-clause-stands
 returns-in-Ok-clause-stands g c =
@@ -73,6 +74,7 @@ returns-in-Ok-clause-stands g c =
 pub returns-in-Err-clause-stores : goal.returns-in-Err-clause-stores
 returns-in-Err-clause-stores g c =
     let state = g.S.Storage.state in
+    let first = c.cluster-cluster.ensures ∙ ap (λ (e : FreeEntry). e.first) c.pending.view_is in
     let old = lent c.args.file.now c.args.caches.now c.args.space.now in
     let h = c.args.file.now.header.fields in
     let ws = c.args.table.now.words in
@@ -85,7 +87,7 @@ returns-in-Err-clause-stores g c =
     let bits = run-bits state old c.requires.rest c.requires.room n mid (Ok c.in_ok-pending.pending) c.in_ok-pending.ensures.allocates in
     let at : c.cluster-cluster.result * 2 ^ c.args.table.now.layout.cluster_bits ≡ c.in_ok-pending.pending.first * cluster_size
     new.file.header.fields =
-    ap (λ k. k * 2 ^ c.args.table.now.layout.cluster_bits) c.cluster-cluster.ensures ∙ ap (λ b. c.in_ok-pending.pending.first * 2 ^ b)
+    ap (λ k. k * 2 ^ c.args.table.now.layout.cluster_bits) first ∙ ap (λ b. c.in_ok-pending.pending.first * 2 ^ b)
     (c.requires.bits ∙ sym bits) in
     let put = subst (λ p. Put (state new.file.image) (state after.image) p (table_bytes ws) (refused_so fault)) at
     (subst (λ (t : TableValue). Put (state new.file.image) (state after.image) (table_place t) (table_bytes t.words) (refused_so fault))

@@ -28,15 +28,15 @@ returns-in_err-grown-clause-lengthens g c = rw (handed-on _ _ c.from_residual-in
     (λ far. c.in_err-grown.ensures.limit (omega (arith, far))) (λ near. c.in_err-grown.ensures.few (omega (arith, near)))
     (λ far. inl (far, refl))))
 
-pub returns-in_err-store_l1-clause-lengthens : goal.returns-in_err-store_l1-clause-lengthens
-returns-in_err-store_l1-clause-lengthens g c = rw (handed-on _ _ c.from_residual-in_err-store_l1.ensures.1) (
+pub returns-in_err-stored-clause-lengthens : goal.returns-in_err-stored-clause-lengthens
+returns-in_err-stored-clause-lengthens g c = rw (handed-on _ _ c.from_residual-in_err-stored.ensures.1) (
     let new = c.store_l1.new in
     let ws = c.in_ok-grown.grown.words in
     l1-not-stored g.S.Storage.state c.args.l1.now c.args.index (lent c.args.file.now c.args.caches.now c.args.space.now) (clusters_for c.args.file.now.header.fields (length ws)) (table_bytes ws)
-    c.in_err-store_l1.field-0.0 c.place_l1.new.l1 (lent new.file new.caches new.space) c.place_l1.ensures.same
+    c.in_err-stored.field-0.0 c.place_l1.new.l1 (lent new.file new.caches new.space) c.place_l1.ensures.same
     (λ long. let e = c.in_ok-grown.ensures.limit (omega (arith, long)) in absurd (cc e))
     (clusters-taken c.args.file.now.header.fields c.args.l1.now c.place_l1.new.l1 c.in_ok-grown.grown c.args.index
-    c.place_l1.ensures.same.words c.in_ok-grown.ensures.ok) c.in_err-store_l1.ensures.stores)
+    c.place_l1.ensures.same.words c.in_ok-grown.ensures.ok) c.in_err-stored.ensures.stores)
 
 abbrev room_for : List FreeEntry → ℕ → FreeList
 room_for entries held = record { entries = entries; held = held }
@@ -51,12 +51,12 @@ returns-in-Ok-clause-lengthens g c =
     let grown = c.in_ok-grown.grown in
     let left : c.give_up_l1.new.to_free ≡ _ = c.give_up_l1.ensures in
     subst (λ (l : FreeList). LengthensL1 state c.args.l1.now c.args.index old (Ok tt) new.table (lent file new.caches (record { allocator = new.space.allocator; to_free = l }))) (sym left)
-    (l1-named state c.args.l1.now c.place_l1.new.l1 grown c.args.index old c.in_ok-store_l1.field-0 c1 c.in_ok-place_l1.ensures
-    c.in_ok-grown.ensures.ok c.in_ok-store_l1.ensures.stores
-    new.table c.in_ok-store_l1.ensures.stands c.store_l1.ensures.fit (Ok tt) file c.in-Ok.ensures
+    (l1-named state c.args.l1.now c.place_l1.new.l1 grown c.args.index old c.in_ok-stored.stored c1 c.in_ok-place_l1.ensures
+    c.in_ok-grown.ensures.ok c.in_ok-stored.ensures.stores
+    new.table c.in_ok-stored.ensures.stands c.store_l1.ensures.fit (Ok tt) file c.in-Ok.ensures
     (λ long. let e = c.in_ok-grown.ensures.limit (omega (arith, long)) in absurd (cc e)) refl c.in-Ok.ensures.ok
     (new.space.to_free.held - 1)
-    (let more = c.in_ok-store_l1.ensures.stores.held in omega (arith, more)))
+    (let more = c.in_ok-stored.ensures.stores.held in omega (arith, more)))
 
 pub returns-in-Err-clause-lengthens : goal.returns-in-Err-clause-lengthens
 returns-in-Err-clause-lengthens g c =
@@ -68,12 +68,12 @@ returns-in-Err-clause-lengthens g c =
     let grown = c.in_ok-grown.grown in
     let fault = c.in-Err.fault in
     let held : new.space.to_free.held - 1 ≡ c.args.space.now.to_free.held =
-    (let more = c.in_ok-store_l1.ensures.stores.held in omega (arith, more)) in
+    (let more = c.in_ok-stored.ensures.stores.held in omega (arith, more)) in
     let left : c.release.new.self ≡ room_for new.space.to_free.entries c.args.space.now.to_free.held = c.release.ensures ∙ ap (λ (k : ℕ). room_for new.space.to_free.entries k) held in
     subst (λ (l : FreeList). LengthensL1 state c.args.l1.now c.args.index old (Err fault) c.place_l1.new.l1 (lent file new.caches (record { allocator = new.space.allocator; to_free = l }))) (sym left)
-    (l1-not-named state c.args.l1.now c.place_l1.new.l1 grown c.args.index old c.in_ok-store_l1.field-0 c1 c.in_ok-place_l1.ensures
-    c.in_ok-grown.ensures.ok c.in_ok-store_l1.ensures.stores
-    new.table c.in_ok-store_l1.ensures.stands c.store_l1.ensures.fit (Err fault) file c.in-Err.ensures
+    (l1-not-named state c.args.l1.now c.place_l1.new.l1 grown c.args.index old c.in_ok-stored.stored c1 c.in_ok-place_l1.ensures
+    c.in_ok-grown.ensures.ok c.in_ok-stored.ensures.stores
+    new.table c.in_ok-stored.ensures.stands c.store_l1.ensures.fit (Err fault) file c.in-Err.ensures
     (λ long. let e = c.in_ok-grown.ensures.limit (omega (arith, long)) in absurd (cc e)) fault refl
     (record { allocator = new.space.allocator; to_free = room_for new.space.to_free.entries c.args.space.now.to_free.held }) refl
     c.in-Err.ensures.err)
@@ -91,15 +91,15 @@ returns-in_err-grown-clause-spares g c = rw (handed-on _ _ c.from_residual-in_er
 ))
 
 -- Once the longer table is stored it has begun.
-pub returns-in_err-store_l1-clause-spares : goal.returns-in_err-store_l1-clause-spares
-returns-in_err-store_l1-clause-spares g c = rw (handed-on _ _ c.from_residual-in_err-store_l1.ensures.1) (λ not.
-    let spared = c.in_err-store_l1.ensures.spares not in (
+pub returns-in_err-stored-clause-spares : goal.returns-in_err-stored-clause-spares
+returns-in_err-stored-clause-spares g c = rw (handed-on _ _ c.from_residual-in_err-stored.ensures.1) (λ not.
+    let spared = c.in_err-stored.ensures.spares not in (
       record { unbegun = spared.unbegun; refused = tt; kept = spared.kept; header = spared.header; space = spared.space },
       c.place_l1.ensures.same,
     ))
 
 pub returns-in-Ok-clause-spares : goal.returns-in-Ok-clause-spares
-returns-in-Ok-clause-spares g c = λ not. absurd (c.in_ok-store_l1.ensures.spares not).refused
+returns-in-Ok-clause-spares g c = λ not. absurd (c.in_ok-stored.ensures.spares not).refused
 
 pub returns-in-Err-clause-spares : goal.returns-in-Err-clause-spares
-returns-in-Err-clause-spares g c = λ not. absurd (c.in_ok-store_l1.ensures.spares not).refused
+returns-in-Err-clause-spares g c = λ not. absurd (c.in_ok-stored.ensures.spares not).refused

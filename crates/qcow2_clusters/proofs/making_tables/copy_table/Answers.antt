@@ -1,10 +1,10 @@
-use Rattle.std.proofs.Common.{◌∙◌, ◌-◌, ◌++◌, ◌∷◌, [], refl, ap, arith, sym, subst, Ok, Err}
+use Rattle.std.proofs.Common.{ℕ, ◌∙◌, ◌-◌, ◌++◌, ◌∷◌, [], refl, ap, arith, sym, subst, Ok, Err}
 use Rattle.std.specs.Prelude.{slice_index}
 use Rattle.imago_storage.proofs.Composing.{kept_same}
 use Rattle.imago_storage.specs.declared.fault.Fault.TheVariants.{DamagedTable}
 use Rattle.qcow2_types.specs.Pending.{FreeEntry}
 use Rattle.qcow2_alloc.specs.FreeList.{FreeList}
-use Rattle.qcow2_clusters.specs.MakingTables.{CopiesTable, FindsTable, IsClusterOf}
+use Rattle.qcow2_clusters.specs.MakingTables.{CopiesTable, FindsTable, IsClusterOf, PlacesTable}
 use Rattle.qcow2_clusters.specs.Rest.{lent}
 use Rattle.qcow2_clusters.proofs.EarlyRefusals.{nothing-begun, spared-behind, words-same}
 use Rattle.qcow2_clusters.proofs.TableCopies.{content-behind, copied-so, found-behind, none-found, not-copied, not-found, not-read, read-before}
@@ -39,8 +39,9 @@ returns-clause-copies g c =
     let mid = lent file c.args.caches.now c.args.space.now in
     let new = c.place_table.new in
     let l1 = c.args.l1.now in
-    let t = c.in_ok-cluster.cluster in
-    let places = c.in_ok-cluster.ensures.places in
+    let t = c.cluster.inside.cluster in
+    let places = subst (λ (n : ℕ). PlacesTable state c.deref.result.now l1 c.args.index mid (Ok n) new.l1 (lent new.file new.caches new.space))
+    (sym c.cluster.view_is) c.in_ok-cluster.ensures.places in
     let finds = found-behind state old file image read.header l1 c.args.index c.in-Some.old c.in-Some.ensures in
     let is = content-behind state old file image read.header l1 c.args.index c.in-Some.old c.deref.result.now
     (subst (IsClusterOf (state c.args.file.now.image).bytes c.args.file.now.header.fields c.in-Some.old) (sym c.deref.ensures.value)

@@ -21,14 +21,17 @@ returns-clause-makes g c =
     let state = g.S.Storage.state in
     let old = lent c.args.file.now c.args.caches.now c.args.space.now in
     let new = c.place_table.new in
+    let t = c.cluster.inside.cluster in
     let places : PlacesTable state (replicate (cluster_size c.args.file.now.header.fields) 0) c.args.l1.now c.args.index old
-    (Ok c.in_ok-cluster.cluster) new.l1 (lent new.file new.caches new.space) =
-    subst (λ (l : List ℕ). PlacesTable state l c.args.l1.now c.args.index old (Ok c.in_ok-cluster.cluster) new.l1
-    (lent new.file new.caches new.space)) (c.deref.ensures.value ∙ c.in_ok-content.ensures.ok) c.in_ok-cluster.ensures.places in
+    (Ok t) new.l1 (lent new.file new.caches new.space) =
+    subst (λ (l : List ℕ). PlacesTable state l c.args.l1.now c.args.index old (Ok t) new.l1
+    (lent new.file new.caches new.space)) (c.deref.ensures.value ∙ c.in_ok-content.ensures.ok)
+    (subst (λ (n : ℕ). PlacesTable state c.deref.result.now c.args.l1.now c.args.index old (Ok n) new.l1
+    (lent new.file new.caches new.space)) (sym c.cluster.view_is) c.in_ok-cluster.ensures.places) in
     let more = places.held in
-    subst (λ (l : FreeList). MakesTable state c.args.l1.now c.args.index old (Ok c.in_ok-cluster.cluster) new.l1
+    subst (λ (l : FreeList). MakesTable state c.args.l1.now c.args.index old (Ok t) new.l1
     (lent new.file new.caches (record { allocator = new.space.allocator; to_free = l }))) (sym c.release.ensures)
-    (made state c.args.l1.now c.args.index old c.in_ok-cluster.cluster new.l1 (lent new.file new.caches new.space)
+    (made state c.args.l1.now c.args.index old t new.l1 (lent new.file new.caches new.space)
     (new.space.to_free.held - 1) (omega (arith, more)) places)
 
 pub returns-in_err-cluster-clause-makes : goal.returns-in_err-cluster-clause-makes

@@ -1,4 +1,4 @@
-use Rattle.std.proofs.Common.{◌≡◌, ◌∙◌, ◌*◌, ◌^◌, ℕ, refl, ap, arith, sym, subst, Option, Some, true, inl, inr}
+use Rattle.std.proofs.Common.{◌≡◌, ◌∙◌, ◌*◌, ◌^◌, ℕ, refl, ap, arith, sym, subst, Option, Ok, Some, true, inl, inr}
 use Rattle.std.proofs.lemmas.Nat.{pow_pos}
 use Rattle.qcow2_types.specs.Header.{Fields, cluster_size, layout_of}
 use Rattle.qcow2_types.specs.Words.{Layout}
@@ -7,6 +7,7 @@ use Rattle.qcow2_alloc.specs.FreeList.{FreeList}
 use Rattle.qcow2_alloc.proofs.Memory.Patches.{place-there}
 use Rattle.qcow2_clusters.specs.declared.space.Space.{Space}
 use Rattle.qcow2_clusters.specs.Rest.{lent}
+use Rattle.qcow2_clusters.specs.Storing.{Stores}
 use Rattle.qcow2_clusters.proofs.EarlyRefusals.{nothing-begun}
 use Rattle.qcow2_clusters.proofs.TableCreation.{entered-so, not-entered, not-placed, not-stored}
 use Rattle.qcow2_alloc.proofs.Faults.{handed-on}
@@ -40,8 +41,10 @@ begins h table table' cluster layout is = ap table_place is ∙ ap (λ (l : Layo
 pub enter_table-requires-clause-namable : goal.enter_table-requires-clause-namable
 enter_table-requires-clause-namable g c =
     let h = c.args.file.now.header.fields in
-    let t = c.in_ok-cluster.cluster in
-    let named = c.in_ok-cluster.ensures.stores.named in
+    let t = c.cluster.inside.cluster in
+    let stores = subst (λ (n : ℕ). Stores g.S.Storage.state c.args.content.now (lent c.args.file.now c.args.caches.now c.args.space.now) (Ok n)
+    (lent c.store.new.file c.store.new.caches c.store.new.space)) (sym c.cluster.view_is) c.in_ok-cluster.ensures.stores in
+    let named = stores.named in
     let bits : c.place_l1.new.l1.layout.cluster_bits ≡ h.cluster_bits =
     ap (λ (l : Layout). l.cluster_bits) c.place_l1.ensures.same.layout ∙ c.in_ok-place_l1.ensures.bits in
     let there = place-there (2 ^ h.cluster_bits) t (pow_pos h.cluster_bits) named.0 in
@@ -54,8 +57,10 @@ returns-in-Ok-clause-places g c =
     let old = lent c.args.file.now c.args.caches.now c.args.space.now in
     let mid = lent c.store.new.file c.store.new.caches c.store.new.space in
     let new = lent c.enter_table.new.file c.store.new.caches c.store.new.space in
-    let t = c.in_ok-cluster.cluster in
-    entered-so g.S.Storage.state c.args.content.now c.args.l1.now c.args.index old t mid c.requires.whole c.in_ok-cluster.ensures.stores
+    let t = c.cluster.inside.cluster in
+    let stores = subst (λ (n : ℕ). Stores g.S.Storage.state c.args.content.now (lent c.args.file.now c.args.caches.now c.args.space.now) (Ok n)
+    (lent c.store.new.file c.store.new.caches c.store.new.space)) (sym c.cluster.view_is) c.in_ok-cluster.ensures.stores in
+    entered-so g.S.Storage.state c.args.content.now c.args.l1.now c.args.index old t mid c.requires.whole stores
     c.place_l1.new.l1 c.enter_table.new.l1 c.set_cluster.new.self c.enter_table.result new
     c.place_l1.ensures.same c.in_ok-place_l1.ensures.place
     (begins h c.in_ok-table.table c.set_cluster.new.self t (ap (λ (table : TableValue). table.layout) c.in_ok-table.ensures.ok)
@@ -70,10 +75,12 @@ returns-clause-places g c =
     let mid = lent c.store.new.file c.store.new.caches c.store.new.space in
     let space : Space = record { allocator = c.store.new.space.allocator; to_free = c.release.new.self } in
     let new = lent c.enter_table.new.file c.store.new.caches space in
-    let t = c.in_ok-cluster.cluster in
+    let t = c.cluster.inside.cluster in
+    let stores = subst (λ (n : ℕ). Stores g.S.Storage.state c.args.content.now (lent c.args.file.now c.args.caches.now c.args.space.now) (Ok n)
+    (lent c.store.new.file c.store.new.caches c.store.new.space)) (sym c.cluster.view_is) c.in_ok-cluster.ensures.stores in
     let less = ap (λ (l : FreeList). l.held) c.release.ensures in
-    let more = c.in_ok-cluster.ensures.stores.held in
-    not-entered g.S.Storage.state c.args.content.now c.args.l1.now c.args.index old t mid c.requires.whole c.in_ok-cluster.ensures.stores
+    let more = stores.held in
+    not-entered g.S.Storage.state c.args.content.now c.args.l1.now c.args.index old t mid c.requires.whole stores
     c.place_l1.new.l1 c.enter_table.new.l1 c.set_cluster.new.self c.enter_table.result new
     c.place_l1.ensures.same c.in_ok-place_l1.ensures.place
     (begins h c.in_ok-table.table c.set_cluster.new.self t (ap (λ (table : TableValue). table.layout) c.in_ok-table.ensures.ok)

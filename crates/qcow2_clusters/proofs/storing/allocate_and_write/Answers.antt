@@ -18,13 +18,14 @@ room_for entries held = record { entries = entries; held = held }
 pub returns-in-Ok-clause-stores : goal.returns-in-Ok-clause-stores
 returns-in-Ok-clause-stores g c =
     let state = g.S.Storage.state in
+    let first = c.cluster-cluster.ensures ∙ ap (λ (e : FreeEntry). e.first) c.pending.view_is in
     let old = lent c.args.file.now c.args.caches.now c.args.space.now in
     let new = c.try_allocate_clusters.new in
     let mid = lent new.file new.caches (record { allocator = new.self; to_free = new.list }) in
     let after = c.write_cluster.new.file in
     let put = subst (λ (n : ℕ). Put (state new.file.image) (state after.image) (n * cluster_size new.file.header.fields) c.args.content.now
-    done_so) c.cluster-cluster.ensures c.in-Ok.ensures.put in
-    subst (λ (n : ℕ). StoresRunUnsettled state c.args.count c.args.content.now old (Ok n) (lent after new.caches (record { allocator = new.self; to_free = new.list }))) (sym c.cluster-cluster.ensures)
+    done_so) first c.in-Ok.ensures.put in
+    subst (λ (n : ℕ). StoresRunUnsettled state c.args.count c.args.content.now old (Ok n) (lent after new.caches (record { allocator = new.self; to_free = new.list }))) (sym first)
     (stored-unsettled state old c.requires.rest c.requires.room c.args.count mid c.in_ok-pending.pending c.in_ok-pending.ensures.allocates
     c.requires.any
     c.args.content.now (whole-fits c.args.content.now c.args.count (cluster_size c.args.file.now.header.fields) c.requires.any
@@ -33,13 +34,14 @@ returns-in-Ok-clause-stores g c =
 pub returns-in-Err-clause-stores : goal.returns-in-Err-clause-stores
 returns-in-Err-clause-stores g c =
     let state = g.S.Storage.state in
+    let first = c.cluster-cluster.ensures ∙ ap (λ (e : FreeEntry). e.first) c.pending.view_is in
     let old = lent c.args.file.now c.args.caches.now c.args.space.now in
     let new = c.try_allocate_clusters.new in
     let mid = lent new.file new.caches (record { allocator = new.self; to_free = new.list }) in
     let after = c.write_cluster.new.file in
     let fault = c.in-Err.fault in
     let put = subst (λ (n : ℕ). Put (state new.file.image) (state after.image) (n * cluster_size new.file.header.fields) c.args.content.now
-    (refused_so fault)) c.cluster-cluster.ensures c.in-Err.ensures.put in
+    (refused_so fault)) first c.in-Err.ensures.put in
     let held : new.list.held - 1 ≡ c.args.space.now.to_free.held = (let more = c.in_ok-pending.ensures.held in omega (arith, more)) in
     let left : c.release.new.self ≡ record { entries = new.list.entries; held = c.args.space.now.to_free.held } =
     c.release.ensures ∙ ap (λ (n : ℕ). room_for new.list.entries n) held in
