@@ -1,10 +1,10 @@
 -- A cause of one call is one of another.
-use Rattle.std.proofs.Common.{◌≡◌, ℕ, ◌≤◌, refl, Result, Ok, Err}
+use Rattle.std.proofs.Common.{◌≡◌, ℕ, ◌≤◌, refl, arith, Result, Ok, Err}
 use Rattle.imago_storage.specs.Calls.{Cause, CountsFaults}
 use Rattle.imago_storage.specs.declared.fault.Fault.{Fault}
 use Rattle.imago_storage.specs.declared.fault.Fault.TheVariants.{Memory, Storage, DamagedTable, CacheFull, Counter, Limit}
 use Rattle.imago_storage.proofs.Composing.{rose_before, rose_behind}
-use Rattle.qcow2_alloc.specs.Causes.{Causes, HasCause, FailsFor}
+use Rattle.qcow2_alloc.specs.Causes.{Causes, HasCause, FailsFor, bare_causes}
 
 -- The second call begins no later and ends no earlier than the first, and holds each of its causes.
 pub record Implies (old new : Causes) : Type 0 where
@@ -28,6 +28,15 @@ cause-weaker weaker fault why = absurd why
 pub fails-weaker : {T : Type 0} (old new : Causes) → Implies old new → (old.after ≡ old.before → new.after ≡ new.before) → (result : Result T Fault) → FailsFor old result → FailsFor new result
 fails-weaker old new weaker still (Ok value) same = still same
 fails-weaker old new weaker still (Err fault) why = cause-weaker weaker fault why
+
+-- A cause of a call that asks nothing of a storage is one of each call, whatever faults were counted before.
+pub bare-weaker : {damaged : Type 0} {limit : ℕ → Type 0} (new : Causes) → (damaged → new.damaged) → ((number : ℕ) → limit number → new.limit number)
+    → (fault : Fault) → HasCause (bare_causes damaged limit) fault → HasCause new fault
+bare-weaker new damages limits Memory why = tt
+bare-weaker new damages limits Storage why = absurd (let never = why.rose (omega arith) in omega (arith, never))
+bare-weaker new damages limits DamagedTable why = damages why
+bare-weaker new damages limits (Limit number) why = limits number why
+bare-weaker new damages limits fault why = absurd why
 
 -- A limit that is told is the fault.
 pub cause-told : (causes : Causes) (fault : Fault) → HasCause causes fault → HasCause (record causes { limit = λ number. (fault ≡ Limit number) × causes.limit number }) fault

@@ -14,6 +14,10 @@ pub record Causes : Type 1 where
   pub before : ℕ
   pub after : ℕ
 
+-- Those of a call that asks nothing of a storage and uses neither caches nor counters: none of these refuses it.
+abbrev pub bare_causes : (damaged : Type 0) → (limit : (number : ℕ) → Type 0) → Causes
+bare_causes damaged limit = record { damaged = damaged; counter = ⊥; full = ⊥; limit = limit; before = 0; after = 0 }
+
 -- Why it was refused. Want of memory needs no cause, and may come behind a fault of the storage.
 abbrev pub HasCause : Causes → Fault → Type 0
 HasCause causes Memory = ⊤

@@ -5,7 +5,6 @@ use Rattle.imago_storage.specs.State.{StorageState}
 use Rattle.imago_storage.specs.Calls.{Later, IsFaultless}
 use Rattle.imago_storage.specs.Through.{PutAtOnce}
 use Rattle.imago_storage.specs.declared.fault.Fault.{Fault}
-use Rattle.imago_storage.specs.declared.fault.Fault.TheVariants.{DamagedTable, Limit}
 use Rattle.qcow2_types.specs.Counts.{counters_of_block}
 use Rattle.qcow2_types.specs.Words.{block_offset}
 use Rattle.qcow2_metadata.specs.Blocks.{Block, BlockPut}
@@ -16,6 +15,7 @@ use Rattle.qcow2_alloc.specs.declared.cache.MetadataCaches.{MetadataCaches}
 use Rattle.qcow2_alloc.specs.declared.file.ImageFile.{ImageFile}
 use Rattle.qcow2_alloc.specs.Allocating.{MakesBlock, OnlyRaised}
 use Rattle.qcow2_alloc.specs.Caches.{order_of, KeepsTables}
+use Rattle.qcow2_alloc.specs.Causes.{Causes, bare_causes}
 use Rattle.qcow2_alloc.specs.Freeing.{IsLoose}
 use Rattle.qcow2_alloc.specs.Quiet.{Metadata, Quietly, counted}
 use Rattle.qcow2_alloc.specs.State.{ImageState, lent, metadata, WhereGuarded}
@@ -26,11 +26,10 @@ pub record CanName (table : TableValue) (cluster_bits place : ℕ) : Type 0 wher
   pub bits : table.layout.cluster_bits ≡ cluster_bits
   pub some : place ≢ 0
 
--- Why none can.
-abbrev pub WhyNotNamed : TableValue → ℕ → ℕ → Fault → Type 0
-WhyNotNamed table cluster_bits place DamagedTable = CanName table cluster_bits place → ⊥
-WhyNotNamed table cluster_bits place (Limit number) = (IsInReach cluster_bits place → ⊥) × (number ≡ place)
-WhyNotNamed table cluster_bits place fault = ⊥
+-- Why none can: the word can't be written, or the cluster is out of reach.
+abbrev pub naming_causes : TableValue → (cluster_bits place : ℕ) → Causes
+naming_causes table cluster_bits place =
+    bare_causes (CanName table cluster_bits place → ⊥) (λ number. (IsInReach cluster_bits place → ⊥) × (number ≡ place))
 
 -- A block is written, and then word i of the refcount table, which names it. Where the block wasn't written the table stays.
 pub record NamesWritten (table : TableValue) (i : ℕ) (block : Block) (old : StorageState) (result : Result Unit Fault)

@@ -1,11 +1,10 @@
 -- How a refcount table that has grown takes its room, and becomes the image's.
-use Rattle.std.specs.Prelude.{◌≡◌, ◌≢◌, ⊤, true, ℕ, ◌+◌, ◌-◌, ◌*◌, ◌/◌, ◌%◌, ◌^◌, ◌<◌, ◌≤◌, ◌++◌, false, IsTrue, List, Some, None, Result, Ok, Err, OnOk, OnErr, IfErr, length, slice_index, nat_eq, Bool}
+use Rattle.std.specs.Prelude.{◌≡◌, ◌≢◌, true, ℕ, ◌+◌, ◌-◌, ◌*◌, ◌/◌, ◌%◌, ◌^◌, ◌<◌, ◌≤◌, ◌++◌, false, IsTrue, List, Some, None, Result, Ok, Err, OnOk, OnErr, IfErr, length, slice_index, nat_eq, Bool}
 use Rattle.std.specs.Map.{lookup}
 use Rattle.imago_storage.specs.State.{StorageState}
 use Rattle.imago_storage.specs.Calls.{Later, IsFaultless}
 use Rattle.imago_storage.specs.Through.{Put, PutAtOnce}
 use Rattle.imago_storage.specs.declared.fault.Fault.{Fault}
-use Rattle.imago_storage.specs.declared.fault.Fault.TheVariants.{Memory, DamagedTable, Limit}
 use Rattle.qcow2_types.specs.Counts.{count, counters_of_block}
 use Rattle.qcow2_types.specs.Header.{Fields, Header, first_fault, rules_of_size, cluster_size, words_of_cluster, layout_of}
 use Rattle.qcow2_types.specs.HeaderBytes.{first_bytes}
@@ -22,7 +21,7 @@ use Rattle.qcow2_alloc.specs.declared.cache.MetadataCaches.{MetadataCaches}
 use Rattle.qcow2_alloc.specs.declared.file.ImageFile.{ImageFile}
 use Rattle.qcow2_alloc.specs.Allocating.{CountsNamed, MovedTable, OnlyRaised}
 use Rattle.qcow2_alloc.specs.Caches.{cached_in, order_of, KeepsTables}
-use Rattle.qcow2_alloc.specs.Causes.{FailsFor}
+use Rattle.qcow2_alloc.specs.Causes.{Causes, FailsFor, bare_causes}
 use Rattle.qcow2_alloc.specs.Finding.{pinned_among}
 use Rattle.qcow2_alloc.specs.FreeList.{covers}
 use Rattle.qcow2_alloc.specs.Freeing.{IsLoose, counting_causes}
@@ -106,12 +105,10 @@ pub record IsGrownFor (h : Fields) (table : TableValue) (at : ℕ) (copy : Table
   pub bits : table.layout.cluster_bits ≡ h.cluster_bits
 
 -- Why it can't be, but for want of memory: it is the table of another image, or would be too long.
-abbrev pub WhyNotGrown : Fields → TableValue → ℕ → Fault → Type 0
-WhyNotGrown h table at Memory = ⊤
-WhyNotGrown h table at DamagedTable = table.layout.cluster_bits ≢ h.cluster_bits
-WhyNotGrown h table at (Limit number) = ((n : ℕ) → IsEnough (words_of_cluster h) (counters_of_block h) at n → 2 ^ 20 < n)
-    × (number ≡ 2 ^ 20 + words_of_cluster h)
-WhyNotGrown h table at fault = ⊥
+abbrev pub growing_causes : Fields → TableValue → (at : ℕ) → Causes
+growing_causes h table at = bare_causes (table.layout.cluster_bits ≢ h.cluster_bits)
+    (λ number. ((n : ℕ) → IsEnough (words_of_cluster h) (counters_of_block h) at n → 2 ^ 20 < n)
+    × (number ≡ 2 ^ 20 + words_of_cluster h))
 
 -- A copy of the refcount table has grown in memory by whole clusters of empty words, and a run has room for it.
 pub record IsCopyFor (h : Fields) (table : TableValue) (run : Run) (copy : TableValue) : Type 0 where
@@ -123,13 +120,11 @@ pub record IsCopyFor (h : Fields) (table : TableValue) (run : Run) (copy : Table
 
 -- Why such a copy can't take the run, but for want of memory: it begins with the first cluster, or the table's words can't be written; or
 -- it is out of reach.
-abbrev pub WhyNotPlaced : Fields → TableValue → Run → TableValue → Fault → Type 0
-WhyNotPlaced h table run copy Memory = ⊤
-WhyNotPlaced h table run copy DamagedTable = (run.first ≢ 0) × CanName table h.cluster_bits (run.first + (run.len - 1)) → ⊥
-WhyNotPlaced h table run copy (Limit number) =
+abbrev pub placing_causes : Fields → TableValue → Run → TableValue → Causes
+placing_causes h table run copy =
+    bare_causes ((run.first ≢ 0) × CanName table h.cluster_bits (run.first + (run.len - 1)) → ⊥) (λ number.
     (IsInReach h.cluster_bits (run.first + (run.len - 1)) × (run.first + run.len ≤ length copy.words * counters_of_block h) → ⊥)
-    × (number ≡ run.first + (run.len - 1))
-WhyNotPlaced h table run copy fault = ⊥
+    × (number ≡ run.first + (run.len - 1)))
 
 -- The image shows the same, with the same in memory.
 pub record StaysInMemory (m m' : Metadata) : Type 0 where

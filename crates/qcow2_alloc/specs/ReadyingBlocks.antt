@@ -2,7 +2,7 @@
 use Rattle.std.specs.Prelude.{◌≡◌, ◌≢◌, ◌⊎◌, ℕ, min, ◌+◌, ◌-◌, ◌*◌, ◌/◌, ◌^◌, ◌<◌, ◌≤◌, ◌++◌, Result, Err, IfOk, OnOk, OnErr, length, slice_index}
 use Rattle.imago_storage.specs.State.{StorageState}
 use Rattle.imago_storage.specs.declared.fault.Fault.{Fault}
-use Rattle.imago_storage.specs.declared.fault.Fault.TheVariants.{DamagedTable, Limit}
+use Rattle.imago_storage.specs.declared.fault.Fault.TheVariants.{Limit}
 use Rattle.qcow2_types.specs.Counts.{counters_of_block}
 use Rattle.qcow2_types.specs.Header.{Fields}
 use Rattle.qcow2_types.specs.Words.{block_offset}
@@ -11,7 +11,7 @@ use Rattle.qcow2_metadata.specs.Tables.{TableValue}
 use Rattle.qcow2_alloc.specs.declared.allocation.readying_runs.Provision.{Provision}
 use Rattle.qcow2_alloc.specs.declared.allocation.readying_runs.Provision.TheVariants.{Complete, Extended}
 use Rattle.qcow2_alloc.specs.Allocating.{Allocating, missing, allocating_causes}
-use Rattle.qcow2_alloc.specs.Causes.{FailsFor}
+use Rattle.qcow2_alloc.specs.Causes.{Causes, FailsFor, bare_causes}
 use Rattle.qcow2_alloc.specs.FillingBlocks.{FillsFrom}
 use Rattle.qcow2_alloc.specs.Freeing.{IsLoose}
 use Rattle.qcow2_alloc.specs.Going.{WasNotCutOff}
@@ -25,11 +25,9 @@ last_number first n = min (first + (n - 1)) (2 ^ 64 - 1)
 
 -- Why no run can be counted that begins at a cluster: it is the first of the file, which holds the header, or the run ends too far behind,
 -- as its last cluster tells.
-abbrev pub WhyNotFit : Fields → ℕ → ℕ → Fault → Type 0
-WhyNotFit h n first DamagedTable = first ≡ 0
-WhyNotFit h n first (Limit number) = (number ≡ last_number first n)
-    × (IsInReach h.cluster_bits (first + (n - 1)) → 2 ^ 20 ≤ (first + (n - 1)) / counters_of_block h)
-WhyNotFit h n first fault = ⊥
+abbrev pub fitting_causes : Fields → (n first : ℕ) → Causes
+fitting_causes h n first = bare_causes (first ≡ 0) (λ number. (number ≡ last_number first n)
+    × (IsInReach h.cluster_bits (first + (n - 1)) → 2 ^ 20 ≤ (first + (n - 1)) / counters_of_block h))
 
 -- A refcount table became longer, or as long names a block where it named none.
 abbrev pub HasMore : TableValue → TableValue → Type 0

@@ -9,7 +9,7 @@ use Rattle.imago_storage.specs.State.{StorageState}
 use Rattle.imago_storage.specs.Calls.{Cause, Later, IsFaultless}
 use Rattle.imago_storage.specs.Through.{Put, PutAtOnce}
 use Rattle.imago_storage.specs.declared.fault.Fault.{Fault}
-use Rattle.imago_storage.specs.declared.fault.Fault.TheVariants.{Memory, DamagedTable, CacheFull, Limit}
+use Rattle.imago_storage.specs.declared.fault.Fault.TheVariants.{Memory, CacheFull}
 use Rattle.imago_storage.proofs.Composing.{keeps_on, later_both, later_same}
 use Rattle.qcow2_types.specs.Bytes.{bytes_of}
 use Rattle.qcow2_types.specs.Counts.{counters_of_block}
@@ -34,11 +34,11 @@ use Rattle.qcow2_alloc.specs.Caches.{cached_in, order_of}
 use Rattle.qcow2_alloc.specs.Causes.{HasCause}
 use Rattle.qcow2_alloc.specs.Freeing.{IsUnbarred, IsLoose, freeing_causes, counting_causes}
 use Rattle.qcow2_alloc.specs.Going.{WasNotCutOff}
-use Rattle.qcow2_alloc.specs.MakingBlocks.{Begins, CanName, WhyNotNamed, NamesWritten}
+use Rattle.qcow2_alloc.specs.MakingBlocks.{Begins, CanName, naming_causes, NamesWritten}
 use Rattle.qcow2_alloc.specs.MakingRoom.{with_block}
 use Rattle.qcow2_alloc.specs.Quiet.{Metadata, in_memory, counted, IsUsed, IsSound, Quietly, named_at_all}
 use Rattle.qcow2_alloc.specs.State.{ImageState, lent, metadata, IsGuarded}
-use Rattle.qcow2_alloc.proofs.Causes.{Implies, fails-weaker, storage-fails}
+use Rattle.qcow2_alloc.proofs.Causes.{Implies, bare-weaker, fails-weaker, storage-fails}
 use Rattle.qcow2_alloc.proofs.Handing.CountSequences.{raised-then}
 use Rattle.qcow2_alloc.proofs.Quiet.AtOnce.{put-done}
 use Rattle.qcow2_alloc.proofs.Flushing.Faultless.{never-mild, faultless-then, put-faultless}
@@ -313,17 +313,13 @@ module _ {S : Type 0} (state : S → StorageState) (i : ℕ) (image : ImageState
     unmade-memory fault is = unmade fault (subst (λ (f : Fault). HasCause (allocating_causes Holds (IsLoose image.table image.caches) Full (state image.file.image).faults (state image.file.image).faults) f) (sym is) tt)
 
     -- for a cluster that no word can name,
-    pub unmade-place : (d : ℕ) (fault : Fault) → d ≤ i * counters_of_block fC.header.fields → (Holds → d ≢ 0) → WhyNotNamed image.table fC.header.fields.cluster_bits d fault → MakesBlock state i image (Err fault) (lent image.table C fC image.pending)
-    unmade-place d fault low some why = unmade fault (by-fault fault why)
-      where
-        by-fault : (fault : Fault) → WhyNotNamed image.table fC.header.fields.cluster_bits d fault → HasCause (allocating_causes Holds (IsLoose image.table image.caches) Full (state image.file.image).faults (state image.file.image).faults) fault
-        by-fault DamagedTable why = λ holds. why (can-name mU ((begins.quiet holds.1).holds holds.0 holds.2 tt).0 d (some holds))
-        by-fault (Limit number) why = (
+    pub unmade-place : (d : ℕ) (fault : Fault) → d ≤ i * counters_of_block fC.header.fields → (Holds → d ≢ 0) → HasCause (naming_causes image.table fC.header.fields.cluster_bits d) fault → MakesBlock state i image (Err fault) (lent image.table C fC image.pending)
+    unmade-place d fault low some why = unmade fault (bare-weaker _ (λ cannot holds. cannot (can-name mU ((begins.quiet holds.1).holds holds.0 holds.2 tt).0 d (some holds)))
+        (λ number far. (
           subst (λ (h : Header). (number ≤ i * counters_of_block h.fields) × (IsInReach h.fields.cluster_bits number → ⊥)) begins.header
-              (let is = why.1 in omega (arith, is, low), λ near. why.0 (subst (λ n. IsInReach fC.header.fields.cluster_bits n) why.1 near)),
+              (let is = far.1 in omega (arith, is, low), λ near. far.0 (subst (λ n. IsInReach fC.header.fields.cluster_bits n) far.1 near)),
           refl,
-        )
-        by-fault other why = absurd why
+        )) fault why)
 
     -- and where a block is pinned in a cluster that nothing names.
     pub unforgotten : (d : ℕ) (fault : Fault) (new : MetadataCaches S) → (Holds → named_at_all mU d ≡ 0) → (fault ≡ CacheFull) × IsSomeAnd (lookup (nat_eq d) (cached_in C).blocks) (λ s. 0 < s.pins) × (new ≡ C) → MakesBlock state i image (Err fault) (lent image.table new fC image.pending)

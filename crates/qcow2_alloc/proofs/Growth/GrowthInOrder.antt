@@ -3,7 +3,6 @@ use Rattle.std.proofs.Common.{inl, ◌≡◌, ℕ, ◌++◌, refl, ap, subst, �
 use Rattle.std.specs.Prelude.{IsTrue, OnOk, IfErr}
 use Rattle.imago_storage.specs.State.{StorageState}
 use Rattle.imago_storage.specs.declared.fault.Fault.{Fault}
-use Rattle.imago_storage.specs.declared.fault.Fault.TheVariants.{Memory, DamagedTable, Limit}
 use Rattle.qcow2_types.specs.Header.{Header, words_of_cluster}
 use Rattle.qcow2_types.specs.Counts.{counters_of_block}
 use Rattle.qcow2_types.specs.Words.{Layout}
@@ -11,18 +10,18 @@ use Rattle.qcow2_metadata.specs.Tables.{IsGrownLength}
 use Rattle.qcow2_alloc.specs.declared.cache.CacheDependency.TheVariants.{L2DependsOnRb}
 use Rattle.qcow2_alloc.specs.declared.cache.MetadataCaches.{MetadataCaches}
 use Rattle.qcow2_alloc.specs.declared.file.ImageFile.{ImageFile}
-use Rattle.qcow2_alloc.specs.Allocating.{MovedTable, allocating_causes}
+use Rattle.qcow2_alloc.specs.Allocating.{MovedTable}
 use Rattle.qcow2_alloc.specs.Allocators.{metadata_of}
 use Rattle.qcow2_alloc.specs.Caches.{order_of, KeepsTables}
 use Rattle.qcow2_alloc.specs.Causes.{HasCause}
 use Rattle.qcow2_alloc.specs.Freeing.{IsLoose}
 use Rattle.qcow2_alloc.specs.Going.{IsMild, WasNotCutOff}
-use Rattle.qcow2_alloc.specs.GrowingTables.{GrowsTable, NoPlaceToGrow, TableGrown, table_run}
+use Rattle.qcow2_alloc.specs.GrowingTables.{GrowsTable, TableGrown, table_run}
 use Rattle.qcow2_alloc.specs.HandingOut.{GrowsReftable, StaysInShape}
-use Rattle.qcow2_alloc.specs.MovingTables.{WhyNotGrown}
+use Rattle.qcow2_alloc.specs.MovingTables.{growing_causes}
 use Rattle.qcow2_alloc.specs.Quiet.{Metadata, IsSound}
-use Rattle.qcow2_alloc.specs.State.{ImageState, lent, metadata, IsKept, with_mark, AllocatorState}
-use Rattle.qcow2_alloc.proofs.Causes.{cause-weaker, fails-weaker}
+use Rattle.qcow2_alloc.specs.State.{ImageState, lent, metadata, with_mark, AllocatorState}
+use Rattle.qcow2_alloc.proofs.Causes.{bare-weaker, cause-weaker, fails-weaker}
 use Rattle.qcow2_alloc.proofs.Blocks.BlockCreationCalls.{freeing-allocates}
 use Rattle.qcow2_alloc.proofs.Handing.CountSequences.{moved-none}
 use Rattle.qcow2_alloc.proofs.Handing.BlocksBeforeTables.{Announced, no-place-as, grown-as, quiet-behind, sound-behind, raised-behind, allocates-behind}
@@ -49,7 +48,7 @@ module _ {S : Type 0} (state : S → StorageState) (at : ℕ) (s : AllocatorStat
   }
 
   -- There was no grown copy of the table, or no room for the clusters of this one: nothing has changed.
-  pub not-copied : (fault : Fault) → WhyNotGrown s.file.header.fields s.table at fault → GrowsReftable state at s (failed fault) s
+  pub not-copied : (fault : Fault) → HasCause (growing_causes s.file.header.fields s.table at) fault → GrowsReftable state at s (failed fault) s
   not-copied fault why = record {
     leaked = λ _. 0;
     leaks = leaks-none _ _ (failed fault);
@@ -64,14 +63,8 @@ module _ {S : Type 0} (state : S → StorageState) (at : ℕ) (s : AllocatorStat
     waits = tt;
     kept = refl;
     stays = λ mild. (refl, refl);
-    cause = by-fault fault why;
+    cause = bare-weaker _ (λ apart known. apart (ap (λ (l : Layout). l.cluster_bits) known.1.table.layout)) (λ number long. ((λ keeps sound. inl long), refl)) fault why;
   }
-    where
-      by-fault : (f : Fault) → WhyNotGrown s.file.header.fields s.table at f → HasCause (allocating_causes (IsKept state s.image) (IsLoose s.table s.caches) (λ number. IsTrue (state s.file.image).shape.keeps → IsSound Start → NoPlaceToGrow Start s.mark at number) (state s.file.image).faults (state s.file.image).faults) f
-      by-fault Memory why = tt
-      by-fault DamagedTable why = λ known. why (ap (λ (l : Layout). l.cluster_bits) known.1.table.layout)
-      by-fault (Limit number) why = (λ keeps sound. inl why, refl)
-      by-fault other why = absurd why
 
   -- Where that was refused nothing grew,
   pub not-announced : (fault : Fault) → Announced state s.image (failed fault) (lent s.table mid between s.pending) → GrowsReftable state at s (failed fault) (with_mark (lent s.table mid between s.pending) s.mark)

@@ -4,7 +4,7 @@ use Rattle.std.specs.Prelude.{⊤, IsTrue, OnOk, OnErr, IfErr, min, slice_index}
 use Rattle.std.proofs.lemmas.Bool.{cases_Bool}
 use Rattle.imago_storage.specs.State.{StorageState}
 use Rattle.imago_storage.specs.declared.fault.Fault.{Fault}
-use Rattle.imago_storage.specs.declared.fault.Fault.TheVariants.{Memory, DamagedTable, Limit}
+use Rattle.imago_storage.specs.declared.fault.Fault.TheVariants.{Limit}
 use Rattle.imago_storage.proofs.Composing.{keeps_on, later_both}
 use Rattle.qcow2_types.specs.Counts.{counters_of_block}
 use Rattle.qcow2_types.specs.Header.{Fields, Header, words_of_cluster}
@@ -24,11 +24,11 @@ use Rattle.qcow2_alloc.specs.Going.{WasNotCutOff, IsMild}
 use Rattle.qcow2_alloc.specs.Growing.{lacks, IsFirstRoom, LooksForRoom}
 use Rattle.qcow2_alloc.specs.GrowingTables.{GrowsTable, TableGrown, IsRoomToGrow, IsRoomInReach, NoPlaceToGrow, room_from, table_run}
 use Rattle.qcow2_alloc.specs.MakingRoom.{run_of}
-use Rattle.qcow2_alloc.specs.MovingTables.{clusters_of, IsPlan, WhyNotGrown, WhyNotPlaced, IsFreeIn, WasSound, FillsRoom, EntersFree}
+use Rattle.qcow2_alloc.specs.MovingTables.{clusters_of, IsPlan, growing_causes, placing_causes, IsFreeIn, WasSound, FillsRoom, EntersFree}
 use Rattle.qcow2_alloc.specs.Quiet.{Metadata, counted, IsSound}
 use Rattle.qcow2_alloc.specs.SearchingClusters.{IsSafeWith, Looked}
 use Rattle.qcow2_alloc.specs.State.{lent, metadata, with_mark, AllocatorState}
-use Rattle.qcow2_alloc.proofs.Causes.{cause-weaker, fails-weaker}
+use Rattle.qcow2_alloc.proofs.Causes.{bare-weaker, cause-weaker, fails-weaker}
 use Rattle.qcow2_alloc.proofs.Handing.CountSequences.{allocating-none, allocating-as}
 use Rattle.qcow2_alloc.proofs.Flushing.Faultless.{faultless-then}
 use Rattle.qcow2_alloc.proofs.Searching.SearchesBeforeCounts.{counts-looked, looked-allocates}
@@ -73,14 +73,9 @@ module _ {S : Type 0} (state : S → StorageState) (at : ℕ) (s : AllocatorStat
   }
 
   -- There is no copy of the table,
-  pub no-copy : (fault : Fault) → WhyNotGrown s.file.header.fields s.table at fault → GrowsTable state at s (failed fault) s
-  no-copy fault why = not-grown fault s.caches s.file (allocating-as state ⊤ (IsMild fault) (λ _. 0) (λ _. 0) s.image s.image (λ mild. tt) (λ c. refl) (allocating-none state s.image)) refl (λ keeps sound number is c. refl) (by-fault fault why)
-    where
-      by-fault : (fault : Fault) → WhyNotGrown s.file.header.fields s.table at fault → HasCause (allocating_causes Sound (IsLoose s.table s.caches) Full (state s.file.image).faults (state s.file.image).faults) fault
-      by-fault Memory why = tt
-      by-fault DamagedTable why = λ known. why (ap (λ (l : Layout). l.cluster_bits) known.2.table.layout)
-      by-fault (Limit number) why = (λ order keeps sound. inl why, refl)
-      by-fault other why = absurd why
+  pub no-copy : (fault : Fault) → HasCause (growing_causes s.file.header.fields s.table at) fault → GrowsTable state at s (failed fault) s
+  no-copy fault why = not-grown fault s.caches s.file (allocating-as state ⊤ (IsMild fault) (λ _. 0) (λ _. 0) s.image s.image (λ mild. tt) (λ c. refl) (allocating-none state s.image)) refl (λ keeps sound number is c. refl)
+      (bare-weaker _ (λ apart known. apart (ap (λ (l : Layout). l.cluster_bits) known.2.table.layout)) (λ number long. ((λ order keeps sound. inl long), refl)) fault why)
 
   -- or the search for a room was refused,
   pub no-room : (fault : Fault) (C : MetadataCaches S) (fC : ImageFile S) → Looked state {T = Run} s.table (cached_file s.caches s.file) (Err fault) (cached_file C fC) → GrowsTable state at s (failed fault) (with_mark (lent s.table C fC s.pending) s.mark)
@@ -111,11 +106,22 @@ module _ {S : Type 0} (state : S → StorageState) (at : ℕ) (s : AllocatorStat
     room-to-grow known = record { long = subst (λ (l : ℕ). IsGrownLength (words_of_cluster h) (counters_of_block h) at l) (sym whole) long; room = found known }
 
     -- It can't take it.
-    pub no-place : (fault : Fault) → 1 ≤ room.len → WhyNotPlaced fC.header.fields s.table room copy fault → GrowsTable state at s (failed fault) (with_mark (lent s.table C fC s.pending) s.mark)
+    pub no-place : (fault : Fault) → 1 ≤ room.len → HasCause (placing_causes fC.header.fields s.table room copy) fault → GrowsTable state at s (failed fault) (with_mark (lent s.table C fC s.pending) s.mark)
     no-place fault some why =
         not-grown fault C fC (allocating-as state ⊤ (IsMild fault) (λ _. 0) (λ _. 0) s.image (lent s.table C fC s.pending) (λ mild. tt) (λ c. refl) (looked-allocates state s.image Run (Ok room) C fC looks.looked)) looks.looked.header
         (λ keeps sound number is. counts-looked state s.image Run (Ok room) C fC looks.looked keeps sound tt)
-        (by-fault fault (subst (λ (H : Header). WhyNotPlaced H.fields s.table room copy fault) looks.looked.header why))
+        (bare-weaker _ (λ cannot known. cannot (behind known, can-name start known.2 (room.first + (room.len - 1)) (λ none. behind known (omega (arith, none)))))
+        (λ number far. (
+          λ order keeps sound. inr (
+            room.first,
+            room.len,
+            clusters,
+            room-to-grow (keeps, order, sound),
+            λ (near : IsRoomInReach start room.first room.len clusters). far.0 (near.reach, subst (λ (w : ℕ). room.first + room.len ≤ w * counters_of_block h) whole near.inside),
+            far.1,
+          ),
+          looks.looked.cause,
+        )) fault (subst (λ (H : Header). HasCause (placing_causes H.fields s.table room copy) fault) looks.looked.header why))
       where
         behind : Sound → room.first ≢ 0
         behind known none =
@@ -123,22 +129,6 @@ module _ {S : Type 0} (state : S → StorageState) (at : ℕ) (s : AllocatorStat
             let first : counted start 0 ≡ 0 = subst (λ c. counted start c ≡ 0) none zero in
             let one = first-counted start known.2 in
             omega (arith, first, one)
-
-        by-fault : (fault : Fault) → WhyNotPlaced h s.table room copy fault → HasCause (allocating_causes Sound (IsLoose s.table s.caches) Full (state s.file.image).faults (state fC.image).faults) fault
-        by-fault Memory why = tt
-        by-fault DamagedTable why = λ known. why (behind known, can-name start known.2 (room.first + (room.len - 1)) (λ none. behind known (omega (arith, none))))
-        by-fault (Limit number) why = (
-          λ order keeps sound. inr (
-            room.first,
-            room.len,
-            clusters,
-            room-to-grow (keeps, order, sound),
-            λ (near : IsRoomInReach start room.first room.len clusters). why.0 (near.reach, subst (λ (w : ℕ). room.first + room.len ≤ w * counters_of_block h) whole near.inside),
-            why.1,
-          ),
-          looks.looked.cause,
-        )
-        by-fault other why = absurd why
 
     -- It takes it, as it was planned.
     module _ (placed : TableValue) (plan_there : IsPlan fC.header.fields s.table room placed) (same : length placed.words ≡ length copy.words)

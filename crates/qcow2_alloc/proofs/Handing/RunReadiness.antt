@@ -7,7 +7,7 @@ use Rattle.std.proofs.lemmas.Nat.{le-div}
 use Rattle.std.proofs.Math.Nat.{div-mul-le_self, mul-le-mul, mul-le-mul_right}
 use Rattle.imago_storage.specs.State.{StorageState}
 use Rattle.imago_storage.specs.declared.fault.Fault.{Fault}
-use Rattle.imago_storage.specs.declared.fault.Fault.TheVariants.{DamagedTable, Limit}
+use Rattle.imago_storage.specs.declared.fault.Fault.TheVariants.{Limit}
 use Rattle.imago_storage.proofs.Composing.{keeps_on}
 use Rattle.qcow2_types.specs.Counts.{counters_of_block}
 use Rattle.qcow2_types.specs.Header.{Header, cluster_size}
@@ -21,19 +21,18 @@ use Rattle.qcow2_alloc.specs.declared.allocation.readying_runs.Provision.TheVari
 use Rattle.qcow2_alloc.specs.declared.cache.CacheDependency.TheVariants.{L2DependsOnRb}
 use Rattle.qcow2_alloc.specs.declared.cache.MetadataCaches.{MetadataCaches}
 use Rattle.qcow2_alloc.specs.declared.file.ImageFile.{ImageFile}
-use Rattle.qcow2_alloc.specs.Allocating.{Allocating, MovedTable, missing, allocating_causes}
+use Rattle.qcow2_alloc.specs.Allocating.{Allocating, MovedTable, missing}
 use Rattle.qcow2_alloc.specs.Allocators.{metadata_of}
 use Rattle.qcow2_alloc.specs.Caches.{order_of, cached_file}
 use Rattle.qcow2_alloc.specs.Causes.{HasCause}
-use Rattle.qcow2_alloc.specs.Freeing.{IsLoose}
 use Rattle.qcow2_alloc.specs.GrowingTables.{IsLengthenedByTable, NoPlaceToGrow, table_run}
 use Rattle.qcow2_alloc.specs.Going.{WasNotCutOff}
 use Rattle.qcow2_alloc.specs.Quiet.{Metadata, IsSound, counted}
-use Rattle.qcow2_alloc.specs.ReadyingBlocks.{CountsAsBefore, HasMore, NoneCanBeMade, ReadiesBlocks, WhyNotFit, last_number}
+use Rattle.qcow2_alloc.specs.ReadyingBlocks.{CountsAsBefore, HasMore, NoneCanBeMade, ReadiesBlocks, fitting_causes, last_number}
 use Rattle.qcow2_alloc.specs.ReadyingRuns.{IsRunTold, ReadiesRun}
 use Rattle.qcow2_alloc.specs.SearchingClusters.{IsFirstRun, IsSafeWith, LooksForRun, counts_in}
 use Rattle.qcow2_alloc.proofs.Freeing.EntryFrees.{unbarred-still}
-use Rattle.qcow2_alloc.proofs.Causes.{cause-weaker, cause-told}
+use Rattle.qcow2_alloc.proofs.Causes.{bare-weaker, cause-weaker, cause-told}
 use Rattle.qcow2_alloc.proofs.Handing.CountSequences.{allocating-none, allocating-then, allocating-as}
 use Rattle.qcow2_alloc.proofs.Handing.BlocksBeforeTables.{no-place-as}
 use Rattle.qcow2_alloc.proofs.Growth.RoomSearches.{first-run-same}
@@ -256,7 +255,7 @@ module _ {S : Type 0} (state : S → StorageState) (s : ImageState S) where
           first-run-same (counts_in state sA.caches sA.file) (counts_in state B fB) mark n z (counts-still state sA.table sA.caches sA.file z B fB looks.looked safe) (looks.found safe)
 
       -- It is refused as no run begins there that can be counted,
-      pub unfit-refused : (fault : Fault) → WhyNotFit fB.header.fields n z fault → Stays mark n sA → ReadiesRun state n (with_mark s mark) (Err fault) (with_mark (lent sA.table B fB sA.pending) mark)
+      pub unfit-refused : (fault : Fault) → HasCause (fitting_causes fB.header.fields n z) fault → Stays mark n sA → ReadiesRun state n (with_mark s mark) (Err fault) (with_mark (lent sA.table B fB sA.pending) mark)
       unfit-refused fault why stays =
           let searched = readying-searched mark n z B fB looks in record {
             leaked = λ _. 0;
@@ -269,7 +268,7 @@ module _ {S : Type 0} (state : S → StorageState) (s : ImageState S) where
             some = tt;
             mark = refl;
             list = by-table s.file.header sA.file.header s.table sA.table s.pending sA.pending so_far.list;
-            cause = caused fault why;
+            cause = bare-weaker _ never (λ number far. ((λ order keeps sound. (crowded far.1 order keeps sound, told number far (keeps, order, sound))), looks.looked.cause ∙ so_far.faults)) fault why;
           }
         where
           never : z ≡ 0 → IsGuarded state s → ⊥
@@ -280,7 +279,7 @@ module _ {S : Type 0} (state : S → StorageState) (s : ImageState S) where
               let none : counted (metadata state sA) 0 ≡ 0 = subst (λ c. counted (metadata state sA) c ≡ 0) is run in
               omega (arith, counts, none)
 
-          told : (number : ℕ) → WhyNotFit fB.header.fields n z (Limit number) → IsGuarded state s → IsRunTold (metadata_of state fB B sA.table sA.pending) mark n number
+          told : (number : ℕ) → HasCause (fitting_causes fB.header.fields n z) (Limit number) → IsGuarded state s → IsRunTold (metadata_of state fB B sA.table sA.pending) mark n number
           told number why holds =
               let there = holds-on holds in
               let long = there.2.table.long in
@@ -293,12 +292,6 @@ module _ {S : Type 0} (state : S → StorageState) (s : ImageState S) where
               let there = holds-on holds in
               run-fits mark n some (metadata state s) sound roomy (metadata state sA) ((stays holds).room roomy) so_far.step.moved (so_far.step.raised order keeps sound tt) there.2 z (looks.found (safe-with holds))
               (subst (λ (H : Header). IsInReach H.fields.cluster_bits (z + (n - 1)) → 2 ^ 20 ≤ (z + (n - 1)) / counters_of_block H.fields) looks.looked.header far)
-
-          caused : (f : Fault) → WhyNotFit fB.header.fields n z f → HasCause (allocating_causes (IsGuarded state s) (IsLoose s.table s.caches)
-              (λ number. order_of s.caches ≡ L2DependsOnRb → IsTrue (state s.file.image).shape.keeps → IsSound Start → IsCrowded Start mark n × IsRunTold (metadata_of state fB B sA.table sA.pending) mark n number) (state s.file.image).faults (state fB.image).faults) f
-          caused DamagedTable is = never is
-          caused (Limit number) far = ((λ order keeps sound. (crowded far.1 order keeps sound, told number far (keeps, order, sound))), looks.looked.cause ∙ so_far.faults)
-          caused other is = absurd is
 
       -- What it has taken is little.
       little-found : Stays mark n sA → order_of s.caches ≡ L2DependsOnRb → IsTrue (state s.file.image).shape.keeps → IsSound Start → TakesLittle mark n Start (metadata_of state fB B sA.table sA.pending) × ((roomy : IsRoomy Start mark n) → z + n ≤ roomy.first + room_for s.file.header.fields n)

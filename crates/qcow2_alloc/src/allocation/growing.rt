@@ -6,8 +6,9 @@ ghost use Rattle.qcow2_alloc.specs.Allocators.{table_of, mark_of};
 ghost use Rattle.qcow2_alloc.specs.Caches.{cached_file};
 ghost use Rattle.qcow2_alloc.specs.Growing.{lacking, needed_for, GrowsRoom, LooksForRoom};
 ghost use Rattle.qcow2_alloc.specs.GrowingTables.{GrowsTable, table_run};
-ghost use Rattle.qcow2_alloc.specs.MovingTables.{IsPlan, IsCopyFor, WhyNotPlaced, IsGrownFor, WhyNotGrown, EntersFree};
+ghost use Rattle.qcow2_alloc.specs.MovingTables.{IsPlan, IsCopyFor, placing_causes, IsGrownFor, growing_causes, EntersFree};
 ghost use Rattle.qcow2_alloc.specs.State.{lent_to, seen};
+ghost use Rattle.qcow2_alloc.specs.Causes.{HasCause};
 
 use crate::allocation::Allocator;
 use crate::allocation::searching::Run;
@@ -197,7 +198,7 @@ impl Allocator {
     pub(super) fn grown_copy(&self, header: &Header, at: usize) -> Result<RefTable, Fault>
         requires past { length (table_of self.now).words ≤ at }
         ensures ok { IfOk result (IsGrownFor header.now.fields (table_of self.now) at) }
-        ensures err { IfErr result (WhyNotGrown header.now.fields (table_of self.now) at) }
+        ensures err { IfErr result (HasCause (growing_causes header.now.fields (table_of self.now) at)) }
     {
         if self.reftable.cluster_bits() != header.cluster_bits() {
             return Err(Fault::DamagedTable);
@@ -220,7 +221,7 @@ impl Allocator {
         requires fits { room.first + room.len + 2 ^ 24 < 2 ^ 64 }
         ensures ok { OnOk result (IsPlan header.now.fields (table_of self.now) room copy.new
             × (length copy.new.words ≡ length copy.old.words)) }
-        ensures err { IfErr result (WhyNotPlaced header.now.fields (table_of self.now) room copy.old) }
+        ensures err { IfErr result (HasCause (placing_causes header.now.fields (table_of self.now) room copy.old)) }
     {
         let rb_bits = header.rb_bits();
         let HostCluster(first) = room.first();

@@ -1,6 +1,6 @@
 //! Refcount blocks are made where there were none, and new ones are written to clusters that nothing names yet. A block is imago's
 //! refblock, which `ensure_rb` makes; qemu's call is `alloc_refcount_block`.
-ghost use Rattle.std.specs.Prelude.{IsTrue, ◌≡◌, ◌≢◌, ◌≤◌, ◌<◌, ◌*◌, ◌+◌, ◌/◌, ◌%◌, ◌^◌, ℕ, List, Some, true, OnOk, IfOk, IfErr, IsOkUnless, length, replicate, slice_index, slice_set, ◌-◌};
+ghost use Rattle.std.specs.Prelude.{IsTrue, ◌≡◌, ◌≢◌, ◌≤◌, ◌<◌, ◌*◌, ◌+◌, ◌/◌, ◌%◌, ◌^◌, ℕ, List, Some, true, OnOk, IfOk, IfErr, IsOkUnless, Err, length, replicate, slice_index, slice_set, ◌-◌};
 ghost use Rattle.qcow2_metadata.specs.Blocks.{block_of};
 ghost use Rattle.qcow2_metadata.specs.Places.{IsInReach, IsPlaced, place_of};
 ghost use Rattle.qcow2_metadata.specs.Tables.{IsPlacedTable, IsNamable};
@@ -14,13 +14,14 @@ ghost use Rattle.qcow2_alloc.specs.Allocators.{metadata_of, table_of, mark_of};
 ghost use Rattle.qcow2_alloc.specs.Caches.{order_of};
 ghost use Rattle.qcow2_alloc.specs.FillingBlocks.{IsBlockPlaced};
 ghost use Rattle.qcow2_alloc.specs.Quiet.{IsSound};
-ghost use Rattle.qcow2_alloc.specs.MakingBlocks.{CanName, WhyNotNamed, NamesWritten, MakesIn};
+ghost use Rattle.qcow2_alloc.specs.MakingBlocks.{CanName, naming_causes, NamesWritten, MakesIn};
 ghost use Rattle.qcow2_alloc.specs.State.{lent};
 ghost use Rattle.qcow2_alloc.specs.FreeList.{covers};
 ghost use Rattle.qcow2_alloc.specs.Growing.{lacking};
 ghost use Rattle.qcow2_alloc.specs.MakingRoom.{run_of};
 ghost use Rattle.qcow2_alloc.specs.NewBlocks.{CountsItsOwn, WritesBlockTo, WritesLacking};
 ghost use Rattle.qcow2_alloc.specs.Scanning.{next_of};
+ghost use Rattle.qcow2_alloc.specs.Causes.{HasCause};
 
 use crate::allocation::Allocator;
 use crate::allocation::searching::Run;
@@ -66,7 +67,8 @@ impl Allocator {
     pub(super) fn check_place(&self, bits: u32, place: HostCluster) -> Result<(), Fault>
         requires { bits ≤ 21 }
         ensures ok { OnOk result (CanName (table_of self.now) bits place × IsInReach bits place) }
-        ensures err { IfErr result (WhyNotNamed (table_of self.now) bits place) }
+        ensures err { IfErr result (HasCause (naming_causes (table_of self.now) bits place)) }
+        ensures memory { result ≡ Err Fault.Memory → ⊥ }
     {
         let Some(table) = self.reftable.get_cluster() else {
             return Err(Fault::DamagedTable);

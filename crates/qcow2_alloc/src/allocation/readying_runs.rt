@@ -1,6 +1,6 @@
 //! A run of free clusters is made ready to be counted: each of its clusters gets a counter. A counter is a refcount for qemu and imago, and
 //! the mark `free_cluster_index`, or `first_free_cluster`.
-ghost use Rattle.std.specs.Prelude.{true, ◌≡◌, ◌≤◌, IsTrue, List, OnOk, length, ◌≢◌, ◌<◌, ◌+◌, ◌-◌, ◌/◌, ◌^◌, ◌↔◌, IfOk, IfErr};
+ghost use Rattle.std.specs.Prelude.{true, ◌≡◌, ◌≤◌, IsTrue, List, OnOk, length, ◌≢◌, ◌<◌, ◌+◌, ◌-◌, ◌/◌, ◌^◌, ◌↔◌, IfOk, IfErr, Err};
 ghost use Rattle.qcow2_types.specs.Pending.{FreeEntry};
 ghost use Rattle.qcow2_alloc.specs.Allocating.{MakesBlocks};
 ghost use Rattle.qcow2_alloc.specs.declared.cache.CacheDependency.TheVariants.{L2DependsOnRb};
@@ -11,8 +11,9 @@ ghost use Rattle.qcow2_alloc.specs.Quiet.{IsSound};
 ghost use Rattle.qcow2_alloc.specs.State.{lent, lent_to, seen};
 ghost use Rattle.qcow2_types.specs.Counts.{counters_of_block};
 ghost use Rattle.qcow2_metadata.specs.Places.{IsInReach};
-ghost use Rattle.qcow2_alloc.specs.ReadyingBlocks.{ReadiesBlocks, WhyNotFit};
+ghost use Rattle.qcow2_alloc.specs.ReadyingBlocks.{ReadiesBlocks, fitting_causes};
 ghost use Rattle.qcow2_alloc.specs.ReadyingRuns.{ReadiesRun, Spares};
+ghost use Rattle.qcow2_alloc.specs.Causes.{HasCause};
 
 use crate::allocation::Allocator;
 use crate::cache::MetadataCaches;
@@ -145,7 +146,8 @@ fn last_index(first: HostCluster, count: u64, header: &Header) -> Result<usize, 
     ensures reach { IfOk result (λ last. IsInReach header.now.fields.cluster_bits (first + (count - 1))) }
     ensures index { IfOk result (λ last. last ≡ (first + (count - 1)) / counters_of_block header.now.fields) }
     ensures few { IfOk result (λ last. last < 2 ^ 20) }
-    ensures err { IfErr result (WhyNotFit header.now.fields count first) }
+    ensures err { IfErr result (HasCause (fitting_causes header.now.fields count first)) }
+    ensures memory { result ≡ Err Fault.Memory → ⊥ }
 {
     if first == HostCluster(0) {
         return Err(Fault::DamagedTable);

@@ -7,7 +7,8 @@ use Rattle.qcow2_types.specs.Counts.{counters_of_block}
 use Rattle.qcow2_types.specs.Header.{Fields, layout_of, words_of_cluster}
 use Rattle.qcow2_metadata.specs.Tables.{IsEnough, IsGrownLength, TableValue, padded}
 use Rattle.qcow2_alloc.specs.Allocators.{table_of}
-use Rattle.qcow2_alloc.specs.MovingTables.{IsGrownFor, WhyNotGrown}
+use Rattle.qcow2_alloc.specs.Causes.{HasCause}
+use Rattle.qcow2_alloc.specs.MovingTables.{IsGrownFor, growing_causes}
 use Rattle.qcow2_alloc.proofs.allocation.Allocator.grown_copy.Goals as goal
 
 module _ (h : Fields) (table : TableValue) (at : ℕ) where
@@ -26,7 +27,7 @@ module _ (h : Fields) (table : TableValue) (at : ℕ) where
 
   -- What isn't want of memory is a table that would be too long.
   why-not : (r : Result TableValue Fault) → (((n : ℕ) → IsEnough (words_of_cluster h) (counters_of_block h) at n → 2 ^ 20 < n) → IsErrOf r (Limit (2 ^ 20 + words_of_cluster h)))
-      → ((n : ℕ) → IsEnough (words_of_cluster h) (counters_of_block h) at n → n ≤ 2 ^ 20 → IsOkUnless r Memory) → IfErr r (WhyNotGrown h table at)
+      → ((n : ℕ) → IsEnough (words_of_cluster h) (counters_of_block h) at n → n ≤ 2 ^ 20 → IsOkUnless r Memory) → IfErr r (HasCause (growing_causes h table at))
   why-not (Ok copy) limit few = tt
   why-not (Err Memory) limit few = tt
   why-not (Err (Limit number)) limit few = let long = too-long (Limit number) (λ same. cc same) few in (long, let is = limit long in cc is)

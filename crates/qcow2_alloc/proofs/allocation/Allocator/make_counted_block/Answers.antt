@@ -5,7 +5,8 @@ use Rattle.qcow2_metadata.specs.Places.{IsInReach}
 use Rattle.qcow2_alloc.specs.Allocating.{RaisesCluster}
 use Rattle.qcow2_alloc.specs.Allocators.{table_of, metadata_of}
 use Rattle.qcow2_alloc.specs.Caches.{cached_file}
-use Rattle.qcow2_alloc.specs.MakingBlocks.{WhyNotNamed}
+use Rattle.qcow2_alloc.specs.Causes.{HasCause}
+use Rattle.qcow2_alloc.specs.MakingBlocks.{naming_causes}
 use Rattle.qcow2_alloc.specs.Quiet.{counted}
 use Rattle.qcow2_alloc.specs.State.{lent}
 use Rattle.qcow2_alloc.specs.declared.cache.MetadataCaches.{MetadataCaches}
@@ -31,7 +32,7 @@ returns-in_err-check_place-clause-makes g c = rw (handed-on _ _ c.from_residual.
     let at : counted m 0 ≡ 0 = subst (λ n. counted m n ≡ 0) none zero in
     let some = first-counted m ((begun.quiet holds.1).holds holds.0 holds.2 tt).0 in
     omega (arith, at, some))
-    (subst (λ b. WhyNotNamed table b c.args.place c.in_err-check_place.field-0.0) c.cluster_bits.ensures.value c.in_err-check_place.ensures.err))
+    (subst (λ b. HasCause (naming_causes table b c.args.place) c.in_err-check_place.field-0.0) c.cluster_bits.ensures.value c.in_err-check_place.ensures.err))
 
 pub returns-in_err-block-clause-makes : goal.returns-in_err-block-clause-makes
 returns-in_err-block-clause-makes g c = rw (handed-on _ _ c.from_residual-in_err-block.ensures.1) (λ pending first f begun free.

@@ -1,7 +1,8 @@
 use Rattle.std.proofs.Common.{◌≡◌, arith, subst}
 use Rattle.qcow2_metadata.specs.Places.{IsInReach}
 use Rattle.qcow2_alloc.specs.Allocators.{table_of, metadata_of}
-use Rattle.qcow2_alloc.specs.MakingBlocks.{WhyNotNamed}
+use Rattle.qcow2_alloc.specs.Causes.{HasCause}
+use Rattle.qcow2_alloc.specs.MakingBlocks.{naming_causes}
 use Rattle.qcow2_alloc.specs.Quiet.{IsSound, counted}
 use Rattle.qcow2_alloc.specs.State.{lent}
 use Rattle.qcow2_alloc.proofs.Searching.FreeClusters.{uncounted-free}
@@ -29,7 +30,7 @@ returns-in_err-check_place-clause-makes g c = rw (handed-on _ _ c.from_residual.
     let at : counted m 0 ≡ 0 = subst (λ n. counted m n ≡ 0) none zero in
     let some = first-counted m sound in
     omega (arith, at, some))
-    (subst (λ b. WhyNotNamed table b d c.in_err-check_place.field-0.0) c.cluster_bits.ensures.value c.in_err-check_place.ensures.err))
+    (subst (λ b. HasCause (naming_causes table b d) c.in_err-check_place.field-0.0) c.cluster_bits.ensures.value c.in_err-check_place.ensures.err))
 
 pub returns-in_err-block-clause-makes : goal.returns-in_err-block-clause-makes
 returns-in_err-block-clause-makes g c = rw (handed-on _ _ c.from_residual-in_err-block.ensures.1) (λ pending.
