@@ -15,10 +15,9 @@ use Rattle.qcow2_metadata.specs.contracts.entries.L2Entry.{the_row as entry_row}
 use Rattle.qcow2_metadata.specs.contracts.entries.L2EntryTableEntry.TheImpl.{ghosts}
 use Rattle.qcow2_metadata.specs.contracts.word_table.WordTable.{the_row as table_row}
 use Rattle.qcow2_metadata.specs.contracts.refblock.RefBlock.{the_row as block_row}
-use Rattle.qcow2_alloc.specs.Backends.{TableLoaded, TableFlushed, BlockLoaded, BlockFlushed}
 use Rattle.qcow2_alloc.specs.Cache.{CacheKind, cache_kind, hit, with_entries}
-use Rattle.qcow2_alloc.specs.Caches.{cached_in}
-use Rattle.qcow2_alloc.specs.Finding.{TableFound, BlockFound}
+use Rattle.qcow2_alloc.specs.CachedKinds.{Beside, CachedKind, block_entries, by_blocks, by_tables, flushes_of, loads_of, table_entries}
+use Rattle.qcow2_alloc.specs.Finding.{EntryFound}
 
 module _ {S : Type 0} where
   -- the caches with other tables, and with other blocks
@@ -29,44 +28,31 @@ module _ {S : Type 0} where
   with_blocks caches es = record caches { rb = with_entries caches.rb es }
 
   module _ (state : S → StorageState) where
-    -- how tables and blocks are loaded from an image file, and flushed to it
-    abbrev pub table_loads : ImageFile S → ℕ → Result TableValue Fault → ImageFile S → Type 0
-    table_loads old key result new = (new.header ≡ old.header)
-        × TableLoaded old.header.fields key (state old.image) result (state new.image)
-
-    abbrev pub table_flushes : ImageFile S → ℕ → TableValue → Result Unit Fault → ImageFile S → TableValue → Type 0
-    table_flushes old key table result new table' = (new.header ≡ old.header)
-        × TableFlushed (state old.image) key table result (state new.image) table'
-
-    abbrev pub block_loads : ImageFile S → ℕ → Result Block Fault → ImageFile S → Type 0
-    block_loads old key result new = (new.header ≡ old.header)
-        × BlockLoaded old.header.fields key (state old.image) result (state new.image)
-
-    abbrev pub block_flushes : ImageFile S → ℕ → Block → Result Unit Fault → ImageFile S → Block → Type 0
-    block_flushes old key block result new block' = (new.header ≡ old.header)
-        × BlockFlushed (state old.image) key block result (state new.image) block'
-
     -- what caches of so many of them are like
     abbrev pub table_kind : ℕ → CacheKind ℕ TableValue (ImageFile S)
-    table_kind cap = cache_kind nat_eq table_loads table_flushes cap
+    table_kind cap = cache_kind nat_eq (loads_of (table_entries state)) (flushes_of (table_entries state)) cap
 
     abbrev pub block_kind : ℕ → CacheKind ℕ Block (ImageFile S)
-    block_kind cap = cache_kind nat_eq block_loads block_flushes cap
+    block_kind cap = cache_kind nat_eq (loads_of (block_entries state)) (flushes_of (block_entries state)) cap
+
+module _ (S V : RattleType) {W A B : Type 0} (kind : CachedKind S.Denot V.Denot W)
+    (seen : MetadataCaches S.Denot → Beside S.Denot V.Denot W A B)
+    (put : MetadataCaches S.Denot → List (ℕ × Slot V.Denot) → MetadataCaches S.Denot) where
+  -- The entry is found or loaded with the value that r shows, and goes first, with the last value written through r.
+  abbrev pub lends_entry : MutBor (MetadataCaches S.Denot) → ImageFile S.Denot → ImageFile S.Denot → ℕ
+      → Result (MutBor V.Denot) Fault → Fml
+  lends_entry c before after cluster r = LendsSoOk (the_row S) V c r
+      (λ n w. (mid : MetadataCaches S.Denot) × EntryFound kind cluster (seen c.now) before (Ok tt) (seen mid) after
+      × IfOk r (λ v. option_map (λ s. s.value) (lookup (nat_eq cluster) (seen mid).own.slots.entries) ≡ Some v.now)
+      × (n ≡ put mid (hit (nat_eq cluster) (seen mid).own.slots.entries w)))
+      (λ n. IfErr r (λ fault. EntryFound kind cluster (seen c.now) before (Err fault) (seen n) after))
 
 module _ (S : RattleType) (state : S.Denot → StorageState) where
-  -- The table is found or loaded with the value that r shows, and goes first, with the last value written through r.
+  -- So is a table,
   abbrev pub lends_table : MutBor (MetadataCaches S.Denot) → ImageFile S.Denot → ImageFile S.Denot → ℕ
       → Result (MutBor TableValue) Fault → Fml
-  lends_table c before after cluster r = LendsSoOk (the_row S) (table_row entry_row ghosts) c r
-      (λ n w. (mid : MetadataCaches S.Denot) × TableFound state cluster c.now before (Ok tt) mid after
-      × IfOk r (λ v. option_map (λ s. s.value) (lookup (nat_eq cluster) (cached_in mid).tables) ≡ Some v.now)
-      × (n ≡ with_tables mid (hit (nat_eq cluster) (cached_in mid).tables w)))
-      (λ n. IfErr r (λ fault. TableFound state cluster c.now before (Err fault) n after))
+  lends_table = lends_entry S (table_row entry_row ghosts) (table_entries state) by_tables with_tables
 
-  -- The same of a block.
+  -- and so is a block.
   abbrev pub lends_block : MutBor (MetadataCaches S.Denot) → ImageFile S.Denot → ImageFile S.Denot → ℕ → Result (MutBor Block) Fault → Fml
-  lends_block c before after cluster r = LendsSoOk (the_row S) block_row c r
-      (λ n w. (mid : MetadataCaches S.Denot) × BlockFound state cluster c.now before (Ok tt) mid after
-      × IfOk r (λ v. option_map (λ s. s.value) (lookup (nat_eq cluster) (cached_in mid).blocks) ≡ Some v.now)
-      × (n ≡ with_blocks mid (hit (nat_eq cluster) (cached_in mid).blocks w)))
-      (λ n. IfErr r (λ fault. BlockFound state cluster c.now before (Err fault) n after))
+  lends_block = lends_entry S block_row (block_entries state) by_blocks with_blocks

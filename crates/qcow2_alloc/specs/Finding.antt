@@ -1,5 +1,5 @@
 -- How L2 tables and refcount blocks are found in their caches, or loaded into them.
-use Rattle.std.specs.Prelude.{◌≡◌, ◌⊎◌, ℕ, ◌*◌, ◌<◌, ◌≤◌, ◌∷◌, ◌&&◌, Bool, true, IsSome, OnOk, OnErr, Ok, Err, Result, MatchResult, List, None, Some, cond, length, map, nat_eq, nat_lt}
+use Rattle.std.specs.Prelude.{◌≡◌, ◌⊎◌, ℕ, ◌<◌, ◌≤◌, ◌∷◌, ◌&&◌, Bool, true, IsSome, OnOk, OnErr, Ok, Err, Result, MatchResult, List, None, Some, cond, length, map, nat_eq, nat_lt}
 use Rattle.std.specs.Option.{option_map_or}
 use Rattle.std.specs.List.{AllByRecursion, count_by}
 use Rattle.std.specs.Map.{lookup, remove_entry}
@@ -7,22 +7,15 @@ use Rattle.imago_storage.specs.State.{StorageState}
 use Rattle.imago_storage.specs.Calls.{Kept}
 use Rattle.imago_storage.specs.declared.fault.Fault.{Fault}
 use Rattle.imago_storage.specs.declared.fault.Fault.TheVariants.{CacheFull}
-use Rattle.qcow2_types.specs.Bytes.{Bytes, bytes_of}
-use Rattle.qcow2_types.specs.Header.{Fields, cluster_size, words_of_cluster, layout_of}
-use Rattle.qcow2_metadata.specs.Places.{IsInReach}
-use Rattle.qcow2_metadata.specs.Tables.{HasUnsound, l2_words, table_in, words_in}
-use Rattle.qcow2_metadata.specs.Blocks.{block_in}
+use Rattle.qcow2_types.specs.Bytes.{bytes_of}
 use Rattle.qcow2_alloc.specs.declared.async_lru_cache.Slot.{Slot}
-use Rattle.qcow2_alloc.specs.declared.cache.CacheDependency.TheVariants.{L2DependsOnRb, RbDependsOnL2}
 use Rattle.qcow2_alloc.specs.declared.cache.MetadataCaches.{MetadataCaches}
 use Rattle.qcow2_alloc.specs.declared.file.ImageFile.{ImageFile}
-use Rattle.qcow2_alloc.specs.Backends.{TableFlushed, BlockFlushed}
+use Rattle.qcow2_alloc.specs.Backends.{Flushed}
 use Rattle.qcow2_alloc.specs.Cache.{victim, FlushedAt}
-use Rattle.qcow2_alloc.specs.Caches.{cached_in, order_of, HasRoomOf}
+use Rattle.qcow2_alloc.specs.CachedKinds.{AreClean, AreInReach, Beside, CachedKind, OtherClean, OtherReach, WritesOther, as_written, block_entries, by_blocks, by_tables, cached_of, table_entries}
 use Rattle.qcow2_alloc.specs.Causes.{Causes, FailsFor}
-use Rattle.qcow2_alloc.specs.Going.{Going, CachedStep, Always, WasNotCutOff, AreTablesInReach, AreBlocksInReach, BehindBlocks, BehindTables}
-use Rattle.qcow2_alloc.specs.Memory.{written_table, written_block}
-use Rattle.qcow2_alloc.specs.Safety.{AreTablesClean, AreBlocksClean}
+use Rattle.qcow2_alloc.specs.Going.{Going, Behind, CachedStep, Always, WasNotCutOff}
 
 module _ {V : Type 0} where
   -- The entries of a cache of so many once there is room for one more: where it is full, the least recently used one that isn't pinned
@@ -65,15 +58,10 @@ pub record LetsIn {V : Type 0} (flushes : StorageState → ℕ → V → Result 
       × FlushedAt nat_eq flushes key old es answer mid flushed
       × MatchResult answer (λ _. Kept mid new) (λ fault. (result ≡ Err fault) × (new ≡ mid) × (es' ≡ flushed))
 
--- of tables,
-abbrev pub LetsTableIn : CachedStep
-LetsTableIn old cached result new cached' = (cached'.blocks ≡ cached.blocks)
-    × LetsIn TableFlushed old cached.tables result new cached'.tables
-
--- and of blocks
-abbrev pub LetsBlockIn : CachedStep
-LetsBlockIn old cached result new cached' = (cached'.tables ≡ cached.tables)
-    × LetsIn BlockFlushed old cached.blocks result new cached'.blocks
+-- An entry is let in so, and the other cache stays.
+abbrev pub LetsEntryIn : {S V W : Type 0} → CachedKind S V W → CachedStep
+LetsEntryIn kind old cached result new cached' = (kind.others cached' ≡ kind.others cached)
+    × LetsIn (Flushed kind.writes) old (kind.own cached) result new (kind.own cached')
 
 -- Searches fail, but for want of memory or by a storage, as a damaged table where `fine` doesn't hold, that words can name what is loaded
 -- and written and that what is loaded is sound; and as a full cache where `full` does.
@@ -81,57 +69,42 @@ abbrev pub search_causes : (fine full : Type 0) → (before after : ℕ) → Cau
 search_causes fine full before after =
     record { damaged = fine → ⊥; counter = ⊥; full = full; limit = λ number. ⊥; before = before; after = after }
 
--- Words can name the table in this cluster, and the file has it sound.
-pub record IsTableFine (f : Bytes) (h : Fields) (cluster : ℕ) : Type 0 where
-  pub reach : IsInReach h.cluster_bits cluster
-  pub sound : HasUnsound l2_words (layout_of h) (words_in f (cluster * cluster_size h) (words_of_cluster h)) → ⊥
-
--- What the search of an L2 table does.
-pub record TableFound {S : Type 0} (state : S → StorageState) (cluster : ℕ) (old : MetadataCaches S) (before : ImageFile S)
-    (result : Result Unit Fault) (new : MetadataCaches S) (after : ImageFile S) : Type 0 where
-  pub going : Going before.header (order_of old) Always (WasNotCutOff result) (state before.image) (cached_in old) (state after.image)
-      (cached_in new)
+-- What the search of an entry does.
+pub record EntryFound {S V W A B : Type 0} (kind : CachedKind S V W) (cluster : ℕ) (old : Beside S V W A B) (before : ImageFile S)
+    (result : Result Unit Fault) (new : Beside S V W A B) (after : ImageFile S) : Type 0 where
+  pub going : Going before.header old.order Always (WasNotCutOff result) (kind.state before.image) (cached_of kind old)
+      (kind.state after.image) (cached_of kind new)
   -- One that is there is found: nothing else happens.
-  pub hit : IsSome (lookup (nat_eq cluster) (cached_in old).tables) → (result ≡ Ok tt) × (new ≡ old) × (after ≡ before)
-  pub there : OnOk result (IsSome (lookup (nat_eq cluster) (cached_in new).tables))
-  pub sought : Sought written_table old.l2.slots.cap cluster
-      (table_in (bytes_of (state after.image).bytes) before.header.fields cluster (words_of_cluster before.header.fields))
-      (cached_in old).tables result (cached_in new).tables
+  pub hit : IsSome (lookup (nat_eq cluster) old.own.slots.entries) → (result ≡ Ok tt) × (new ≡ old) × (after ≡ before)
+  pub there : OnOk result (IsSome (lookup (nat_eq cluster) new.own.slots.entries))
+  pub sought : Sought (as_written kind.writes) old.own.slots.cap cluster
+      (kind.read (bytes_of (kind.state after.image).bytes) before.header.fields cluster) old.own.slots.entries result new.own.slots.entries
   -- Where there is room nothing is written,
-  pub roomy : length (cached_in old).tables < old.l2.slots.cap → Kept (state before.image) (state after.image) × (new.rb ≡ old.rb)
-  -- and blocks are only where they come first.
-  pub blocks : map written_block (cached_in new).blocks ≡ map written_block (cached_in old).blocks
-  pub apart : (order_of old ≡ L2DependsOnRb → ⊥) → new.rb ≡ old.rb
-  -- Where there is none, they are before a table is that has to go,
-  pub behind : lookup (nat_eq cluster) (cached_in old).tables ≡ None → old.l2.slots.cap ≤ length (cached_in old).tables
-      → BehindBlocks (order_of old) LetsTableIn (state before.image) (cached_in old) result (state after.image) (cached_in new)
+  pub roomy : length old.own.slots.entries < old.own.slots.cap
+      → Kept (kind.state before.image) (kind.state after.image) × (new.other ≡ old.other)
+  -- and the other cache is only where it comes first.
+  pub kept : map (as_written kind.other_writes) new.other.slots.entries ≡ map (as_written kind.other_writes) old.other.slots.entries
+  pub apart : (old.order ≡ kind.first → ⊥) → new.other ≡ old.other
+  -- Where there is none, it is before an entry is that has to go,
+  pub behind : lookup (nat_eq cluster) old.own.slots.entries ≡ None → old.own.slots.cap ≤ length old.own.slots.entries
+      → Behind (old.order ≡ kind.first) (WritesOther kind) (LetsEntryIn kind) (kind.state before.image) (cached_of kind old) result
+      (kind.state after.image) (cached_of kind new)
   -- and where nothing is modified nothing is written.
-  pub still : AreTablesClean (cached_in old) → AreBlocksClean (cached_in old) → Kept (state before.image) (state after.image)
-      × AreTablesClean (cached_in new) × AreBlocksClean (cached_in new)
+  pub still : AreClean kind.writes old.own.slots.entries → OtherClean kind (cached_of kind old)
+      → Kept (kind.state before.image) (kind.state after.image) × AreClean kind.writes new.own.slots.entries
+      × OtherClean kind (cached_of kind new)
   pub others : (new.order ≡ old.order) × (after.header ≡ before.header)
-  pub room : HasRoomOf old new
-  pub cause : FailsFor (search_causes (IsTableFine (bytes_of (state after.image).bytes) before.header.fields cluster
-      × AreTablesInReach (cached_in old) × AreBlocksInReach (cached_in old)) (IsPinnedFull old.l2.slots.cap (cached_in old).tables)
-      (state before.image).faults (state after.image).faults) result
+  pub room : (new.own.slots.cap ≡ old.own.slots.cap) × (new.other.slots.cap ≡ old.other.slots.cap)
+  pub cause : FailsFor (search_causes (kind.Fine (bytes_of (kind.state after.image).bytes) before.header.fields cluster
+      × AreInReach kind.writes old.own.slots.entries × OtherReach kind (cached_of kind old))
+      (IsPinnedFull old.own.slots.cap old.own.slots.entries) (kind.state before.image).faults (kind.state after.image).faults) result
 
--- The same of a refcount block.
-pub record BlockFound {S : Type 0} (state : S → StorageState) (cluster : ℕ) (old : MetadataCaches S) (before : ImageFile S)
-    (result : Result Unit Fault) (new : MetadataCaches S) (after : ImageFile S) : Type 0 where
-  pub going : Going before.header (order_of old) Always (WasNotCutOff result) (state before.image) (cached_in old) (state after.image)
-      (cached_in new)
-  pub hit : IsSome (lookup (nat_eq cluster) (cached_in old).blocks) → (result ≡ Ok tt) × (new ≡ old) × (after ≡ before)
-  pub there : OnOk result (IsSome (lookup (nat_eq cluster) (cached_in new).blocks))
-  pub sought : Sought written_block old.rb.slots.cap cluster (block_in (bytes_of (state after.image).bytes) before.header.fields cluster)
-      (cached_in old).blocks result (cached_in new).blocks
-  pub roomy : length (cached_in old).blocks < old.rb.slots.cap → Kept (state before.image) (state after.image) × (new.l2 ≡ old.l2)
-  pub tables : map written_table (cached_in new).tables ≡ map written_table (cached_in old).tables
-  pub apart : (order_of old ≡ RbDependsOnL2 → ⊥) → new.l2 ≡ old.l2
-  pub behind : lookup (nat_eq cluster) (cached_in old).blocks ≡ None → old.rb.slots.cap ≤ length (cached_in old).blocks
-      → BehindTables (order_of old) LetsBlockIn (state before.image) (cached_in old) result (state after.image) (cached_in new)
-  pub still : AreTablesClean (cached_in old) → AreBlocksClean (cached_in old) → Kept (state before.image) (state after.image)
-      × AreTablesClean (cached_in new) × AreBlocksClean (cached_in new)
-  pub others : (new.order ≡ old.order) × (after.header ≡ before.header)
-  pub room : HasRoomOf old new
-  pub cause : FailsFor (search_causes (IsInReach before.header.fields.cluster_bits cluster × AreTablesInReach (cached_in old)
-      × AreBlocksInReach (cached_in old)) (IsPinnedFull old.rb.slots.cap (cached_in old).blocks) (state before.image).faults
-      (state after.image).faults) result
+module _ {S : Type 0} (state : S → StorageState) (cluster : ℕ) (old : MetadataCaches S) (before : ImageFile S) (result : Result Unit Fault)
+    (new : MetadataCaches S) (after : ImageFile S) where
+  -- of an L2 table,
+  abbrev pub TableFound : Type 0
+  TableFound = EntryFound (table_entries state) cluster (by_tables old) before result (by_tables new) after
+
+  -- and of a refcount block
+  abbrev pub BlockFound : Type 0
+  BlockFound = EntryFound (block_entries state) cluster (by_blocks old) before result (by_blocks new) after

@@ -5,6 +5,7 @@ pub mod Memory
 pub mod Safety
 pub mod Lending
 pub mod Going
+pub mod CachedKinds
 pub mod Caches
 pub mod Finding
 pub mod CachesLending

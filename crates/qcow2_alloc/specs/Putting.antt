@@ -5,21 +5,19 @@ use Rattle.std.specs.Map.{lookup}
 use Rattle.imago_storage.specs.State.{StorageState}
 use Rattle.imago_storage.specs.Calls.{Kept}
 use Rattle.imago_storage.specs.declared.fault.Fault.{Fault}
-use Rattle.qcow2_types.specs.Bytes.{Bytes, bytes_of}
-use Rattle.qcow2_types.specs.Header.{Fields}
+use Rattle.qcow2_types.specs.Bytes.{bytes_of}
 use Rattle.qcow2_metadata.specs.Tables.{TableValue}
 use Rattle.qcow2_metadata.specs.Blocks.{Block}
 use Rattle.qcow2_alloc.specs.declared.async_lru_cache.Slot.{Slot}
-use Rattle.qcow2_alloc.specs.declared.cache.CacheDependency.{CacheDependency}
-use Rattle.qcow2_alloc.specs.declared.cache.CacheDependency.TheVariants.{L2DependsOnRb, RbDependsOnL2}
-use Rattle.qcow2_alloc.specs.Backends.{TableFlushed, BlockFlushed}
+use Rattle.qcow2_alloc.specs.declared.file.ImageFile.{ImageFile}
+use Rattle.qcow2_alloc.specs.Backends.{Flushed}
 use Rattle.qcow2_alloc.specs.Cache.{hit, victim}
-use Rattle.qcow2_alloc.specs.Caches.{CachedFile, cached_in, order_of, HasRoomOf}
+use Rattle.qcow2_alloc.specs.CachedKinds.{AreInReach, Beside, CachedKind, OtherReach, WritesOther, as_written, block_entries, by_blocks, by_tables, cached_of, table_entries}
+use Rattle.qcow2_alloc.specs.Caches.{CachedFile}
 use Rattle.qcow2_alloc.specs.Causes.{FailsFor}
-use Rattle.qcow2_alloc.specs.Finding.{with_room, LetsTableIn, LetsBlockIn, IsPinnedFull, PinsNothing, search_causes}
-use Rattle.qcow2_alloc.specs.Going.{Going, CachedStep, WasNotCutOff, AreTablesInReach, AreBlocksInReach, WritesTables, WritesBlocks, BehindBlocks, BehindTables}
-use Rattle.qcow2_alloc.specs.Memory.{Cached, written_table, written_block}
-use Rattle.qcow2_alloc.specs.Safety.{IsCachedTable, IsCachedBlock}
+use Rattle.qcow2_alloc.specs.Finding.{with_room, LetsEntryIn, IsPinnedFull, PinsNothing, search_causes}
+use Rattle.qcow2_alloc.specs.Going.{Going, Behind, CachedStep, WasNotCutOff}
+use Rattle.qcow2_alloc.specs.Memory.{Cached}
 
 module _ {V : Type 0} where
   -- the answer without the value that a refusal gives back
@@ -46,11 +44,9 @@ pub record IsNew {V : Type 0} (Fits : V → Type 0) (modified : V → Bool) (clu
   pub clean : modified value ≡ false
   pub free : AllByRecursion (λ e. e.0 ≡ cluster → modified e.1.value ≡ false) es
 
-abbrev pub IsNewTable : Bytes → Fields → ℕ → TableValue → List (ℕ × Slot TableValue) → Type 0
-IsNewTable f h cluster table tables = IsNew (IsCachedTable f h cluster) (λ t. t.modified) cluster table tables
-
-abbrev pub IsNewBlock : Bytes → Fields → ℕ → Block → List (ℕ × Slot Block) → Type 0
-IsNewBlock f h cluster block blocks = IsNew (IsCachedBlock f h cluster) (λ b. b.modified) cluster block blocks
+abbrev pub IsNewIn : {S V W A B : Type 0} → CachedKind S V W → ℕ → V → Beside S V W A B → ImageFile S → Type 0
+IsNewIn kind cluster value c file = IsNew (kind.Fits (bytes_of (kind.state file.image).bytes) file.header.fields cluster)
+    kind.writes.modified cluster value c.own.slots.entries
 
 -- What makes way is flushed in place, behind what comes first, if that does.
 pub record MadeWay (comes_first : Type 0) (First : CachedStep) (Flushes : StorageState → StorageState → Type 0) (before : StorageState)
@@ -61,65 +57,40 @@ pub record MadeWay (comes_first : Type 0) (First : CachedStep) (Flushes : Storag
   pub first : comes_first → First before cached (Ok tt) mid between
   pub flush : Flushes mid after
 
--- a table, behind the blocks,
-abbrev pub TableMadeWay : CacheDependency → ℕ → TableValue → StorageState → Cached → StorageState → Type 0
-TableMadeWay order cluster table = MadeWay (order ≡ L2DependsOnRb) WritesBlocks
-    (λ mid after. (left : TableValue) × TableFlushed mid cluster table (Ok tt) after left)
-
--- and a block, behind the tables
-abbrev pub BlockMadeWay : CacheDependency → ℕ → Block → StorageState → Cached → StorageState → Type 0
-BlockMadeWay order cluster block = MadeWay (order ≡ RbDependsOnL2) WritesTables
-    (λ mid after. (left : Block) × BlockFlushed mid cluster block (Ok tt) after left)
-
--- What the put of an L2 table does. It keeps a safe image safe where the table is what the file has.
-pub record TableInserted {S : Type 0} (state : S → StorageState) (cluster : ℕ) (table : TableValue) (old : CachedFile S)
-    (result : Result Unit (Fault × TableValue)) (new : CachedFile S) : Type 0 where
-  pub going : Going old.file.header (order_of old.caches) (λ _.
-      IsNewTable (bytes_of (state old.file.image).bytes) old.file.header.fields cluster table (cached_in old.caches).tables)
-      (WasNotCutOff (refusal_of result)) (state old.file.image) (cached_in old.caches) (state new.file.image) (cached_in new.caches)
-  pub put : PutInto written_table old.caches.l2.slots.cap cluster table (cached_in old.caches).tables result (cached_in new.caches).tables
-  pub flushed : (key : ℕ) (slot : Slot TableValue) → MakesWay old.caches.l2.slots.cap cluster (cached_in old.caches).tables key
-      → lookup (nat_eq key) (cached_in old.caches).tables ≡ Some slot
-      → OnOk result (TableMadeWay (order_of old.caches) key slot.value (state old.file.image) (cached_in old.caches) (state new.file.image))
+-- What the put of a value does. It keeps a safe image safe where the value is what the file has.
+pub record EntryInserted {S V W A B : Type 0} (kind : CachedKind S V W) (cluster : ℕ) (value : V) (old : Beside S V W A B)
+    (before : ImageFile S) (result : Result Unit (Fault × V)) (new : Beside S V W A B) (after : ImageFile S) : Type 0 where
+  pub going : Going before.header old.order (λ _. IsNewIn kind cluster value old before) (WasNotCutOff (refusal_of result))
+      (kind.state before.image) (cached_of kind old) (kind.state after.image) (cached_of kind new)
+  pub put : PutInto (as_written kind.writes) old.own.slots.cap cluster value old.own.slots.entries result new.own.slots.entries
+  pub flushed : (key : ℕ) (slot : Slot V) → MakesWay old.own.slots.cap cluster old.own.slots.entries key
+      → lookup (nat_eq key) old.own.slots.entries ≡ Some slot
+      → OnOk result (MadeWay (old.order ≡ kind.first) (WritesOther kind)
+      (λ mid after. (left : V) × Flushed kind.writes mid key slot.value (Ok tt) after left) (kind.state before.image) (cached_of kind old)
+      (kind.state after.image))
   -- Where there is room for it nothing is written,
-  pub roomy : lookup (nat_eq cluster) (cached_in old.caches).tables ≡ None
-      → length (cached_in old.caches).tables < old.caches.l2.slots.cap
-      → Kept (state old.file.image) (state new.file.image) × (new.caches.rb ≡ old.caches.rb)
-  -- and blocks are only where they come first.
-  pub blocks : map written_block (cached_in new.caches).blocks ≡ map written_block (cached_in old.caches).blocks
-  pub apart : (order_of old.caches ≡ L2DependsOnRb → ⊥) → new.caches.rb ≡ old.caches.rb
-  -- Where there is none, they are before a table is that has to go.
-  pub behind : lookup (nat_eq cluster) (cached_in old.caches).tables ≡ None
-      → old.caches.l2.slots.cap ≤ length (cached_in old.caches).tables
-      → BehindBlocks (order_of old.caches) LetsTableIn (state old.file.image) (cached_in old.caches) (refusal_of result)
-      (state new.file.image) (cached_in new.caches)
-  pub others : (new.caches.order ≡ old.caches.order) × (new.file.header ≡ old.file.header)
-  pub room : HasRoomOf old.caches new.caches
-  pub cause : FailsFor (search_causes (AreTablesInReach (cached_in old.caches) × AreBlocksInReach (cached_in old.caches))
-      (IsPinnedFull old.caches.l2.slots.cap (cached_in old.caches).tables) (state old.file.image).faults (state new.file.image).faults)
+  pub roomy : lookup (nat_eq cluster) old.own.slots.entries ≡ None → length old.own.slots.entries < old.own.slots.cap
+      → Kept (kind.state before.image) (kind.state after.image) × (new.other ≡ old.other)
+  -- and the other cache is only where it comes first.
+  pub kept : map (as_written kind.other_writes) new.other.slots.entries ≡ map (as_written kind.other_writes) old.other.slots.entries
+  pub apart : (old.order ≡ kind.first → ⊥) → new.other ≡ old.other
+  -- Where there is none, it is before an entry is that has to go.
+  pub behind : lookup (nat_eq cluster) old.own.slots.entries ≡ None → old.own.slots.cap ≤ length old.own.slots.entries
+      → Behind (old.order ≡ kind.first) (WritesOther kind) (LetsEntryIn kind) (kind.state before.image) (cached_of kind old)
+      (refusal_of result) (kind.state after.image) (cached_of kind new)
+  pub others : (new.order ≡ old.order) × (after.header ≡ before.header)
+  pub room : (new.own.slots.cap ≡ old.own.slots.cap) × (new.other.slots.cap ≡ old.other.slots.cap)
+  pub cause : FailsFor (search_causes (AreInReach kind.writes old.own.slots.entries × OtherReach kind (cached_of kind old))
+      (IsPinnedFull old.own.slots.cap old.own.slots.entries) (kind.state before.image).faults (kind.state after.image).faults)
       (refusal_of result)
 
--- The same of a refcount block.
-pub record BlockInserted {S : Type 0} (state : S → StorageState) (cluster : ℕ) (block : Block) (old : CachedFile S)
-    (result : Result Unit (Fault × Block)) (new : CachedFile S) : Type 0 where
-  pub going : Going old.file.header (order_of old.caches) (λ _.
-      IsNewBlock (bytes_of (state old.file.image).bytes) old.file.header.fields cluster block (cached_in old.caches).blocks)
-      (WasNotCutOff (refusal_of result)) (state old.file.image) (cached_in old.caches) (state new.file.image) (cached_in new.caches)
-  pub put : PutInto written_block old.caches.rb.slots.cap cluster block (cached_in old.caches).blocks result (cached_in new.caches).blocks
-  pub flushed : (key : ℕ) (slot : Slot Block) → MakesWay old.caches.rb.slots.cap cluster (cached_in old.caches).blocks key
-      → lookup (nat_eq key) (cached_in old.caches).blocks ≡ Some slot
-      → OnOk result (BlockMadeWay (order_of old.caches) key slot.value (state old.file.image) (cached_in old.caches) (state new.file.image))
-  pub roomy : lookup (nat_eq cluster) (cached_in old.caches).blocks ≡ None
-      → length (cached_in old.caches).blocks < old.caches.rb.slots.cap
-      → Kept (state old.file.image) (state new.file.image) × (new.caches.l2 ≡ old.caches.l2)
-  pub tables : map written_table (cached_in new.caches).tables ≡ map written_table (cached_in old.caches).tables
-  pub apart : (order_of old.caches ≡ RbDependsOnL2 → ⊥) → new.caches.l2 ≡ old.caches.l2
-  pub behind : lookup (nat_eq cluster) (cached_in old.caches).blocks ≡ None
-      → old.caches.rb.slots.cap ≤ length (cached_in old.caches).blocks
-      → BehindTables (order_of old.caches) LetsBlockIn (state old.file.image) (cached_in old.caches) (refusal_of result)
-      (state new.file.image) (cached_in new.caches)
-  pub others : (new.caches.order ≡ old.caches.order) × (new.file.header ≡ old.file.header)
-  pub room : HasRoomOf old.caches new.caches
-  pub cause : FailsFor (search_causes (AreTablesInReach (cached_in old.caches) × AreBlocksInReach (cached_in old.caches))
-      (IsPinnedFull old.caches.rb.slots.cap (cached_in old.caches).blocks) (state old.file.image).faults (state new.file.image).faults)
-      (refusal_of result)
+module _ {S : Type 0} (state : S → StorageState) (cluster : ℕ) where
+  -- of an L2 table,
+  abbrev pub TableInserted : TableValue → CachedFile S → Result Unit (Fault × TableValue) → CachedFile S → Type 0
+  TableInserted table old result new = EntryInserted (table_entries state) cluster table (by_tables old.caches) old.file result
+      (by_tables new.caches) new.file
+
+  -- and of a refcount block
+  abbrev pub BlockInserted : Block → CachedFile S → Result Unit (Fault × Block) → CachedFile S → Type 0
+  BlockInserted block old result new = EntryInserted (block_entries state) cluster block (by_blocks old.caches) old.file result
+      (by_blocks new.caches) new.file

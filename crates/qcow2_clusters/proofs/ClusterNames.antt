@@ -29,7 +29,7 @@ use Rattle.qcow2_metadata.proofs.TableFacts.{words_at, words_long}
 use Rattle.qcow2_alloc.specs.declared.cache.CacheDependency.{CacheDependency}
 use Rattle.qcow2_alloc.specs.Cache.{hit}
 use Rattle.qcow2_alloc.specs.Changes.{SetsWord}
-use Rattle.qcow2_alloc.specs.Finding.{IsTableFine}
+use Rattle.qcow2_alloc.specs.CachedKinds.{IsTableFine}
 use Rattle.qcow2_alloc.specs.Memory.{Cached}
 use Rattle.qcow2_alloc.specs.Quiet.{IsQuiet, IsSound, IsUsed, Metadata, counted, covers_metadata, in_memory, named_at_all, one_at, referenced, waiting}
 use Rattle.qcow2_alloc.proofs.Memory.WordChanges.{cluster-mapped}

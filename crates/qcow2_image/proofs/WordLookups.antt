@@ -20,8 +20,9 @@ use Rattle.qcow2_metadata.specs.declared.mapping.L2Mapping.{L2Mapping}
 use Rattle.qcow2_metadata.specs.declared.mapping.L2Mapping.TheVariants.{Backing}
 use Rattle.qcow2_alloc.specs.Cache.{hit}
 use Rattle.qcow2_alloc.specs.Caches.{cached_in, cached_file}
+use Rattle.qcow2_alloc.specs.CachedKinds.{IsTableFine}
 use Rattle.qcow2_alloc.specs.CachesLending.{with_tables}
-use Rattle.qcow2_alloc.specs.Finding.{TableFound, IsPinnedFull, IsTableFine, Sought, search_causes}
+use Rattle.qcow2_alloc.specs.Finding.{TableFound, IsPinnedFull, Sought, search_causes}
 use Rattle.qcow2_alloc.specs.Going as Going
 use Rattle.qcow2_alloc.specs.Going.{AreTablesInReach, AreBlocksInReach}
 use Rattle.qcow2_alloc.specs.Allocators.{UsesTable, TableUsed}

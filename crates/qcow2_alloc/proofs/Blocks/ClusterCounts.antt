@@ -183,7 +183,7 @@ module _ {S : Type 0} (state : S → StorageState) (table : TableValue) (pending
         subst (λ (h : Header). count (memory (bytes_of (state after.image).bytes) h.fields (cached_in mid)) h.fields d ≡ counted Old d) (sym found.others.1) (ap (λ g. count g before.header.fields d) settled.memory_same)
 
     search-counts : (key : ℕ) → named_block table i ≡ Some key
-        → Implies (search_causes (IsInReach before.header.fields.cluster_bits key × AreTablesInReach (cached_in old) × AreBlocksInReach (cached_in old)) (IsPinnedFull old.rb.slots.cap (cached_in old).blocks) (state before.image).faults (state after.image).faults)
+        → Implies (search_causes (IsInReach before.header.fields.cluster_bits key × AreBlocksInReach (cached_in old) × AreTablesInReach (cached_in old)) (IsPinnedFull old.rb.slots.cap (cached_in old).blocks) (state before.image).faults (state after.image).faults)
         (counting_causes Holds (IsLoose table old) (state before.image).faults (state after.image).faults)
     search-counts key named = record {
       before = omega arith;
@@ -194,7 +194,7 @@ module _ {S : Type 0} (state : S → StorageState) (table : TableValue) (pending
           let there = block-named Old sound c (λ none. place-there (cluster_size before.header.fields) key (pow_pos before.header.fields.cluster_bits) place.1 (sym place.0 ∙ none)) in
           let same : there.key ≡ key = (let e = sym there.names ∙ named in cc) in
           let reach = safe-reach Old.file Old.header Old.cached Old.order sound.safe in
-          wrong (subst (λ n. IsInReach before.header.fields.cluster_bits n) same there.reach, reach.0, reach.1);
+          wrong (subst (λ n. IsInReach before.header.fields.cluster_bits n) same there.reach, reach.1, reach.0);
       counter = absurd;
       full = λ full u. loose-never table old u.0 u.2 full;
       limit = λ number. absurd;

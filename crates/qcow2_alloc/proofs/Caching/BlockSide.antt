@@ -12,28 +12,22 @@ use Rattle.qcow2_types.specs.Counts.{counters_of_block}
 use Rattle.qcow2_types.specs.Words.{max_offset}
 use Rattle.qcow2_types.specs.Header.{Fields}
 use Rattle.qcow2_metadata.specs.Places.{IsInReach}
-use Rattle.qcow2_metadata.specs.Tables.{TableValue}
-use Rattle.qcow2_metadata.specs.Blocks.{Block, block_in}
+use Rattle.qcow2_metadata.specs.Blocks.{Block}
+use Rattle.qcow2_alloc.specs.CachedKinds.{block_entries, by_blocks}
 use Rattle.qcow2_alloc.specs.declared.cache.CacheDependency.TheVariants.{RbDependsOnL2}
-use Rattle.qcow2_alloc.specs.declared.cache.L2CacheBackend.{L2CacheBackend}
 use Rattle.qcow2_alloc.specs.declared.cache.MetadataCaches.{MetadataCaches}
-use Rattle.qcow2_alloc.specs.declared.cache.RefBlockCacheBackend.{RefBlockCacheBackend}
 use Rattle.qcow2_alloc.specs.declared.file.ImageFile.{ImageFile}
 use Rattle.qcow2_alloc.specs.Backends.{BlockLoaded}
-use Rattle.qcow2_alloc.specs.Caches.{HasRoomOf, cached_file, cached_in, order_of}
+use Rattle.qcow2_alloc.specs.Caches.{HasRoomOf, cached_in, order_of}
 use Rattle.qcow2_alloc.specs.Causes.{HasCause, FailsFor}
-use Rattle.qcow2_alloc.specs.Finding.{LetsBlockIn, BlockFound, search_causes}
+use Rattle.qcow2_alloc.specs.Finding.{search_causes}
 use Rattle.qcow2_alloc.specs.Going.{Going, Always, ReadyBlocks, WasNotCutOff, AreTablesInReach, WritesTables, writing_causes}
-use Rattle.qcow2_alloc.specs.Memory.{Cached, written, written_table, written_block}
-use Rattle.qcow2_alloc.specs.Putting.{BlockInserted, refusal_of}
-use Rattle.qcow2_alloc.specs.Safety.{IsCachedBlock, AreTablesClean}
+use Rattle.qcow2_alloc.specs.Memory.{Cached, written}
+use Rattle.qcow2_alloc.specs.Safety.{IsCachedBlock}
 use Rattle.qcow2_alloc.proofs.Causes.{storage-cause}
 use Rattle.qcow2_alloc.proofs.Caching.SingleEntries.{block-kind-laws}
-use Rattle.qcow2_alloc.proofs.Caching.EntrySearches.{Found}
 use Rattle.qcow2_alloc.proofs.Caching.Admission.{tables-idle}
-use Rattle.qcow2_alloc.proofs.Caching.EntryPuts.{PutSo}
-use Rattle.qcow2_alloc.proofs.Caching.SearchOutcomes.{counts-wider}
-use Rattle.qcow2_alloc.proofs.Caching.Sides.{Beside, Side, SideLaws, WrittenFirst}
+use Rattle.qcow2_alloc.proofs.Caching.Sides.{SideLaws, WrittenFirst}
 use Rattle.qcow2_alloc.proofs.Caching.FitsAfterFlushes.{block-stays}
 use Rattle.qcow2_alloc.proofs.Flushing.FlushRefusals.{block-counted}
 use Rattle.qcow2_alloc.proofs.Flushing.Faultless.{never-mild}
@@ -78,24 +72,9 @@ loaded-fits h key old value new loaded = record {
 }
 
 module _ {S : Type 0} (state : S → StorageState) where
-  abbrev pub blocks : Side S Block TableValue
-  blocks = record {
-    state = state;
-    kind = block_kind;
-    Loads = BlockLoaded;
-    read = block_in;
-    written = written_block;
-    other_written = written_table;
-    Fine = λ f h key. IsInReach h.cluster_bits key;
-    first = RbDependsOnL2;
-    Writes = WritesTables;
-    Lets = LetsBlockIn;
-    OtherClean = AreTablesClean;
-    OtherReach = AreTablesInReach;
-  }
-
-  pub block-laws : SideLaws blocks
+  pub block-laws : SideLaws (block_entries state)
   block-laws = record {
+    parts = record { bytes = block_kind.bytes; OtherFits = block_kind.OtherFits; ahead = block_kind.ahead; behind = block_kind.behind };
     entries = block-kind-laws;
     kept = λ h key a answer b load. load.kept;
     reads = λ h key a value b load. load.ok.1;
@@ -114,62 +93,22 @@ module _ {S : Type 0} (state : S → StorageState) where
     idle = tables-idle;
   }
 
-  -- the caches so seen
-  abbrev pub rb_side : MetadataCaches S → Beside S Block TableValue (RefBlockCacheBackend S) (L2CacheBackend S)
-  rb_side c = record { own = c.rb; other = c.l2; order = c.order }
-
-  abbrev pub back : Beside S Block TableValue (RefBlockCacheBackend S) (L2CacheBackend S) → MetadataCaches S
-  back c = record { l2 = c.other; rb = c.own; order = c.order }
-
   module _ (old : MetadataCaches S) (before : ImageFile S) (answer : Result Unit Fault) (mid : MetadataCaches S) (between : ImageFile S) where
     -- what tables are written for
     pub tables-first : Going before.header (order_of old) Always (answer ≡ Ok tt) (state before.image) (cached_in old) (state between.image) (cached_in mid) → written (cached_in mid) ≡ written (cached_in old)
         → OnOk answer (ReadyBlocks (order_of mid) (cached_in mid)) → ((order_of old ≡ RbDependsOnL2 → ⊥) → (answer ≡ Ok tt) × (mid ≡ old) × (between ≡ before))
         → (mid.rb ≡ old.rb) × (mid.order ≡ old.order) × (between.header ≡ before.header) → HasRoomOf old mid
         → FailsFor (writing_causes (AreTablesInReach (cached_in old)) (state before.image).faults (state between.image).faults) answer → (WasNotCutOff answer → IsFaultless (state before.image) (state between.image))
-        → (order_of old ≡ RbDependsOnL2 → WritesTables (state before.image) (cached_in old) answer (state between.image) (cached_in mid)) → WrittenFirst blocks (rb_side old) before answer (rb_side mid) between
+        → (order_of old ≡ RbDependsOnL2 → WritesTables (state before.image) (cached_in old) answer (state between.image) (cached_in mid)) → WrittenFirst (block_entries state) (by_blocks old) before answer (by_blocks mid) between
     tables-first going kept ready idle others room cause faults did = record {
       going = going;
       kept = ap (λ (c : Cached). c.tables) kept;
       ready = ready;
-      idle = λ no. let i = idle no in (i.0, ap rb_side i.1, i.2);
-      same = ap (λ l. record (rb_side mid) { own = l }) others.0 ∙ ap (λ o. record (rb_side old) { other = mid.l2; order = o }) others.1;
+      idle = λ no. let i = idle no in (i.0, ap by_blocks i.1, i.2);
+      same = ap (λ l. record (by_blocks mid) { own = l }) others.0 ∙ ap (λ o. record (by_blocks old) { other = mid.l2; order = o }) others.1;
       header = others.2;
       room = room.tables;
       cause = cause;
       faults = faults;
       did = did;
-    }
-
-  module _ (cluster : ℕ) (old new : MetadataCaches S) (before after : ImageFile S) where
-    -- The search of a block,
-    pub block-found : (result : Result Unit Fault) → Found blocks cluster (rb_side old) before result (rb_side new) after → BlockFound state cluster old before result new after
-    block-found result f = record {
-      going = f.going;
-      hit = λ there. let h = f.hit there in (h.0, ap back h.1, h.2);
-      there = f.there;
-      sought = f.sought;
-      roomy = f.roomy;
-      tables = f.kept;
-      apart = f.apart;
-      behind = f.behind;
-      still = λ tables own. let s = f.still own tables in (s.0, s.2, s.1);
-      others = f.others;
-      room = record { tables = f.room.1; blocks = f.room.0 };
-      cause = counts-wider _ _ _ _ _ _ result (λ fine. (fine.0, fine.2, fine.1)) refl f.cause;
-    }
-
-    -- and its put.
-    pub block-put : (block : Block) (result : Result Unit (Fault × Block)) → PutSo blocks cluster block (rb_side old) before result (rb_side new) after → BlockInserted state cluster block (cached_file old before) result (cached_file new after)
-    block-put block result p = record {
-      going = p.going;
-      put = p.put;
-      flushed = p.flushed;
-      roomy = p.roomy;
-      tables = p.kept;
-      apart = p.apart;
-      behind = p.behind;
-      others = p.others;
-      room = record { tables = p.room.1; blocks = p.room.0 };
-      cause = counts-wider _ _ _ _ _ _ (refusal_of result) (λ near. (near.1, near.0)) refl p.cause;
     }

@@ -5,6 +5,7 @@ use Rattle.std.specs.Map.{lookup}
 use Rattle.std.proofs.lemmas.Bool.{cases_lt}
 use Rattle.imago_storage.specs.declared.fault.Fault.{Fault}
 use Rattle.qcow2_types.specs.Header.{Header}
+use Rattle.qcow2_alloc.specs.CachedKinds.{CachedKind, loads_of, flushes_of}
 use Rattle.qcow2_alloc.specs.declared.async_lru_cache.Admission.{Admission}
 use Rattle.qcow2_alloc.specs.declared.async_lru_cache.Admission.TheVariants.{Granted, Denied}
 use Rattle.qcow2_alloc.specs.declared.async_lru_cache.Slot.{Slot}
@@ -16,7 +17,7 @@ use Rattle.qcow2_alloc.specs.Memory.{Cached}
 use Rattle.qcow2_alloc.proofs.Caching.Entries.{remove_absent}
 use Rattle.qcow2_alloc.proofs.Caching.Places.{place-of-key}
 use Rattle.qcow2_alloc.proofs.Caching.Rooms.{room-way, room-related, never-denied}
-use Rattle.qcow2_alloc.proofs.Caching.Sides.{Side, SideLaws, loads_of, flushes_of, Ready, ready-same, leaves-quietly, comes-quietly, asked-quietly}
+use Rattle.qcow2_alloc.proofs.Caching.Sides.{SideLaws, Ready, ready-same, leaves-quietly, comes-quietly, asked-quietly}
 use Rattle.qcow2_alloc.proofs.Flushing.WriteSequences.{going-none, going-both, going-weaker}
 
 pub is-there : {X : Type 0} (o : Option X) → (IsSome o) ⊎ (o ≡ None)
@@ -24,22 +25,22 @@ is-there (Some x) = inl refl
 is-there None = inr refl
 
 -- Nothing is asked, or the entry is loaded.
-module _ {S V W : Type 0} (side : Side S V W) (laws : SideLaws side) (H : Header) (order : CacheDependency) (rest : List (ℕ × Slot W)) (Ready : Cached → Type 0) (ready : (A B : List (ℕ × Slot V)) → Ready (side.kind.put rest A) → Ready (side.kind.put rest B)) where
+module _ {S V W : Type 0} (side : CachedKind S V W) (laws : SideLaws side) (H : Header) (order : CacheDependency) (rest : List (ℕ × Slot W)) (Ready : Cached → Type 0) (ready : (A B : List (ℕ × Slot V)) → Ready (side.cached rest A) → Ready (side.cached rest B)) where
   -- The image goes on so, with those entries and then with these.
   abbrev pub Goes : Type 0 → ImageFile S → List (ℕ × Slot V) → ImageFile S → List (ℕ × Slot V) → Type 0
-  Goes ok before es after es' = Going H order Ready ok (side.state before.image) (side.kind.put rest es) (side.state after.image) (side.kind.put rest es')
+  Goes ok before es after es' = Going H order Ready ok (side.state before.image) (side.cached rest es) (side.state after.image) (side.cached rest es')
 
   -- one call behind another
   pub goes-then : (ok ok' : Type 0) (before mid after : ImageFile S) (es list es' : List (ℕ × Slot V)) → Goes ok before es mid list → Goes ok' mid list after es' → Goes (ok × ok') before es after es'
-  goes-then ok ok' before mid after es list es' = going-both H order Ready ok ok' (side.state before.image) (side.state mid.image) (side.state after.image) (side.kind.put rest es) (side.kind.put rest list) (side.kind.put rest es')
+  goes-then ok ok' before mid after es list es' = going-both H order Ready ok ok' (side.state before.image) (side.state mid.image) (side.state after.image) (side.cached rest es) (side.cached rest list) (side.cached rest es')
 
   pub goes-weaker : (ok ok' : Type 0) (before after : ImageFile S) (es es' : List (ℕ × Slot V)) → (ok' → ok) → Goes ok before es after es' → Goes ok' before es after es'
-  goes-weaker ok ok' before after es es' = going-weaker H order Ready ok ok' (side.state before.image) (side.state after.image) (side.kind.put rest es) (side.kind.put rest es')
+  goes-weaker ok ok' before after es es' = going-weaker H order Ready ok ok' (side.state before.image) (side.state after.image) (side.cached rest es) (side.cached rest es')
 
   stays : (ok : Type 0) (before : ImageFile S) (es : List (ℕ × Slot V)) (after : ImageFile S) (es' : List (ℕ × Slot V)) → after ≡ before → es' ≡ es → Goes ok before es after es'
   stays ok before es after es' same same' =
       subst (λ (d : ImageFile S). Goes ok before es d es') (sym same)
-      (subst (λ (l : List (ℕ × Slot V)). Goes ok before es before l) (sym same') (going-none H order Ready ok (side.state before.image) (side.kind.put rest es)))
+      (subst (λ (l : List (ℕ × Slot V)). Goes ok before es before l) (sym same') (going-none H order Ready ok (side.state before.image) (side.cached rest es)))
 
   from-header : (key : ℕ) (before : ImageFile S) (answer : Result V Fault) (after : ImageFile S) → before.header ≡ H → loads_of side before key answer after → side.Loads H.fields key (side.state before.image) answer (side.state after.image)
   from-header key before answer after same load = subst (λ (h : Header). side.Loads h.fields key (side.state before.image) answer (side.state after.image)) same load.1
@@ -96,7 +97,7 @@ module _ {V D : Type 0} (loads : D → ℕ → Result V Fault → D → Type 0) 
   ]
 
 -- Room is made, and one is found or loaded into it.
-module _ {S V W : Type 0} (side : Side S V W) (laws : SideLaws side) (H : Header) (order : CacheDependency) (rest : List (ℕ × Slot W)) where
+module _ {S V W : Type 0} (side : CachedKind S V W) (laws : SideLaws side) (H : Header) (order : CacheDependency) (rest : List (ℕ × Slot W)) where
   abbrev Here : Type 0 → ImageFile S → List (ℕ × Slot V) → ImageFile S → List (ℕ × Slot V) → Type 0
   Here = Goes side laws H order rest (Ready side order) (ready-same side laws H order rest)
 

@@ -1,20 +1,21 @@
 -- An entry is put into one of the two caches.
 use Rattle.std.proofs.Common.{◌≡◌, ℕ, ◌<◌, ◌≤◌, refl, arith, ap, sym, subst, ◌∙◌, List, length, Option, None, Some, Result, Ok, Err, Bool, true, false, inl}
-use Rattle.std.specs.Prelude.{nat_eq, map, OnOk}
+use Rattle.std.specs.Prelude.{nat_eq, map}
 use Rattle.std.specs.Map.{lookup}
 use Rattle.imago_storage.specs.State.{StorageState}
 use Rattle.imago_storage.specs.Calls.{Kept}
 use Rattle.imago_storage.specs.declared.fault.Fault.{Fault}
 use Rattle.qcow2_types.specs.Bytes.{bytes_of}
+use Rattle.qcow2_alloc.specs.CachedKinds.{AreInReach, Beside, CachedKind, OtherReach, WritesOther, as_written, cached_of, flushes_of, loads_of}
 use Rattle.qcow2_alloc.specs.declared.async_lru_cache.AsyncLruCache.{AsyncLruCache}
 use Rattle.qcow2_alloc.specs.declared.async_lru_cache.Slot.{Slot}
 use Rattle.qcow2_alloc.specs.declared.file.ImageFile.{ImageFile}
 use Rattle.qcow2_alloc.specs.Backends.{Flushed}
 use Rattle.qcow2_alloc.specs.Cache.{cache_kind, Inserted, with_entries}
 use Rattle.qcow2_alloc.specs.Causes.{FailsFor}
-use Rattle.qcow2_alloc.specs.Finding.{IsPinnedFull, search_causes}
-use Rattle.qcow2_alloc.specs.Putting.{refusal_of, IsNew, PutInto, MakesWay, MadeWay}
-use Rattle.qcow2_alloc.specs.Going.{Going, Always, WasNotCutOff, IsMild, Behind}
+use Rattle.qcow2_alloc.specs.Finding.{IsPinnedFull, LetsEntryIn, search_causes}
+use Rattle.qcow2_alloc.specs.Putting.{EntryInserted, IsNewIn, refusal_of}
+use Rattle.qcow2_alloc.specs.Going.{Going, Always, WasNotCutOff, IsMild}
 use Rattle.qcow2_alloc.specs.Memory.{memory}
 use Rattle.qcow2_alloc.specs.Safety.{Safe, IsLeft}
 use Rattle.qcow2_alloc.proofs.Flushing.FlushRefusals.{writing-implies, never-refused}
@@ -25,36 +26,17 @@ use Rattle.qcow2_alloc.proofs.Caching.PutsInOrder.{put-going, put-quietly}
 use Rattle.qcow2_alloc.proofs.Caching.Admission.{behind-done, behind-refused}
 use Rattle.qcow2_alloc.proofs.Caching.Pins.{pins-none}
 use Rattle.qcow2_alloc.proofs.Caching.SearchOutcomes.{counts-wider}
-use Rattle.qcow2_alloc.proofs.Caching.Sides.{Beside, Side, SideLaws, WrittenFirst, cached_of, loads_of, flushes_of, Reach, AreInReach, FitsIn, first-some}
+use Rattle.qcow2_alloc.proofs.Caching.Sides.{SideLaws, WrittenFirst, Reach, FitsIn, first-some}
 
--- a value that is new there
-abbrev pub IsNewIn : {S V W A B : Type 0} → Side S V W → ℕ → V → Beside S V W A B → ImageFile S → Type 0
-IsNewIn side cluster value c file = IsNew (side.kind.Fits (bytes_of (side.state file.image).bytes) file.header.fields cluster) side.kind.writes.modified cluster value c.own.slots.entries
-
--- What the put does.
-pub record PutSo {S V W A B : Type 0} (side : Side S V W) (cluster : ℕ) (value : V) (old : Beside S V W A B) (before : ImageFile S) (result : Result Unit (Fault × V)) (new : Beside S V W A B) (after : ImageFile S) : Type 0 where
-  pub going : Going before.header old.order (λ _. IsNewIn side cluster value old before) (WasNotCutOff (refusal_of result)) (side.state before.image) (cached_of side old) (side.state after.image) (cached_of side new)
-  pub put : PutInto side.written old.own.slots.cap cluster value old.own.slots.entries result new.own.slots.entries
-  pub flushed : (key : ℕ) (slot : Slot V) → MakesWay old.own.slots.cap cluster old.own.slots.entries key → lookup (nat_eq key) old.own.slots.entries ≡ Some slot
-      → OnOk result (MadeWay (old.order ≡ side.first) side.Writes (λ mid after. (left : V) × Flushed side.kind.writes mid key slot.value (Ok tt) after left) (side.state before.image) (cached_of side old) (side.state after.image))
-  pub roomy : lookup (nat_eq cluster) old.own.slots.entries ≡ None → length old.own.slots.entries < old.own.slots.cap → Kept (side.state before.image) (side.state after.image) × (new.other ≡ old.other)
-  pub kept : map side.other_written new.other.slots.entries ≡ map side.other_written old.other.slots.entries
-  pub apart : (old.order ≡ side.first → ⊥) → new.other ≡ old.other
-  pub behind : lookup (nat_eq cluster) old.own.slots.entries ≡ None → old.own.slots.cap ≤ length old.own.slots.entries
-      → Behind (old.order ≡ side.first) side.Writes side.Lets (side.state before.image) (cached_of side old) (refusal_of result) (side.state after.image) (cached_of side new)
-  pub others : (new.order ≡ old.order) × (after.header ≡ before.header)
-  pub room : (new.own.slots.cap ≡ old.own.slots.cap) × (new.other.slots.cap ≡ old.other.slots.cap)
-  pub cause : FailsFor (search_causes (AreInReach side old.own.slots.entries × side.OtherReach (cached_of side old)) (IsPinnedFull old.own.slots.cap old.own.slots.entries) (side.state before.image).faults (side.state after.image).faults) (refusal_of result)
-
-module _ {S V W A B : Type 0} (side : Side S V W) (laws : SideLaws side) (cluster : ℕ) (value : V) (old : Beside S V W A B) (before : ImageFile S) where
+module _ {S V W A B : Type 0} (side : CachedKind S V W) (laws : SideLaws side) (cluster : ℕ) (value : V) (old : Beside S V W A B) (before : ImageFile S) where
   abbrev Puts : Bool → ImageFile S → Result (Option V) (Fault × V) → ImageFile S → List (ℕ × Slot V) → Type 0
   Puts may_flush between result after es' = Inserted (cache_kind nat_eq (loads_of side) (flushes_of side) old.own.slots.cap) may_flush (cluster, value) between old.own.slots.entries result after es'
 
-  kept-by : (key : ℕ) (slot : Slot V) (a b : ImageFile S) (answer : Result Unit Fault) (v : V) → flushes_of side a key slot.value answer b v → side.written (key, record slot { value = v }) ≡ side.written (key, slot)
+  kept-by : (key : ℕ) (slot : Slot V) (a b : ImageFile S) (answer : Result Unit Fault) (v : V) → flushes_of side a key slot.value answer b v → (as_written side.writes) (key, record slot { value = v }) ≡ (as_written side.writes) (key, slot)
   kept-by key slot a b answer v flush = laws.keeps key slot (side.state a.image) answer (side.state b.image) v flush.1
 
   put-counts : (may_flush : Bool) (between : ImageFile S) (result : Result (Option V) (Fault × V)) (after : ImageFile S) (es' : List (ℕ × Slot V)) (faults : ℕ) → (side.state between.image).faults ≡ faults → Puts may_flush between result after es'
-      → FailsFor (search_causes (AreInReach side old.own.slots.entries × side.OtherReach (cached_of side old)) (IsPinnedFull old.own.slots.cap old.own.slots.entries) faults (side.state after.image).faults) (refusal_of (put_of result))
+      → FailsFor (search_causes (AreInReach side.writes old.own.slots.entries × OtherReach side (cached_of side old)) (IsPinnedFull old.own.slots.cap old.own.slots.entries) faults (side.state after.image).faults) (refusal_of (put_of result))
   put-counts may_flush between result after es' faults is i =
       counts-wider _ _ _ _ faults _ (refusal_of (put_of result)) (λ f. f.0) is
       (inserted-counted (λ (d : ImageFile S). side.state d.image) (loads_of side) (flushes_of side) (Reach side)
@@ -69,7 +51,7 @@ module _ {S V W A B : Type 0} (side : Side S V W) (laws : SideLaws side) (cluste
   -- What is put without leave to flush
   module _ (new : Beside S V W A B) (after : ImageFile S) (same : new ≡ record old { own = with_entries old.own new.own.slots.entries }) where
     put-quiet : (result : Result (Option V) (Fault × V)) → (IsBarred result → ⊥) → (es' : List (ℕ × Slot V)) → Puts false before result after es'
-        → PutSo side cluster value old before (put_of result) (record old { own = with_entries old.own es' }) after
+        → EntryInserted side cluster value old before (put_of result) (record old { own = with_entries old.own es' }) after
     put-quiet result not es' i =
         let es = old.own.slots.entries in
         let cap = old.own.slots.cap in
@@ -77,23 +59,23 @@ module _ {S V W A B : Type 0} (side : Side S V W) (laws : SideLaws side) (cluste
         let q = quiet (loads_of side) (flushes_of side) cap cluster value before es after es' result not i in
         let kept : Kept (side.state before.image) (side.state after.image) = subst (λ (d : ImageFile S). Kept (side.state before.image) (side.state d.image)) (sym q.file) (kept-same (side.state before.image)) in
         record {
-          going = subst (λ (d : ImageFile S). Going before.header old.order (λ _. IsNewIn side cluster value old before) ok (side.state before.image) (cached_of side old) (side.state d.image) (side.kind.put old.other.slots.entries es')) (sym q.file)
+          going = subst (λ (d : ImageFile S). Going before.header old.order (λ _. IsNewIn side cluster value old before) ok (side.state before.image) (cached_of side old) (side.state d.image) (side.cached old.other.slots.entries es')) (sym q.file)
               (put-quietly side laws before.header old.order old.other.slots.entries cluster value (side.state before.image) (cached_of side old) _ fresh-stays
               ok (side.state before.image) es es' _ (going-none before.header old.order Always ok (side.state before.image) (cached_of side old)) q.absent q.way);
-          put = inserted-put (loads_of side) (flushes_of side) side.written kept-by cap false cluster value before es after es' result not i;
+          put = inserted-put (loads_of side) (flushes_of side) (as_written side.writes) kept-by cap false cluster value before es after es' result not i;
           flushed = λ k slot way there. absurd (way-barred (loads_of side) (flushes_of side) cap cluster value before es after es' result not i k slot way there);
           roomy = λ none room. (kept, refl);
           kept = refl;
           apart = λ no. refl;
-          behind = λ none full. absurd (inserted-barred (λ (d : ImageFile S). side.state d.image) (loads_of side) (flushes_of side) (Flushed side.kind.writes) (λ a b key v v' answer flush. flush.1)
+          behind = λ none full. absurd (inserted-barred (λ (d : ImageFile S). side.state d.image) (loads_of side) (flushes_of side) (Flushed side.writes) (λ a b key v v' answer flush. flush.1)
               cap cluster value before es after es' none full result not i);
           others = (refl, ap (λ (d : ImageFile S). d.header) q.file);
           room = (refl, refl);
           cause = put-counts false before result after es' (side.state before.image).faults refl i;
         }
 
-    pub put-now : (result : Result (Option V) (Fault × V)) → (IsBarred result → ⊥) → Puts false before result after new.own.slots.entries → PutSo side cluster value old before (put_of result) new after
-    put-now result not i = subst (λ (c : Beside S V W A B). PutSo side cluster value old before (put_of result) c after) (sym same) (put-quiet result not new.own.slots.entries i)
+    pub put-now : (result : Result (Option V) (Fault × V)) → (IsBarred result → ⊥) → Puts false before result after new.own.slots.entries → EntryInserted side cluster value old before (put_of result) new after
+    put-now result not i = subst (λ (c : Beside S V W A B). EntryInserted side cluster value old before (put_of result) c after) (sym same) (put-quiet result not new.own.slots.entries i)
 
     -- or comes back changes nothing.
     pub record IsUnchanged (back : V) : Type 0 where
@@ -120,7 +102,7 @@ module _ {S V W A B : Type 0} (side : Side S V W) (laws : SideLaws side) (cluste
 
     put-full : (other : AsyncLruCache ℕ W B (ImageFile S)) → WrittenFirst side old before (Ok tt) (record old { other = other }) between
         → (result : Result (Option V) (Fault × V)) (after : ImageFile S) (es' : List (ℕ × Slot V)) → (IsBarred result → ⊥) → after.header ≡ between.header
-        → Puts true between result after es' → PutSo side cluster value old before (put_of result) (record old { own = with_entries old.own es'; other = other }) after
+        → Puts true between result after es' → EntryInserted side cluster value old before (put_of result) (record old { own = with_entries old.own es'; other = other }) after
     put-full other w result after es' not header i =
         let es = old.own.slots.entries in
         let cap = old.own.slots.cap in
@@ -129,16 +111,16 @@ module _ {S V W A B : Type 0} (side : Side S V W) (laws : SideLaws side) (cluste
         record {
           going = put-going side laws before.header old.order other.slots.entries cluster value (side.state before.image) (cached_of side old) (IsNewIn side cluster value old before) fresh-stays
               cap between es after es' (Ok tt ≡ Ok tt) refl w.going w.ready result i;
-          put = inserted-put (loads_of side) (flushes_of side) side.written kept-by cap true cluster value between es after es' result not i;
+          put = inserted-put (loads_of side) (flushes_of side) (as_written side.writes) kept-by cap true cluster value between es after es' result not i;
           flushed = λ k slot way there. put-then result (λ x. record { mid = side.state between.image; between = cached_of side mid; alone = alone; first = w.did; flush = (x.0, x.1.1) })
               (way-flushed (loads_of side) (flushes_of side) cap cluster value between es after es' result i k slot way there);
           roomy = not-roomy;
           kept = w.kept;
           apart = λ no. ap (λ (c : Beside S V W A B). c.other) (w.idle no).1;
-          behind = λ none room. behind-done (old.order ≡ side.first) side.Writes side.Lets (side.state before.image) (side.state between.image) (side.state after.image) (cached_of side old) (cached_of side mid) _ (refusal_of (put_of result))
+          behind = λ none room. behind-done (old.order ≡ side.first) (WritesOther side) (LetsEntryIn side) (side.state before.image) (side.state between.image) (side.state after.image) (cached_of side old) (cached_of side mid) _ (refusal_of (put_of result))
               (λ no. (alone no, ap (λ (c : Beside S V W A B). cached_of side c) (w.idle no).1)) w.did
               (laws.lets other.slots.entries es es' (side.state between.image) (side.state after.image) (refusal_of (put_of result))
-              (inserted-lets-in (λ (d : ImageFile S). side.state d.image) (loads_of side) (flushes_of side) (Flushed side.kind.writes) (λ a b key v v' answer flush. flush.1)
+              (inserted-lets-in (λ (d : ImageFile S). side.state d.image) (loads_of side) (flushes_of side) (Flushed side.writes) (λ a b key v v' answer flush. flush.1)
               cap cluster value between es after es' none room result i));
           others = (refl, header ∙ w.header);
           room = (refl, w.room);
@@ -146,29 +128,29 @@ module _ {S V W A B : Type 0} (side : Side S V W) (laws : SideLaws side) (cluste
         }
 
     pub put-behind : (mid : Beside S V W A B) → WrittenFirst side old before (Ok tt) mid between → (result : Result (Option V) (Fault × V)) (after : ImageFile S) (new : Beside S V W A B) → new ≡ record mid { own = with_entries mid.own new.own.slots.entries }
-        → Inserted (cache_kind nat_eq (loads_of side) (flushes_of side) mid.own.slots.cap) true (cluster, value) between mid.own.slots.entries result after new.own.slots.entries → PutSo side cluster value old before (put_of result) new after
+        → Inserted (cache_kind nat_eq (loads_of side) (flushes_of side) mid.own.slots.cap) true (cluster, value) between mid.own.slots.entries result after new.own.slots.entries → EntryInserted side cluster value old before (put_of result) new after
     put-behind mid w result after new is i =
         let es' = new.own.slots.entries in
         let i' : Puts true between result after es' =
         subst (λ (c : Beside S V W A B). Inserted (cache_kind nat_eq (loads_of side) (flushes_of side) c.own.slots.cap) true (cluster, value) between c.own.slots.entries result after es') w.same i in
-        subst (λ (c : Beside S V W A B). PutSo side cluster value old before (put_of result) c after) (sym (is ∙ ap (λ (c : Beside S V W A B). record c { own = with_entries c.own es' }) w.same))
+        subst (λ (c : Beside S V W A B). EntryInserted side cluster value old before (put_of result) c after) (sym (is ∙ ap (λ (c : Beside S V W A B). record c { own = with_entries c.own es' }) w.same))
         (put-full mid.other (subst (λ (c : Beside S V W A B). WrittenFirst side old before (Ok tt) c between) w.same w) result after es'
         (never-barred (loads_of side) (flushes_of side) old.own.slots.cap cluster value between old.own.slots.entries after es' result i')
         (inserted-related (loads_of side) (flushes_of side) (λ a b. b.header ≡ a.header) (λ a. refl) (λ a b key v v' answer f. f.0) old.own.slots.cap true cluster value between old.own.slots.entries after es' result i') i')
 
-    pub put-halted : (mid : Beside S V W A B) (fault : Fault) → WrittenFirst side old before (Err fault) mid between → PutSo side cluster value old before (Err (fault, value)) mid between
+    pub put-halted : (mid : Beside S V W A B) (fault : Fault) → WrittenFirst side old before (Err fault) mid between → EntryInserted side cluster value old before (Err (fault, value)) mid between
     put-halted mid fault w =
         let own = ap (λ (c : Beside S V W A B). c.own.slots.entries) w.same in
         let some = first-some side laws old before mid between fault w in
         record {
           going = going-under before.header old.order (IsNewIn side cluster value old before) (IsMild fault) (side.state before.image) (side.state between.image) (cached_of side old) (cached_of side mid)
               (going-safely before.header old.order Always (Err fault ≡ Ok tt) (IsMild fault) _ _ _ _ w.faults (λ safe mild. absurd (never-refused _ _ _ fault (laws.near _ _ _ _ safe) mild w.cause)) w.going);
-          put = record { over = λ there. tt; added = λ none. tt; refused = (refl, inl (ap (λ l. map side.written l) own)); pinned = pins-none old.own.slots.entries mid.own.slots.entries own };
+          put = record { over = λ there. tt; added = λ none. tt; refused = (refl, inl (ap (λ l. map (as_written side.writes) l) own)); pinned = pins-none old.own.slots.entries mid.own.slots.entries own };
           flushed = λ k slot way there. tt;
           roomy = not-roomy;
           kept = w.kept;
           apart = λ no. absurd (some no);
-          behind = λ none room. behind-refused (old.order ≡ side.first) side.Writes side.Lets (side.state before.image) (side.state between.image) (cached_of side old) (cached_of side mid) fault some w.did;
+          behind = λ none room. behind-refused (old.order ≡ side.first) (WritesOther side) (LetsEntryIn side) (side.state before.image) (side.state between.image) (cached_of side old) (cached_of side mid) fault some w.did;
           others = (ap (λ (c : Beside S V W A B). c.order) w.same, w.header);
           room = (ap (λ (c : Beside S V W A B). c.own.slots.cap) w.same, w.room);
           cause = cause-weaker (writing-implies _ (omega arith) (omega arith) (λ far f. far f.1)) fault w.cause;

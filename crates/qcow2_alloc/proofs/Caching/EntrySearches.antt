@@ -1,12 +1,13 @@
 -- The search of an entry, in one of the two caches.
-use Rattle.std.proofs.Common.{◌≡◌, ℕ, ◌<◌, ◌≤◌, refl, arith, ap, sym, subst, ◌∙◌, List, length, Option, None, Result, Ok, Err, Bool, true, false, inl}
-use Rattle.std.specs.Prelude.{nat_eq, map, IsSome, OnOk}
+use Rattle.std.proofs.Common.{◌≡◌, ℕ, ◌≤◌, refl, arith, ap, sym, subst, ◌∙◌, List, length, Option, None, Result, Ok, Err, Bool, true, false, inl}
+use Rattle.std.specs.Prelude.{nat_eq, map, IsSome}
 use Rattle.std.specs.Map.{lookup}
 use Rattle.imago_storage.specs.State.{StorageState}
 use Rattle.imago_storage.specs.Calls.{Kept}
 use Rattle.imago_storage.specs.declared.fault.Fault.{Fault}
 use Rattle.qcow2_types.specs.Bytes.{bytes_of}
 use Rattle.qcow2_types.specs.Header.{Header}
+use Rattle.qcow2_alloc.specs.CachedKinds.{AreClean, AreInReach, Beside, CachedKind, OtherClean, OtherReach, WritesOther, as_written, cached_of, flushes_of, loads_of}
 use Rattle.qcow2_alloc.specs.declared.async_lru_cache.Admission.{Admission}
 use Rattle.qcow2_alloc.specs.declared.async_lru_cache.Admission.TheVariants.{Denied}
 use Rattle.qcow2_alloc.specs.declared.async_lru_cache.AsyncLruCache.{AsyncLruCache}
@@ -15,8 +16,8 @@ use Rattle.qcow2_alloc.specs.declared.file.ImageFile.{ImageFile}
 use Rattle.qcow2_alloc.specs.Backends.{Flushed}
 use Rattle.qcow2_alloc.specs.Cache.{cache_kind, Readied, with_entries}
 use Rattle.qcow2_alloc.specs.Causes.{FailsFor}
-use Rattle.qcow2_alloc.specs.Finding.{Sought, IsPinnedFull, search_causes}
-use Rattle.qcow2_alloc.specs.Going.{Going, Always, WasNotCutOff, Behind}
+use Rattle.qcow2_alloc.specs.Finding.{EntryFound, LetsEntryIn, Sought, IsPinnedFull, search_causes}
+use Rattle.qcow2_alloc.specs.Going.{Always, WasNotCutOff}
 use Rattle.qcow2_alloc.proofs.Flushing.FlushRefusals.{writing-implies, never-refused}
 use Rattle.qcow2_alloc.proofs.Causes.{cause-weaker}
 use Rattle.qcow2_alloc.proofs.Flushing.WriteSequences.{kept-same, going-weaker, going-ready, going-safely}
@@ -24,27 +25,9 @@ use Rattle.qcow2_alloc.proofs.Caching.Admission.{never-now, lets-in, readied-sti
 use Rattle.qcow2_alloc.proofs.Caching.Pins.{pins-none}
 use Rattle.qcow2_alloc.proofs.Caching.EntryLoads.{readied, readied-quietly, never-full}
 use Rattle.qcow2_alloc.proofs.Caching.SearchOutcomes.{done_of, sought, readied-related, readied-counted, full-stays, roomy-kept, counts-wider, whole-done, found-there}
-use Rattle.qcow2_alloc.proofs.Caching.Sides.{Beside, Side, SideLaws, WrittenFirst, cached_of, loads_of, flushes_of, Reach, AreInReach, AreClean, Ready as Before, first-idle, first-some}
+use Rattle.qcow2_alloc.proofs.Caching.Sides.{SideLaws, WrittenFirst, Reach, Ready as Before, first-idle, first-some}
 
--- What the search does.
-pub record Found {S V W A B : Type 0} (side : Side S V W) (cluster : ℕ) (old : Beside S V W A B) (before : ImageFile S) (result : Result Unit Fault) (new : Beside S V W A B) (after : ImageFile S) : Type 0 where
-  pub going : Going before.header old.order Always (WasNotCutOff result) (side.state before.image) (cached_of side old) (side.state after.image) (cached_of side new)
-  pub hit : IsSome (lookup (nat_eq cluster) old.own.slots.entries) → (result ≡ Ok tt) × (new ≡ old) × (after ≡ before)
-  pub there : OnOk result (IsSome (lookup (nat_eq cluster) new.own.slots.entries))
-  pub sought : Sought side.written old.own.slots.cap cluster (side.read (bytes_of (side.state after.image).bytes) before.header.fields cluster) old.own.slots.entries result new.own.slots.entries
-  pub roomy : length old.own.slots.entries < old.own.slots.cap → Kept (side.state before.image) (side.state after.image) × (new.other ≡ old.other)
-  pub kept : map side.other_written new.other.slots.entries ≡ map side.other_written old.other.slots.entries
-  pub apart : (old.order ≡ side.first → ⊥) → new.other ≡ old.other
-  pub behind : lookup (nat_eq cluster) old.own.slots.entries ≡ None → old.own.slots.cap ≤ length old.own.slots.entries
-      → Behind (old.order ≡ side.first) side.Writes side.Lets (side.state before.image) (cached_of side old) result (side.state after.image) (cached_of side new)
-  pub still : AreClean side old.own.slots.entries → side.OtherClean (cached_of side old)
-      → Kept (side.state before.image) (side.state after.image) × AreClean side new.own.slots.entries × side.OtherClean (cached_of side new)
-  pub others : (new.order ≡ old.order) × (after.header ≡ before.header)
-  pub room : (new.own.slots.cap ≡ old.own.slots.cap) × (new.other.slots.cap ≡ old.other.slots.cap)
-  pub cause : FailsFor (search_causes (side.Fine (bytes_of (side.state after.image).bytes) before.header.fields cluster × AreInReach side old.own.slots.entries × side.OtherReach (cached_of side old))
-      (IsPinnedFull old.own.slots.cap old.own.slots.entries) (side.state before.image).faults (side.state after.image).faults) result
-
-module _ {S V W : Type 0} (side : Side S V W) (laws : SideLaws side) (cluster : ℕ) where
+module _ {S V W : Type 0} (side : CachedKind S V W) (laws : SideLaws side) (cluster : ℕ) where
   module _ (may_flush : Bool) (cap : ℕ) (before : ImageFile S) (es : List (ℕ × Slot V)) (result : Result Admission Fault) (after : ImageFile S) (es' : List (ℕ × Slot V))
       (r : Readied (cache_kind nat_eq (loads_of side) (flushes_of side) cap) may_flush cluster before es result after es') where
     header-stays : after.header ≡ before.header
@@ -53,10 +36,10 @@ module _ {S V W : Type 0} (side : Side S V W) (laws : SideLaws side) (cluster : 
         cap may_flush cluster before es result after es' r
 
     module _ (H : Header) (header : after.header ≡ H) where
-      side-sought : (result ≡ Ok Denied → ⊥) → Sought side.written cap cluster (side.read (bytes_of (side.state after.image).bytes) H.fields cluster) es (done_of result) es'
+      side-sought : (result ≡ Ok Denied → ⊥) → Sought (as_written side.writes) cap cluster (side.read (bytes_of (side.state after.image).bytes) H.fields cluster) es (done_of result) es'
       side-sought not =
-          subst (λ (h : Header). Sought side.written cap cluster (side.read (bytes_of (side.state after.image).bytes) h.fields cluster) es (done_of result) es') header
-          (sought (loads_of side) (flushes_of side) side.written (λ key slot old new answer value flush. laws.keeps key slot (side.state old.image) answer (side.state new.image) value flush.1)
+          subst (λ (h : Header). Sought (as_written side.writes) cap cluster (side.read (bytes_of (side.state after.image).bytes) h.fields cluster) es (done_of result) es') header
+          (sought (loads_of side) (flushes_of side) (as_written side.writes) (λ key slot old new answer value flush. laws.keeps key slot (side.state old.image) answer (side.state new.image) value flush.1)
           (side.read (bytes_of (side.state after.image).bytes) after.header.fields cluster) cap may_flush cluster before es result after es'
           (λ mid value load. laws.reads mid.header.fields cluster (side.state mid.image) value (side.state after.image) load.1
           ∙ ap (λ (l : List ℕ). side.read (bytes_of l) mid.header.fields cluster) (sym (laws.kept mid.header.fields cluster (side.state mid.image) (Ok value) (side.state after.image) load.1).bytes)
@@ -64,7 +47,7 @@ module _ {S V W : Type 0} (side : Side S V W) (laws : SideLaws side) (cluster : 
           not r)
 
       side-counts : (faults : ℕ) → (side.state before.image).faults ≡ faults → (other : Type 0)
-          → FailsFor (search_causes (side.Fine (bytes_of (side.state after.image).bytes) H.fields cluster × AreInReach side es × other) (IsPinnedFull cap es) faults (side.state after.image).faults) (done_of result)
+          → FailsFor (search_causes (side.Fine (bytes_of (side.state after.image).bytes) H.fields cluster × AreInReach side.writes es × other) (IsPinnedFull cap es) faults (side.state after.image).faults) (done_of result)
       side-counts faults is other =
           counts-wider _ _ _ _ faults _ (done_of result) (λ f. (subst (λ (h : Header). side.Fine (bytes_of (side.state after.image).bytes) h.fields cluster) (sym header) f.0, f.1)) is
           (readied-counted (λ (d : ImageFile S). side.state d.image) (loads_of side) (flushes_of side) (Reach side)
@@ -76,10 +59,10 @@ module _ {S V W : Type 0} (side : Side S V W) (laws : SideLaws side) (cluster : 
           cap may_flush cluster before es result after es' r).1
 
     -- what it asks for where nothing is modified
-    side-still : AreClean side es → Kept (side.state before.image) (side.state after.image) × AreClean side es'
+    side-still : AreClean side.writes es → Kept (side.state before.image) (side.state after.image) × AreClean side.writes es'
     side-still =
         readied-still (λ (d : ImageFile S). side.state d.image) (loads_of side) (flushes_of side) (λ a b key answer load. laws.kept a.header.fields key (side.state a.image) answer (side.state b.image) load.1)
-        (λ v. side.kind.writes.modified v ≡ false) (λ a b key value load. ap side.kind.writes.modified (laws.reads a.header.fields key (side.state a.image) value (side.state b.image) load.1) ∙ laws.clean (bytes_of (side.state a.image).bytes) a.header.fields key)
+        (λ v. side.writes.modified v ≡ false) (λ a b key value load. ap side.writes.modified (laws.reads a.header.fields key (side.state a.image) value (side.state b.image) load.1) ∙ laws.clean (bytes_of (side.state a.image).bytes) a.header.fields key)
         (λ a b key value value' answer clean flush. flush.1.clean clean) cap may_flush cluster before es result after es' r
 
   module _ {A B : Type 0} (old : Beside S V W A B) (before : ImageFile S) where
@@ -88,7 +71,7 @@ module _ {S V W : Type 0} (side : Side S V W) (laws : SideLaws side) (cluster : 
 
     -- One that is found, or loaded into room that there is.
     found-quietly : (result : Result Admission Fault) (after : ImageFile S) (es' : List (ℕ × Slot V)) → (result ≡ Ok Denied → ⊥)
-        → Ready false before result after es' → Found side cluster old before (done_of result) (record old { own = with_entries old.own es' }) after
+        → Ready false before result after es' → EntryFound side cluster old before (done_of result) (record old { own = with_entries old.own es' }) after
     found-quietly result after es' not r =
         let es = old.own.slots.entries in
         let cap = old.own.slots.cap in
@@ -111,13 +94,13 @@ module _ {S V W : Type 0} (side : Side S V W) (laws : SideLaws side) (cluster : 
           still = λ own other. let k = side-still false cap before es result after es' r own in (k.0, k.1, laws.same old.other.slots.entries es es' other);
           others = (refl, header);
           room = (refl, refl);
-          cause = side-counts false cap before es result after es' r before.header header (side.state before.image).faults refl (side.OtherReach (cached_of side old));
+          cause = side-counts false cap before es result after es' r before.header header (side.state before.image).faults refl (OtherReach side (cached_of side old));
         }
 
     -- Without leave to flush
     module _ (new : Beside S V W A B) (after : ImageFile S) (same : new ≡ record old { own = with_entries old.own new.own.slots.entries }) where
-      pub found-now : (result : Result Admission Fault) → (result ≡ Ok Denied → ⊥) → Ready false before result after new.own.slots.entries → Found side cluster old before (done_of result) new after
-      found-now result not r = subst (λ (c : Beside S V W A B). Found side cluster old before (done_of result) c after) (sym same) (found-quietly result after new.own.slots.entries not r)
+      pub found-now : (result : Result Admission Fault) → (result ≡ Ok Denied → ⊥) → Ready false before result after new.own.slots.entries → EntryFound side cluster old before (done_of result) new after
+      found-now result not r = subst (λ (c : Beside S V W A B). EntryFound side cluster old before (done_of result) c after) (sym same) (found-quietly result after new.own.slots.entries not r)
 
       -- a full cache stays as it is.
       pub record IsStuck : Type 0 where
@@ -144,7 +127,7 @@ module _ {S V W : Type 0} (side : Side S V W) (laws : SideLaws side) (cluster : 
 
       found-loading : (other : AsyncLruCache ℕ W B (ImageFile S)) → WrittenFirst side old before (Ok tt) (record old { other = other }) between
           → (result : Result Admission Fault) (after : ImageFile S) (es' : List (ℕ × Slot V)) → (result ≡ Ok Denied → ⊥)
-          → Ready true between result after es' → Found side cluster old before (done_of result) (record old { own = with_entries old.own es'; other = other }) after
+          → Ready true between result after es' → EntryFound side cluster old before (done_of result) (record old { own = with_entries old.own es'; other = other }) after
       found-loading other w result after es' not r =
           let es = old.own.slots.entries in
           let cap = old.own.slots.cap in
@@ -161,30 +144,30 @@ module _ {S V W : Type 0} (side : Side S V W) (laws : SideLaws side) (cluster : 
             roomy = λ roomy. absurd (omega (arith, roomy, full));
             kept = w.kept;
             apart = λ no. ap (λ (c : Beside S V W A B). c.other) (w.idle no).1;
-            behind = λ none room. behind-done (old.order ≡ side.first) side.Writes side.Lets (side.state before.image) (side.state between.image) (side.state after.image) (cached_of side old) (cached_of side mid) _ (done_of result)
+            behind = λ none room. behind-done (old.order ≡ side.first) (WritesOther side) (LetsEntryIn side) (side.state before.image) (side.state between.image) (side.state after.image) (cached_of side old) (cached_of side mid) _ (done_of result)
                 (λ no. (ap (λ (f : ImageFile S). side.state f.image) (w.idle no).2, ap (λ (c : Beside S V W A B). cached_of side c) (w.idle no).1)) w.did
                 (laws.lets other.slots.entries es es' (side.state between.image) (side.state after.image) (done_of result)
                 (lets-in (λ (d : ImageFile S). side.state d.image) (loads_of side) (flushes_of side) (λ a b key answer load. laws.kept a.header.fields key (side.state a.image) answer (side.state b.image) load.1)
-                (Flushed side.kind.writes) (λ a b key value value' answer flush. flush.1) cap cluster between es result after es' absent full r));
+                (Flushed side.writes) (λ a b key value value' answer flush. flush.1) cap cluster between es result after es' absent full r));
             still = λ own rest.
                 let n = first-idle side laws old before mid between (Ok tt) w rest in
                 let k = side-still true cap between es result after es' r own in
-                (subst (λ (s : StorageState). Kept s (side.state after.image)) n.1 k.0, k.1, laws.same other.slots.entries es es' (subst side.OtherClean (sym n.2) rest));
+                (subst (λ (s : StorageState). Kept s (side.state after.image)) n.1 k.0, k.1, laws.same other.slots.entries es es' (subst (OtherClean side) (sym n.2) rest));
             others = (refl, header);
             room = (refl, w.room);
-            cause = side-counts true cap between es result after es' r before.header header (side.state before.image).faults w.cause (side.OtherReach (cached_of side old));
+            cause = side-counts true cap between es result after es' r before.header header (side.state before.image).faults w.cause (OtherReach side (cached_of side old));
           }
 
       pub found-full : (mid : Beside S V W A B) → WrittenFirst side old before (Ok tt) mid between → (result : Result Admission Fault) (after : ImageFile S) (new : Beside S V W A B) → new ≡ record mid { own = with_entries mid.own new.own.slots.entries }
-          → Readied (cache_kind nat_eq (loads_of side) (flushes_of side) mid.own.slots.cap) true cluster between mid.own.slots.entries result after new.own.slots.entries → Found side cluster old before (done_of result) new after
+          → Readied (cache_kind nat_eq (loads_of side) (flushes_of side) mid.own.slots.cap) true cluster between mid.own.slots.entries result after new.own.slots.entries → EntryFound side cluster old before (done_of result) new after
       found-full mid w result after new is r =
           let es' = new.own.slots.entries in
           let r' : Ready true between result after es' = subst (λ (c : Beside S V W A B). Readied (cache_kind nat_eq (loads_of side) (flushes_of side) c.own.slots.cap) true cluster between c.own.slots.entries result after es') w.same r in
-          subst (λ (c : Beside S V W A B). Found side cluster old before (done_of result) c after) (sym (is ∙ ap (λ (c : Beside S V W A B). record c { own = with_entries c.own es' }) w.same))
+          subst (λ (c : Beside S V W A B). EntryFound side cluster old before (done_of result) c after) (sym (is ∙ ap (λ (c : Beside S V W A B). record c { own = with_entries c.own es' }) w.same))
           (found-loading mid.other (subst (λ (c : Beside S V W A B). WrittenFirst side old before (Ok tt) c between) w.same w) result after es'
           (λ full. never-full (loads_of side) (flushes_of side) old.own.slots.cap cluster between old.own.slots.entries after es' (subst (λ (q : Result Admission Fault). Ready true between q after es') full r')) r')
 
-      pub found-halted : (mid : Beside S V W A B) (fault : Fault) → WrittenFirst side old before (Err fault) mid between → Found side cluster old before (Err fault) mid between
+      pub found-halted : (mid : Beside S V W A B) (fault : Fault) → WrittenFirst side old before (Err fault) mid between → EntryFound side cluster old before (Err fault) mid between
       found-halted mid fault w =
           let own = ap (λ (c : Beside S V W A B). c.own.slots.entries) w.same in
           let some = first-some side laws old before mid between fault w in
@@ -192,11 +175,11 @@ module _ {S V W : Type 0} (side : Side S V W) (laws : SideLaws side) (cluster : 
             going = going-safely before.header old.order Always (Err fault ≡ Ok tt) (WasNotCutOff {T = Unit} (Err fault)) _ _ _ _ w.faults (λ safe mild. absurd (never-refused _ _ _ fault (laws.near _ _ _ _ safe) mild w.cause)) w.going;
             hit = not-there;
             there = tt;
-            sought = record { there = not-there; loaded = λ none. tt; refused = inl (ap (λ l. map side.written l) own); pinned = pins-none old.own.slots.entries mid.own.slots.entries own };
+            sought = record { there = not-there; loaded = λ none. tt; refused = inl (ap (λ l. map (as_written side.writes) l) own); pinned = pins-none old.own.slots.entries mid.own.slots.entries own };
             roomy = λ roomy. absurd (omega (arith, roomy, full));
             kept = w.kept;
             apart = λ no. absurd (some no);
-            behind = λ none room. behind-refused (old.order ≡ side.first) side.Writes side.Lets (side.state before.image) (side.state between.image) (cached_of side old) (cached_of side mid) fault some w.did;
+            behind = λ none room. behind-refused (old.order ≡ side.first) (WritesOther side) (LetsEntryIn side) (side.state before.image) (side.state between.image) (cached_of side old) (cached_of side mid) fault some w.did;
             still = λ clean rest. absurd (let n = (first-idle side laws old before mid between (Err fault) w rest).0 in cc);
             others = (ap (λ (c : Beside S V W A B). c.order) w.same, w.header);
             room = (ap (λ (c : Beside S V W A B). c.own.slots.cap) w.same, w.room);

@@ -20,8 +20,9 @@ use Rattle.qcow2_alloc.specs.declared.file.ImageFile.{ImageFile}
 use Rattle.qcow2_alloc.specs.Allocators.{UsesBlock}
 use Rattle.qcow2_alloc.specs.Backends.{BlockFlushed, Flushed, TableFlushed, WrittenKind, written_blocks, written_tables}
 use Rattle.qcow2_alloc.specs.Cache.{FlushedAt, fault_of, victim}
+use Rattle.qcow2_alloc.specs.CachedKinds.{block_entries}
 use Rattle.qcow2_alloc.specs.Caches.{cached_file, cached_in, order_of}
-use Rattle.qcow2_alloc.specs.Finding.{BlockFound, LetsBlockIn, LetsIn}
+use Rattle.qcow2_alloc.specs.Finding.{BlockFound, LetsEntryIn, LetsIn}
 use Rattle.qcow2_alloc.specs.Going.{Behind, CachedStep, InTurn, IsNoShorter, WritesBlocks, WritesTables}
 use Rattle.qcow2_alloc.specs.Memory.{Cached}
 use Rattle.qcow2_alloc.proofs.Caching.Admission.{is-order}
@@ -137,10 +138,10 @@ module _ (old : StorageState) (es : List (ℕ × Slot Block)) (result : Result U
       by-victim None none = same-long old new (lets.stuck none).1
       by-victim (Some key) is = goes-long key (lets.goes key is)
 
-block-let-in : IsLong LetsBlockIn
-block-let-in old cached result new cached' (same, lets) = let-in old cached.blocks result new cached'.blocks lets
-
 module _ {S : Type 0} (state : S → StorageState) where
+  block-let-in : IsLong (LetsEntryIn (block_entries state))
+  block-let-in old cached result new cached' (same, lets) = let-in old cached.blocks result new cached'.blocks lets
+
   -- A block is found or loaded,
   pub found-long : (key : ℕ) (old : MetadataCaches S) (before : ImageFile S) (result : Result Unit Fault) (new : MetadataCaches S)
       (after : ImageFile S) → BlockFound state key old before result new after → IsNoShorter (state before.image) (state after.image)
@@ -148,7 +149,7 @@ module _ {S : Type 0} (state : S → StorageState) where
     | inl there ↦ same-long (state before.image) (state after.image) (ap (λ (f : ImageFile S). state f.image) (found.hit there).2)
     | inr none ↦ elim (cases_lt (length (cached_in old).blocks) old.rb.slots.cap) [
       | inl roomy ↦ kept-long (state before.image) (state after.image) (found.roomy roomy).0
-      | inr full ↦ behind-long (order_of old ≡ RbDependsOnL2) (is-order (order_of old) RbDependsOnL2) WritesTables LetsBlockIn tables-long block-let-in
+      | inr full ↦ behind-long (order_of old ≡ RbDependsOnL2) (is-order (order_of old) RbDependsOnL2) WritesTables (LetsEntryIn (block_entries state)) tables-long block-let-in
           (state before.image) (cached_in old) result (state after.image) (cached_in new) (found.behind none full)
     ]
   ]

@@ -88,7 +88,7 @@ module _ {S : Type 0} (state : S → StorageState) where
     header = found.others.1;
     order = found.others.0;
     pins = found.sought.pinned;
-    room = record { tables = found.room.tables; blocks = found.room.blocks; entries = found.tables };
+    room = record { tables = found.room.1; blocks = found.room.0; entries = found.kept };
   }
 
   pub found-stays : (table : TableValue) (key : ℕ) (old : MetadataCaches S) (before : ImageFile S) (answer : Result Unit Fault) (new : MetadataCaches S) (after : ImageFile S) → BlockFound state key old before answer new after → StaysLoose table old before new after

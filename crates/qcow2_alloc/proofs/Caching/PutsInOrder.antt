@@ -6,6 +6,7 @@ use Rattle.imago_storage.specs.State.{StorageState}
 use Rattle.imago_storage.specs.declared.fault.Fault.{Fault}
 use Rattle.qcow2_types.specs.Bytes.{bytes_of}
 use Rattle.qcow2_types.specs.Header.{Header}
+use Rattle.qcow2_alloc.specs.CachedKinds.{CachedKind, loads_of, flushes_of}
 use Rattle.qcow2_alloc.specs.declared.async_lru_cache.Admission.{Admission}
 use Rattle.qcow2_alloc.specs.declared.async_lru_cache.Admission.TheVariants.{Granted, Denied}
 use Rattle.qcow2_alloc.specs.declared.async_lru_cache.Slot.{Slot}
@@ -19,14 +20,14 @@ use Rattle.qcow2_alloc.specs.Safety.{Safe, IsLeft}
 use Rattle.qcow2_alloc.proofs.Caching.PutOutcomes.{put_of, hit-written}
 use Rattle.qcow2_alloc.proofs.Caching.Places.{place-of-key}
 use Rattle.qcow2_alloc.proofs.Caching.EntryLoads.{is-there, room-made, room-absent}
-use Rattle.qcow2_alloc.proofs.Caching.Sides.{Side, SideLaws, loads_of, flushes_of, Ready, FitsIn, new-comes, new-replaces}
+use Rattle.qcow2_alloc.proofs.Caching.Sides.{SideLaws, Ready, FitsIn, new-comes, new-replaces}
 use Rattle.qcow2_alloc.proofs.Flushing.WriteSequences.{going-weaker, going-ready, going-under, going-both-from}
 
 -- The entry itself comes, or goes over another.
-module _ {S V W : Type 0} (side : Side S V W) (laws : SideLaws side) (H : Header) (order : CacheDependency) (rest : List (ℕ × Slot W)) (key : ℕ) (value : V) (a : StorageState) (A : Cached) (P : Type 0)
+module _ {S V W : Type 0} (side : CachedKind S V W) (laws : SideLaws side) (H : Header) (order : CacheDependency) (rest : List (ℕ × Slot W)) (key : ℕ) (value : V) (a : StorageState) (A : Cached) (P : Type 0)
     (from : Safe (bytes_of a.bytes) H A order → P → (b : StorageState) → IsLeft (bytes_of a.bytes) (memory (bytes_of a.bytes) H.fields A) H (bytes_of b.bytes) → FitsIn side H key value b) where
   abbrev put : List (ℕ × Slot V) → Cached
-  put = side.kind.put rest
+  put = side.cached rest
 
   abbrev state : ImageFile S → StorageState
   state d = side.state d.image

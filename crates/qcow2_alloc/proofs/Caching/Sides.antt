@@ -6,17 +6,17 @@ use Rattle.std.specs.Map.{lookup, keys_of}
 use Rattle.imago_storage.specs.State.{StorageState}
 use Rattle.imago_storage.specs.Calls.{Kept, IsFaultless}
 use Rattle.imago_storage.specs.declared.fault.Fault.{Fault}
-use Rattle.qcow2_types.specs.Bytes.{Bytes, bytes_of}
+use Rattle.qcow2_types.specs.Bytes.{Bytes, Patch, bytes_of}
 use Rattle.qcow2_types.specs.Header.{Fields, Header, Shaped}
 use Rattle.qcow2_metadata.specs.Places.{IsInReach}
-use Rattle.qcow2_alloc.specs.declared.async_lru_cache.AsyncLruCache.{AsyncLruCache}
 use Rattle.qcow2_alloc.specs.declared.async_lru_cache.Slot.{Slot}
 use Rattle.qcow2_alloc.specs.declared.cache.CacheDependency.{CacheDependency}
 use Rattle.qcow2_alloc.specs.declared.file.ImageFile.{ImageFile}
 use Rattle.qcow2_alloc.specs.Backends.{Flushed}
+use Rattle.qcow2_alloc.specs.CachedKinds.{Beside, CachedKind, OtherClean, OtherReach, WritesOther, as_written, cached_of}
 use Rattle.qcow2_alloc.specs.Causes.{FailsFor}
-use Rattle.qcow2_alloc.specs.Finding.{LetsIn, search_causes}
-use Rattle.qcow2_alloc.specs.Going.{Going, CachedStep, Always, WasNotCutOff, writing_causes}
+use Rattle.qcow2_alloc.specs.Finding.{LetsEntryIn, LetsIn, search_causes}
+use Rattle.qcow2_alloc.specs.Going.{Going, Always, WasNotCutOff, writing_causes}
 use Rattle.qcow2_alloc.specs.Memory.{Cached, memory}
 use Rattle.qcow2_alloc.specs.Safety.{Safe, IsLeft}
 use Rattle.qcow2_alloc.proofs.Caching.SingleEntries.{EntryLaws, entry-leaves}
@@ -27,108 +27,92 @@ use Rattle.qcow2_alloc.proofs.Flushing.WriteSequences.{kept-same, going-quiet}
 use Rattle.qcow2_alloc.proofs.Memory.EntryKinds.{EntryKind}
 use Rattle.qcow2_alloc.proofs.Memory.Patches.{shaped-in}
 
--- One of the caches, the other one, and which of them is written first.
-pub record Beside (S V W A B : Type 0) : Type 0 where
-  pub own : AsyncLruCache ℕ V A (ImageFile S)
-  pub other : AsyncLruCache ℕ W B (ImageFile S)
-  pub order : CacheDependency
+-- What is to be known of a kind of entries beside what contracts cite of it, to see them in memory.
+pub record EntryParts (V W : Type 0) : Type 1 where
+  pub bytes : V → List ℕ
+  pub OtherFits : Bytes → Fields → ℕ → W → Type 0
+  pub ahead : ℕ → List (ℕ × Slot W) → List Patch
+  pub behind : ℕ → List (ℕ × Slot W) → List Patch
 
--- What a cache has entries of: how they are loaded and written, and what the other one has to do with it.
-pub record Side (S V W : Type 0) : Type 1 where
-  pub state : S → StorageState
-  pub kind : EntryKind V W
-  pub Loads : Fields → ℕ → StorageState → Result V Fault → StorageState → Type 0
-  pub read : Bytes → Fields → ℕ → V
-  pub written : ℕ × Slot V → ℕ × Slot V
-  pub other_written : ℕ × Slot W → ℕ × Slot W
-  -- words can name what is read, and it is sound
-  pub Fine : Bytes → Fields → ℕ → Type 0
-  -- the order in which the other one is written first, how it is written, and what is known of it
-  pub first : CacheDependency
-  pub Writes : CachedStep
-  pub Lets : CachedStep
-  pub OtherClean : Cached → Type 0
-  pub OtherReach : Cached → Type 0
+-- the kind, so seen
+abbrev pub entries_of : {S V W : Type 0} → CachedKind S V W → EntryParts V W → EntryKind V W
+entries_of side parts = record {
+  writes = side.writes;
+  bytes = parts.bytes;
+  Fits = side.Fits;
+  OtherFits = parts.OtherFits;
+  put = side.cached;
+  ahead = parts.ahead;
+  behind = parts.behind;
+}
 
-module _ {S V W : Type 0} (side : Side S V W) where
-  -- one is loaded from an image file, and flushed to it
-  abbrev pub loads_of : ImageFile S → ℕ → Result V Fault → ImageFile S → Type 0
-  loads_of old key answer new = (new.header ≡ old.header) × side.Loads old.header.fields key (side.state old.image) answer (side.state new.image)
-
-  abbrev pub flushes_of : ImageFile S → ℕ → V → Result Unit Fault → ImageFile S → V → Type 0
-  flushes_of old key value answer new value' = (new.header ≡ old.header) × Flushed side.kind.writes (side.state old.image) key value answer (side.state new.image) value'
-
+module _ {S V W : Type 0} (side : CachedKind S V W) where
   -- words can name each that is to be written, or nothing is
   abbrev pub Reach : ℕ → V → Type 0
-  Reach key value = side.kind.writes.modified value ≡ true → IsInReach (side.kind.writes.cluster_bits value) key
-
-  abbrev pub AreInReach : List (ℕ × Slot V) → Type 0
-  AreInReach es = AllByRecursion (λ (e : ℕ × Slot V). Reach e.0 e.1.value) es
-
-  abbrev pub AreClean : List (ℕ × Slot V) → Type 0
-  AreClean es = AllByRecursion (λ (e : ℕ × Slot V). side.kind.writes.modified e.1.value ≡ false) es
+  Reach key value = side.writes.modified value ≡ true → IsInReach (side.writes.cluster_bits value) key
 
   -- what has to be written before one is
   abbrev pub Ready : CacheDependency → Cached → Type 0
-  Ready order cached = order ≡ side.first → side.OtherClean cached
+  Ready order cached = order ≡ side.first → OtherClean side cached
 
   abbrev pub FitsIn : Header → ℕ → V → StorageState → Type 0
-  FitsIn H key value s = (side.kind.writes.modified value ≡ false) × side.kind.Fits (bytes_of s.bytes) H.fields key value
+  FitsIn H key value s = (side.writes.modified value ≡ false) × side.Fits (bytes_of s.bytes) H.fields key value
 
   -- What is known of them.
-  pub record SideLaws : Type 0 where
-    pub entries : EntryLaws side.kind
+  pub record SideLaws : Type 1 where
+    pub parts : EntryParts V W
+    pub entries : EntryLaws (entries_of side parts)
     pub kept : (h : Fields) (key : ℕ) (a : StorageState) (answer : Result V Fault) (b : StorageState) → side.Loads h key a answer b → Kept a b
     pub reads : (h : Fields) (key : ℕ) (a : StorageState) (value : V) (b : StorageState) → side.Loads h key a (Ok value) b → value ≡ side.read (bytes_of a.bytes) h key
-    pub clean : (f : Bytes) (h : Fields) (key : ℕ) → side.kind.writes.modified (side.read f h key) ≡ false
-    pub fits : (h : Fields) (key : ℕ) (a : StorageState) (value : V) (b : StorageState) → side.Loads h key a (Ok value) b → Shaped h → side.kind.Fits (bytes_of a.bytes) h key value
+    pub clean : (f : Bytes) (h : Fields) (key : ℕ) → side.writes.modified (side.read f h key) ≡ false
+    pub fits : (h : Fields) (key : ℕ) (a : StorageState) (value : V) (b : StorageState) → side.Loads h key a (Ok value) b → Shaped h → side.Fits (bytes_of a.bytes) h key value
     pub counts : (h : Fields) (key : ℕ) (a : StorageState) (answer : Result V Fault) (b : StorageState) → side.Loads h key a answer b
         → (a.faults ≤ b.faults) × FailsFor (search_causes (side.Fine (bytes_of b.bytes) h key) ⊥ a.faults b.faults) answer
     pub still : (h : Fields) (key : ℕ) (a : StorageState) (answer : Result V Fault) (b : StorageState) → side.Loads h key a answer b → WasNotCutOff answer → b.faults ≡ a.faults
-    pub keeps : (key : ℕ) (slot : Slot V) (a : StorageState) (answer : Result Unit Fault) (b : StorageState) (value : V) → Flushed side.kind.writes a key slot.value answer b value
-        → side.written (key, record slot { value = value }) ≡ side.written (key, slot)
-    pub counted : (key : ℕ) (v : V) (a b : StorageState) (answer : Result Unit Fault) (v' : V) → Flushed side.kind.writes a key v answer b v' → Counted (Reach key v) a b answer
-    pub cleaned : (key : ℕ) (v : V) (a b : StorageState) (v' : V) → Flushed side.kind.writes a key v (Ok tt) b v' → side.kind.writes.modified v' ≡ false
+    pub keeps : (key : ℕ) (slot : Slot V) (a : StorageState) (answer : Result Unit Fault) (b : StorageState) (value : V) → Flushed side.writes a key slot.value answer b value
+        → (as_written side.writes) (key, record slot { value = value }) ≡ (as_written side.writes) (key, slot)
+    pub counted : (key : ℕ) (v : V) (a b : StorageState) (answer : Result Unit Fault) (v' : V) → Flushed side.writes a key v answer b v' → Counted (Reach key v) a b answer
+    pub cleaned : (key : ℕ) (v : V) (a b : StorageState) (v' : V) → Flushed side.writes a key v (Ok tt) b v' → side.writes.modified v' ≡ false
     pub flushed : (H : Header) (order : CacheDependency) (rest : List (ℕ × Slot W)) (front : List (ℕ × Slot V)) (key : ℕ) (slot : Slot V) (back : List (ℕ × Slot V)) (a b : StorageState) (answer : Result Unit Fault) (value : V)
-        → Flushed side.kind.writes a key slot.value answer b value
-        → Going H order (Ready order) (WasNotCutOff answer) a (side.kind.put rest (front ++ (key, slot) ∷ back)) b (side.kind.put rest (front ++ (key, record slot { value = value }) ∷ back))
+        → Flushed side.writes a key slot.value answer b value
+        → Going H order (Ready order) (WasNotCutOff answer) a (side.cached rest (front ++ (key, slot) ∷ back)) b (side.cached rest (front ++ (key, record slot { value = value }) ∷ back))
     -- one is as it was in each file that writes of others leave
-    pub stays : (f : Bytes) (H : Header) (order : CacheDependency) (rest : List (ℕ × Slot W)) (es : List (ℕ × Slot V)) → Safe f H (side.kind.put rest es) order
-        → (x : Bytes) → IsLeft f (memory f H.fields (side.kind.put rest es)) H x → (key : ℕ) (value : V) → AllByRecursion (λ e. e.0 ≡ key → side.kind.writes.modified e.1.value ≡ false) es
-        → side.kind.Fits f H.fields key value → side.kind.Fits x H.fields key value
+    pub stays : (f : Bytes) (H : Header) (order : CacheDependency) (rest : List (ℕ × Slot W)) (es : List (ℕ × Slot V)) → Safe f H (side.cached rest es) order
+        → (x : Bytes) → IsLeft f (memory f H.fields (side.cached rest es)) H x → (key : ℕ) (value : V) → AllByRecursion (λ e. e.0 ≡ key → side.writes.modified e.1.value ≡ false) es
+        → side.Fits f H.fields key value → side.Fits x H.fields key value
     -- the other one has nothing to do with which entries there are
-    pub same : (rest : List (ℕ × Slot W)) (A B : List (ℕ × Slot V)) → side.OtherClean (side.kind.put rest A) → side.OtherClean (side.kind.put rest B)
-    pub near : (f : Bytes) (H : Header) (order : CacheDependency) (cached : Cached) → Safe f H cached order → side.OtherReach cached
+    pub same : (rest : List (ℕ × Slot W)) (A B : List (ℕ × Slot V)) → OtherClean side (side.cached rest A) → OtherClean side (side.cached rest B)
+    pub near : (f : Bytes) (H : Header) (order : CacheDependency) (cached : Cached) → Safe f H cached order → OtherReach side cached
     pub lets : (rest : List (ℕ × Slot W)) (es es' : List (ℕ × Slot V)) (a b : StorageState) (result : Result Unit Fault)
-        → LetsIn (Flushed side.kind.writes) a es result b es' → side.Lets a (side.kind.put rest es) result b (side.kind.put rest es')
+        → LetsIn (Flushed side.writes) a es result b es' → (LetsEntryIn side) a (side.cached rest es) result b (side.cached rest es')
     pub idle : (order : CacheDependency) (a b : StorageState) (c c' : Cached) (answer : Result Unit Fault) → ((order ≡ side.first → ⊥) → (answer ≡ Ok tt) × (b ≡ a) × (c' ≡ c))
-        → (order ≡ side.first → side.Writes a c answer b c') → side.OtherClean c → (answer ≡ Ok tt) × (b ≡ a) × (c' ≡ c)
+        → (order ≡ side.first → (WritesOther side) a c answer b c') → OtherClean side c → (answer ≡ Ok tt) × (b ≡ a) × (c' ≡ c)
 
   module _ (laws : SideLaws) (H : Header) (order : CacheDependency) (rest : List (ℕ × Slot W)) where
     abbrev put : List (ℕ × Slot V) → Cached
-    put = side.kind.put rest
+    put = side.cached rest
 
     -- one that isn't modified comes
-    comes-same : (f : Bytes) (key : ℕ) (slot : Slot V) (es : List (ℕ × Slot V)) → side.kind.writes.modified slot.value ≡ false → memory f H.fields (put ((key, slot) ∷ es)) ≡ memory f H.fields (put es)
-    comes-same f key slot es clean = sym (entry-leaves side.kind laws.entries f H rest [] key slot es clean)
+    comes-same : (f : Bytes) (key : ℕ) (slot : Slot V) (es : List (ℕ × Slot V)) → side.writes.modified slot.value ≡ false → memory f H.fields (put ((key, slot) ∷ es)) ≡ memory f H.fields (put es)
+    comes-same f key slot es clean = sym (entry-leaves (entries_of side laws.parts) laws.entries f H rest [] key slot es clean)
 
-    comes : (f : Bytes) (key : ℕ) (slot : Slot V) (es : List (ℕ × Slot V)) → side.kind.writes.modified slot.value ≡ false → AllByRecursion (λ y. nat_eq key y ≡ false) (keys_of es) → side.kind.Fits f H.fields key slot.value
+    comes : (f : Bytes) (key : ℕ) (slot : Slot V) (es : List (ℕ × Slot V)) → side.writes.modified slot.value ≡ false → AllByRecursion (λ y. nat_eq key y ≡ false) (keys_of es) → side.Fits f H.fields key slot.value
         → Safe f H (put es) order → Safe f H (put ((key, slot) ∷ es)) order
-    comes f key slot es = comes-safe side.kind laws.entries f H order rest [] key slot [] es
+    comes f key slot es = comes-safe (entries_of side laws.parts) laws.entries f H order rest [] key slot [] es
 
     module _ (Ready : Cached → Type 0) (ready : (A B : List (ℕ × Slot V)) → Ready (put A) → Ready (put B)) where
-      pub leaves-quietly : (front : List (ℕ × Slot V)) (key : ℕ) (slot : Slot V) (back : List (ℕ × Slot V)) (s : StorageState) → side.kind.writes.modified slot.value ≡ false
+      pub leaves-quietly : (front : List (ℕ × Slot V)) (key : ℕ) (slot : Slot V) (back : List (ℕ × Slot V)) (s : StorageState) → side.writes.modified slot.value ≡ false
           → Going H order Ready ⊤ s (put (front ++ (key, slot) ∷ back)) s (put (front ++ back))
       leaves-quietly front key slot back s clean =
           going-quiet H order Ready ⊤ s s (put (front ++ (key, slot) ∷ back)) (put (front ++ back)) (kept-same s) (omega arith) (λ o. refl) (ready (front ++ (key, slot) ∷ back) (front ++ back))
-          (λ r. leaves-safe side.kind laws.entries (bytes_of s.bytes) H order rest front key slot back clean)
-          (λ r. entry-leaves side.kind laws.entries (bytes_of s.bytes) H rest front key slot back clean)
+          (λ r. leaves-safe (entries_of side laws.parts) laws.entries (bytes_of s.bytes) H order rest front key slot back clean)
+          (λ r. entry-leaves (entries_of side laws.parts) laws.entries (bytes_of s.bytes) H rest front key slot back clean)
 
       pub comes-quietly : (key : ℕ) (value : V) (es : List (ℕ × Slot V)) (a b : StorageState) → side.Loads H.fields key a (Ok value) b → lookup (nat_eq key) es ≡ None
           → Going H order Ready ⊤ a (put es) b (put ((key, record { value = value; pins = 0 }) ∷ es))
       comes-quietly key value es a b load none =
           let same = laws.still H.fields key a (Ok value) b load tt in
-          let clean = ap side.kind.writes.modified (laws.reads H.fields key a value b load) ∙ laws.clean (bytes_of a.bytes) H.fields key in
+          let clean = ap side.writes.modified (laws.reads H.fields key a value b load) ∙ laws.clean (bytes_of a.bytes) H.fields key in
           going-quiet H order Ready ⊤ a b (put es) (put ((key, record { value = value; pins = 0 }) ∷ es)) (laws.kept H.fields key a (Ok value) b load) (omega (arith, same)) (λ o. same)
           (ready es ((key, record { value = value; pins = 0 }) ∷ es))
           (λ r safe. comes (bytes_of a.bytes) key (record { value = value; pins = 0 }) es clean (away-of-all key es none) (laws.fits H.fields key a value b load (shaped-in (bytes_of a.bytes) H safe.consistent)) safe)
@@ -149,36 +133,32 @@ module _ {S V W : Type 0} (side : Side S V W) where
           (λ fits. comes (bytes_of s.bytes) key (record { value = value; pins = 0 }) es fits.0 (away-of-all key es none) fits.1)
           (λ fits. comes-same (bytes_of s.bytes) key (record { value = value; pins = 0 }) es fits.0)
 
-      pub new-replaces : (s : StorageState) (front : List (ℕ × Slot V)) (slot : Slot V) (back : List (ℕ × Slot V)) → side.kind.writes.modified slot.value ≡ false
+      pub new-replaces : (s : StorageState) (front : List (ℕ × Slot V)) (slot : Slot V) (back : List (ℕ × Slot V)) → side.writes.modified slot.value ≡ false
           → Going H order (λ _. FitsIn H key value s) ⊤ s (put (front ++ (key, slot) ∷ back)) s (put ((key, record slot { value = value }) ∷ front ++ back))
       new-replaces s front slot back off =
           let f = bytes_of s.bytes in
           going-quiet H order (λ _. FitsIn H key value s) ⊤ s s (put (front ++ (key, slot) ∷ back)) (put ((key, record slot { value = value }) ∷ front ++ back)) (kept-same s) (omega arith) (λ o. refl) (λ r. r)
           (λ fits safe. comes f key (record slot { value = value }) (front ++ back) fits.0
           (away-of front key slot back (laws.entries.own f H order rest (front ++ (key, slot) ∷ back) safe).apart) fits.1
-          (leaves-safe side.kind laws.entries f H order rest front key slot back off safe))
-          (λ fits. comes-same f key (record slot { value = value }) (front ++ back) fits.0 ∙ entry-leaves side.kind laws.entries f H rest front key slot back off)
-
--- what is cached
-abbrev pub cached_of : {S V W A B : Type 0} → Side S V W → Beside S V W A B → Cached
-cached_of side c = side.kind.put c.other.slots.entries c.own.slots.entries
+          (leaves-safe (entries_of side laws.parts) laws.entries f H order rest front key slot back off safe))
+          (λ fits. comes-same f key (record slot { value = value }) (front ++ back) fits.0 ∙ entry-leaves (entries_of side laws.parts) laws.entries f H rest front key slot back off)
 
 -- The other one was written where it comes first, and that was answered so.
-pub record WrittenFirst {S V W A B : Type 0} (side : Side S V W) (old : Beside S V W A B) (before : ImageFile S) (answer : Result Unit Fault) (mid : Beside S V W A B) (between : ImageFile S) : Type 0 where
+pub record WrittenFirst {S V W A B : Type 0} (side : CachedKind S V W) (old : Beside S V W A B) (before : ImageFile S) (answer : Result Unit Fault) (mid : Beside S V W A B) (between : ImageFile S) : Type 0 where
   pub going : Going before.header old.order Always (answer ≡ Ok tt) (side.state before.image) (cached_of side old) (side.state between.image) (cached_of side mid)
-  pub kept : map side.other_written mid.other.slots.entries ≡ map side.other_written old.other.slots.entries
+  pub kept : map (as_written side.other_writes) mid.other.slots.entries ≡ map (as_written side.other_writes) old.other.slots.entries
   pub ready : OnOk answer (Ready side mid.order (cached_of side mid))
   pub idle : (old.order ≡ side.first → ⊥) → (answer ≡ Ok tt) × (mid ≡ old) × (between ≡ before)
   pub same : mid ≡ record old { other = mid.other }
   pub header : between.header ≡ before.header
   pub room : mid.other.slots.cap ≡ old.other.slots.cap
-  pub cause : FailsFor (writing_causes (side.OtherReach (cached_of side old)) (side.state before.image).faults (side.state between.image).faults) answer
+  pub cause : FailsFor (writing_causes (OtherReach side (cached_of side old)) (side.state before.image).faults (side.state between.image).faults) answer
   pub faults : WasNotCutOff answer → IsFaultless (side.state before.image) (side.state between.image)
-  pub did : old.order ≡ side.first → side.Writes (side.state before.image) (cached_of side old) answer (side.state between.image) (cached_of side mid)
+  pub did : old.order ≡ side.first → (WritesOther side) (side.state before.image) (cached_of side old) answer (side.state between.image) (cached_of side mid)
 
-module _ {S V W A B : Type 0} (side : Side S V W) (laws : SideLaws side) (old : Beside S V W A B) (before : ImageFile S) (mid : Beside S V W A B) (between : ImageFile S) where
+module _ {S V W A B : Type 0} (side : CachedKind S V W) (laws : SideLaws side) (old : Beside S V W A B) (before : ImageFile S) (mid : Beside S V W A B) (between : ImageFile S) where
   -- Where that is nothing modified, nothing was done,
-  pub first-idle : (answer : Result Unit Fault) → WrittenFirst side old before answer mid between → side.OtherClean (cached_of side old)
+  pub first-idle : (answer : Result Unit Fault) → WrittenFirst side old before answer mid between → OtherClean side (cached_of side old)
       → (answer ≡ Ok tt) × (side.state between.image ≡ side.state before.image) × (cached_of side mid ≡ cached_of side old)
   first-idle answer w = laws.idle old.order (side.state before.image) (side.state between.image) (cached_of side old) (cached_of side mid) answer
       (λ no. let i = w.idle no in (i.0, ap (λ (d : ImageFile S). side.state d.image) i.2, ap (λ (c : Beside S V W A B). cached_of side c) i.1)) w.did

@@ -13,26 +13,21 @@ use Rattle.imago_storage.specs.declared.fault.Fault.TheVariants.{Limit, DamagedT
 use Rattle.qcow2_types.specs.Bytes.{bytes_of}
 use Rattle.qcow2_types.specs.Words.{Layout, max_offset}
 use Rattle.qcow2_types.specs.Header.{Fields, Shaped, cluster_size, words_of_cluster, layout_of}
-use Rattle.qcow2_metadata.specs.Tables.{TableValue, Kind, WhyNotLoaded, HasUnsound, l2_words, table_in, words_in}
-use Rattle.qcow2_metadata.specs.Blocks.{Block}
+use Rattle.qcow2_metadata.specs.Tables.{TableValue, Kind, WhyNotLoaded, HasUnsound, l2_words, words_in}
+use Rattle.qcow2_alloc.specs.CachedKinds.{IsTableFine, by_tables, table_entries}
 use Rattle.qcow2_alloc.specs.declared.cache.CacheDependency.TheVariants.{L2DependsOnRb}
-use Rattle.qcow2_alloc.specs.declared.cache.L2CacheBackend.{L2CacheBackend}
 use Rattle.qcow2_alloc.specs.declared.cache.MetadataCaches.{MetadataCaches}
-use Rattle.qcow2_alloc.specs.declared.cache.RefBlockCacheBackend.{RefBlockCacheBackend}
 use Rattle.qcow2_alloc.specs.declared.file.ImageFile.{ImageFile}
 use Rattle.qcow2_alloc.specs.Backends.{TableLoaded, l2_words_in}
-use Rattle.qcow2_alloc.specs.Caches.{HasRoomOf, cached_file, cached_in, order_of}
+use Rattle.qcow2_alloc.specs.Caches.{HasRoomOf, cached_in, order_of}
 use Rattle.qcow2_alloc.specs.Causes.{HasCause, FailsFor}
-use Rattle.qcow2_alloc.specs.Finding.{IsTableFine, LetsTableIn, TableFound, search_causes}
+use Rattle.qcow2_alloc.specs.Finding.{search_causes}
 use Rattle.qcow2_alloc.specs.Going.{Going, Always, ReadyTables, IsMild, WasNotCutOff, AreBlocksInReach, WritesBlocks, writing_causes}
-use Rattle.qcow2_alloc.specs.Memory.{Cached, written, written_table, written_block}
-use Rattle.qcow2_alloc.specs.Putting.{TableInserted}
-use Rattle.qcow2_alloc.specs.Safety.{IsCachedTable, AreBlocksClean}
+use Rattle.qcow2_alloc.specs.Memory.{Cached, written}
+use Rattle.qcow2_alloc.specs.Safety.{IsCachedTable}
 use Rattle.qcow2_alloc.proofs.Caching.SingleEntries.{table-kind-laws}
-use Rattle.qcow2_alloc.proofs.Caching.EntrySearches.{Found}
 use Rattle.qcow2_alloc.proofs.Caching.Admission.{blocks-idle}
-use Rattle.qcow2_alloc.proofs.Caching.EntryPuts.{PutSo}
-use Rattle.qcow2_alloc.proofs.Caching.Sides.{Beside, Side, SideLaws, WrittenFirst}
+use Rattle.qcow2_alloc.proofs.Caching.Sides.{SideLaws, WrittenFirst}
 use Rattle.qcow2_alloc.proofs.Caching.FitsAfterFlushes.{table-stays}
 use Rattle.qcow2_alloc.proofs.Flushing.FlushRefusals.{table-counted}
 use Rattle.qcow2_alloc.proofs.Flushing.TableFlushes.{table-flushed, flushed-clean}
@@ -100,24 +95,9 @@ loaded-fits h key old value new loaded shaped = record {
         grind (arith, nat_tests)
 
 module _ {S : Type 0} (state : S → StorageState) where
-  abbrev pub tables : Side S TableValue Block
-  tables = record {
-    state = state;
-    kind = table_kind;
-    Loads = TableLoaded;
-    read = λ f h key. table_in f h key (words_of_cluster h);
-    written = written_table;
-    other_written = written_block;
-    Fine = IsTableFine;
-    first = L2DependsOnRb;
-    Writes = WritesBlocks;
-    Lets = LetsTableIn;
-    OtherClean = AreBlocksClean;
-    OtherReach = AreBlocksInReach;
-  }
-
-  pub table-laws : SideLaws tables
+  pub table-laws : SideLaws (table_entries state)
   table-laws = record {
+    parts = record { bytes = table_kind.bytes; OtherFits = table_kind.OtherFits; ahead = table_kind.ahead; behind = table_kind.behind };
     entries = table-kind-laws;
     kept = λ h key a answer b load. load.kept;
     reads = λ h key a value b load. load.ok.1;
@@ -136,62 +116,22 @@ module _ {S : Type 0} (state : S → StorageState) where
     idle = blocks-idle;
   }
 
-  -- the caches so seen
-  abbrev pub l2_side : MetadataCaches S → Beside S TableValue Block (L2CacheBackend S) (RefBlockCacheBackend S)
-  l2_side c = record { own = c.l2; other = c.rb; order = c.order }
-
-  abbrev pub back : Beside S TableValue Block (L2CacheBackend S) (RefBlockCacheBackend S) → MetadataCaches S
-  back c = record { l2 = c.own; rb = c.other; order = c.order }
-
   module _ (old : MetadataCaches S) (before : ImageFile S) (answer : Result Unit Fault) (mid : MetadataCaches S) (between : ImageFile S) where
     -- what blocks are written for
     pub blocks-first : Going before.header (order_of old) Always (answer ≡ Ok tt) (state before.image) (cached_in old) (state between.image) (cached_in mid) → written (cached_in mid) ≡ written (cached_in old)
         → OnOk answer (ReadyTables (order_of mid) (cached_in mid)) → ((order_of old ≡ L2DependsOnRb → ⊥) → (answer ≡ Ok tt) × (mid ≡ old) × (between ≡ before))
         → (mid.l2 ≡ old.l2) × (mid.order ≡ old.order) × (between.header ≡ before.header) → HasRoomOf old mid
         → FailsFor (writing_causes (AreBlocksInReach (cached_in old)) (state before.image).faults (state between.image).faults) answer → (WasNotCutOff answer → IsFaultless (state before.image) (state between.image))
-        → (order_of old ≡ L2DependsOnRb → WritesBlocks (state before.image) (cached_in old) answer (state between.image) (cached_in mid)) → WrittenFirst tables (l2_side old) before answer (l2_side mid) between
+        → (order_of old ≡ L2DependsOnRb → WritesBlocks (state before.image) (cached_in old) answer (state between.image) (cached_in mid)) → WrittenFirst (table_entries state) (by_tables old) before answer (by_tables mid) between
     blocks-first going kept ready idle others room cause faults did = record {
       going = going;
       kept = ap (λ (c : Cached). c.blocks) kept;
       ready = ready;
-      idle = λ no. let i = idle no in (i.0, ap l2_side i.1, i.2);
-      same = ap (λ l. record (l2_side mid) { own = l }) others.0 ∙ ap (λ o. record (l2_side old) { other = mid.rb; order = o }) others.1;
+      idle = λ no. let i = idle no in (i.0, ap by_tables i.1, i.2);
+      same = ap (λ l. record (by_tables mid) { own = l }) others.0 ∙ ap (λ o. record (by_tables old) { other = mid.rb; order = o }) others.1;
       header = others.2;
       room = room.blocks;
       cause = cause;
       faults = faults;
       did = did;
-    }
-
-  module _ (cluster : ℕ) (old new : MetadataCaches S) (before after : ImageFile S) where
-    -- The search of a table,
-    pub table-found : (result : Result Unit Fault) → Found tables cluster (l2_side old) before result (l2_side new) after → TableFound state cluster old before result new after
-    table-found result f = record {
-      going = f.going;
-      hit = λ there. let h = f.hit there in (h.0, ap back h.1, h.2);
-      there = f.there;
-      sought = f.sought;
-      roomy = f.roomy;
-      blocks = f.kept;
-      apart = f.apart;
-      behind = f.behind;
-      still = f.still;
-      others = f.others;
-      room = record { tables = f.room.0; blocks = f.room.1 };
-      cause = f.cause;
-    }
-
-    -- and its put.
-    pub table-put : (table : TableValue) (result : Result Unit (Fault × TableValue)) → PutSo tables cluster table (l2_side old) before result (l2_side new) after → TableInserted state cluster table (cached_file old before) result (cached_file new after)
-    table-put table result p = record {
-      going = p.going;
-      put = p.put;
-      flushed = p.flushed;
-      roomy = p.roomy;
-      blocks = p.kept;
-      apart = p.apart;
-      behind = p.behind;
-      others = p.others;
-      room = record { tables = p.room.0; blocks = p.room.1 };
-      cause = p.cause;
     }

@@ -222,7 +222,7 @@ module _ {S : Type 0} (state : S → StorageState) (table : TableValue) where
       Counts q = FailsFor (freeing_causes Holds (HasSpareRoom old) (state before.image).faults (state after.image).faults) q
 
       search-frees : (key : ℕ) → named_block table (c / counters_of_block before.header.fields) ≡ Some key → 0 < listed pending c
-          → Implies (search_causes (IsInReach before.header.fields.cluster_bits key × AreTablesInReach (cached_in old) × AreBlocksInReach (cached_in old)) (IsPinnedFull old.rb.slots.cap (cached_in old).blocks) (state before.image).faults (state after.image).faults)
+          → Implies (search_causes (IsInReach before.header.fields.cluster_bits key × AreBlocksInReach (cached_in old) × AreTablesInReach (cached_in old)) (IsPinnedFull old.rb.slots.cap (cached_in old).blocks) (state before.image).faults (state after.image).faults)
           (freeing_causes Holds (HasSpareRoom old) (state before.image).faults (state after.image).faults)
       search-frees key named waits = record {
         before = omega arith;
@@ -232,7 +232,7 @@ module _ {S : Type 0} (state : S → StorageState) (table : TableValue) where
             let there = counted-block Old holds.1 c (omega (arith, was, waits)) in
             let same : there.key ≡ key = (let e = sym there.names ∙ named in cc) in
             let reach = safe-reach Old.file Old.header Old.cached Old.order holds.1.safe in
-            wrong (subst (λ n. IsInReach before.header.fields.cluster_bits n) same there.reach, reach.0, reach.1);
+            wrong (subst (λ n. IsInReach before.header.fields.cluster_bits n) same there.reach, reach.1, reach.0);
         counter = absurd;
         full = λ all spare. let full = full-pinned (cached_in old).blocks all in omega (arith, full, spare);
         limit = λ number. absurd;

@@ -150,24 +150,24 @@ module _ {S : Type 0} (state : S → StorageState) (table : TableValue) where
     named-there : IsSafeWith state table old before → IsNamed (bytes_of (state before.image).bytes) before.header i key
     named-there sound = named-block (bytes_of (state before.image).bytes) before.header table i sound.table_of_file key sound.safe.consistent named
 
-    search-frees : Implies (search_causes (IsInReach before.header.fields.cluster_bits key × AreTablesInReach (cached_in old) × AreBlocksInReach (cached_in old)) (IsPinnedFull old.rb.slots.cap (cached_in old).blocks) (state before.image).faults (state after.image).faults)
+    search-frees : Implies (search_causes (IsInReach before.header.fields.cluster_bits key × AreBlocksInReach (cached_in old) × AreTablesInReach (cached_in old)) (IsPinnedFull old.rb.slots.cap (cached_in old).blocks) (state before.image).faults (state after.image).faults)
         (freeing_causes (IsSafeWith state table old before) (IsLoose table old true) (state before.image).faults (state after.image).faults)
     search-frees = record {
       before = omega arith;
       after = omega arith;
       damaged = λ wrong sound.
           let reach = safe-reach (bytes_of (state before.image).bytes) before.header (cached_in old) (order_of old) sound.safe in
-          wrong ((named-there sound).reach, reach.0, reach.1);
+          wrong ((named-there sound).reach, reach.1, reach.0);
       counter = absurd;
       full = λ full loose. loose-never table old true loose full;
       limit = λ number. absurd;
     }
 
     clean-found : (answer : Result Unit Fault) → BlockFound state key old before answer new after → KeepsClean state (cached_file old before) (cached_file new after)
-    clean-found answer found tables blocks = let still = found.still tables blocks in record { kept = still.0; tables = still.1; blocks = still.2 }
+    clean-found answer found tables blocks = let still = found.still blocks tables in record { kept = still.0; tables = still.2; blocks = still.1 }
 
     loose-found : (answer : Result Unit Fault) → BlockFound state key old before answer new after → (any : Bool) → IsLoose table old any → IsLoose table new any
-    loose-found answer found = loose-on table old new found.sought.pinned found.room.blocks
+    loose-found answer found = loose-on table old new found.sought.pinned found.room.0
 
     found-refused : {T : Type 0} (fault : Fault) → BlockFound state key old before (Err fault) new after → Looked state {T = T} table (cached_file old before) (Err fault) (cached_file new after)
     found-refused fault found = record {
@@ -175,7 +175,7 @@ module _ {S : Type 0} (state : S → StorageState) (table : TableValue) where
       order = found.others.0;
       header = found.others.1;
       loose = loose-found (Err fault) found;
-      room = record { tables = found.room.tables; blocks = found.room.blocks; entries = found.tables };
+      room = record { tables = found.room.1; blocks = found.room.0; entries = found.kept };
       clean = clean-found (Err fault) found;
       cause = cause-weaker search-frees fault found.cause;
     }
@@ -186,7 +186,7 @@ module _ {S : Type 0} (state : S → StorageState) (table : TableValue) where
       order = found.others.0;
       header = found.others.1;
       loose = loose-found (Ok tt) found;
-      room = record { tables = found.room.tables; blocks = found.room.blocks; entries = found.tables };
+      room = record { tables = found.room.1; blocks = found.room.0; entries = found.kept };
       clean = clean-found (Ok tt) found;
       cause = found.cause;
     }

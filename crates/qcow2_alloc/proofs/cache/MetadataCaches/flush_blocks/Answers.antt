@@ -4,26 +4,27 @@ use Rattle.qcow2_metadata.specs.Blocks.{Block}
 use Rattle.qcow2_alloc.specs.declared.async_lru_cache.Slot.{Slot}
 use Rattle.qcow2_alloc.specs.Memory.{written_table}
 use Rattle.qcow2_alloc.proofs.Caching.CacheFlushes.{all-flushed}
-use Rattle.qcow2_alloc.proofs.Caching.BlockSide.{blocks, block-laws, rb_side}
+use Rattle.qcow2_alloc.proofs.Caching.BlockSide.{block-laws}
+use Rattle.qcow2_alloc.specs.CachedKinds.{block_entries, by_blocks}
 use Rattle.qcow2_alloc.proofs.cache.MetadataCaches.flush_blocks.Goals as goal
 
 pub returns-clause-going : goal.returns-clause-going
-returns-clause-going g c = (all-flushed (blocks g.S.Storage.state) (block-laws g.S.Storage.state) (rb_side g.S.Storage.state c.args.self.now) c.args.file.now c.flush.result c.flush.new.device c.flush.new.self.slots.entries c.flush.ensures.flushed).going
+returns-clause-going g c = (all-flushed (block_entries g.S.Storage.state) (block-laws g.S.Storage.state) (by_blocks c.args.self.now) c.args.file.now c.flush.result c.flush.new.device c.flush.new.self.slots.entries c.flush.ensures.flushed).going
 
 pub returns-clause-clean : goal.returns-clause-clean
-returns-clause-clean g c = (all-flushed (blocks g.S.Storage.state) (block-laws g.S.Storage.state) (rb_side g.S.Storage.state c.args.self.now) c.args.file.now c.flush.result c.flush.new.device c.flush.new.self.slots.entries c.flush.ensures.flushed).clean
+returns-clause-clean g c = (all-flushed (block_entries g.S.Storage.state) (block-laws g.S.Storage.state) (by_blocks c.args.self.now) c.args.file.now c.flush.result c.flush.new.device c.flush.new.self.slots.entries c.flush.ensures.flushed).clean
 
 pub returns-clause-others : goal.returns-clause-others
-returns-clause-others g c = (refl, refl, (all-flushed (blocks g.S.Storage.state) (block-laws g.S.Storage.state) (rb_side g.S.Storage.state c.args.self.now) c.args.file.now c.flush.result c.flush.new.device c.flush.new.self.slots.entries c.flush.ensures.flushed).header)
+returns-clause-others g c = (refl, refl, (all-flushed (block_entries g.S.Storage.state) (block-laws g.S.Storage.state) (by_blocks c.args.self.now) c.args.file.now c.flush.result c.flush.new.device c.flush.new.self.slots.entries c.flush.ensures.flushed).header)
 
 pub returns-clause-cause : goal.returns-clause-cause
-returns-clause-cause g c = (all-flushed (blocks g.S.Storage.state) (block-laws g.S.Storage.state) (rb_side g.S.Storage.state c.args.self.now) c.args.file.now c.flush.result c.flush.new.device c.flush.new.self.slots.entries c.flush.ensures.flushed).cause
+returns-clause-cause g c = (all-flushed (block_entries g.S.Storage.state) (block-laws g.S.Storage.state) (by_blocks c.args.self.now) c.args.file.now c.flush.result c.flush.new.device c.flush.new.self.slots.entries c.flush.ensures.flushed).cause
 
 pub returns-clause-faults : goal.returns-clause-faults
-returns-clause-faults g c = (all-flushed (blocks g.S.Storage.state) (block-laws g.S.Storage.state) (rb_side g.S.Storage.state c.args.self.now) c.args.file.now c.flush.result c.flush.new.device c.flush.new.self.slots.entries c.flush.ensures.flushed).faults
+returns-clause-faults g c = (all-flushed (block_entries g.S.Storage.state) (block-laws g.S.Storage.state) (by_blocks c.args.self.now) c.args.file.now c.flush.result c.flush.new.device c.flush.new.self.slots.entries c.flush.ensures.flushed).faults
 
 pub returns-clause-kept : goal.returns-clause-kept
-returns-clause-kept g c = ap (λ (l : List (ℕ × Slot Block)). record { blocks = l; tables = map written_table c.args.self.now.l2.slots.entries }) (all-flushed (blocks g.S.Storage.state) (block-laws g.S.Storage.state) (rb_side g.S.Storage.state c.args.self.now) c.args.file.now c.flush.result c.flush.new.device c.flush.new.self.slots.entries c.flush.ensures.flushed).kept
+returns-clause-kept g c = ap (λ (l : List (ℕ × Slot Block)). record { blocks = l; tables = map written_table c.args.self.now.l2.slots.entries }) (all-flushed (block_entries g.S.Storage.state) (block-laws g.S.Storage.state) (by_blocks c.args.self.now) c.args.file.now c.flush.result c.flush.new.device c.flush.new.self.slots.entries c.flush.ensures.flushed).kept
 
 pub returns-clause-written : goal.returns-clause-written
-returns-clause-written g c = (refl, (all-flushed (blocks g.S.Storage.state) (block-laws g.S.Storage.state) (rb_side g.S.Storage.state c.args.self.now) c.args.file.now c.flush.result c.flush.new.device c.flush.new.self.slots.entries c.flush.ensures.flushed).told)
+returns-clause-written g c = (refl, (all-flushed (block_entries g.S.Storage.state) (block-laws g.S.Storage.state) (by_blocks c.args.self.now) c.args.file.now c.flush.result c.flush.new.device c.flush.new.self.slots.entries c.flush.ensures.flushed).told)

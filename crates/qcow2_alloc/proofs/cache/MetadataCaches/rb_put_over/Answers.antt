@@ -1,6 +1,7 @@
 use Rattle.std.proofs.Common.{Ok, Err, ap}
 use Rattle.qcow2_alloc.proofs.Caching.EntryPuts.{put-behind, put-halted}
-use Rattle.qcow2_alloc.proofs.Caching.BlockSide.{blocks, block-laws, rb_side, tables-first, block-put}
+use Rattle.qcow2_alloc.proofs.Caching.BlockSide.{block-laws, tables-first}
+use Rattle.qcow2_alloc.specs.CachedKinds.{block_entries, by_blocks}
 use Rattle.qcow2_alloc.proofs.cache.MetadataCaches.rb_put_over.Goals as goal
 use Rattle.qcow2_alloc.proofs.Faults.{handed-on}
 
@@ -10,8 +11,8 @@ returns-in_ok-insert-in-Ok g c =
     let flushed = c.before_blocks-flushed in
     let done = c.in-Ok.ensures in
     let first = tables-first state c.args.self.now c.args.file.now (Ok tt) flushed.new.self flushed.new.file done.going done.kept done.ready done.idle done.others done.room done.cause done.faults done.written in
-    block-put state c.args.cluster _ _ _ _ c.args.block _ (put-behind (blocks state) (block-laws state) c.args.cluster c.args.block (rb_side state c.args.self.now) c.args.file.now c.requires flushed.new.file (rb_side state flushed.new.self) first
-    (Ok c.in_ok-insert-in-Ok.field-0) c.insert.new.device (rb_side state (record flushed.new.self { rb = c.insert.new.self })) (ap (λ l. record (rb_side state flushed.new.self) { own = l }) c.insert.ensures.others) c.in_ok-insert-in-Ok.ensures.inserted)
+    (put-behind (block_entries state) (block-laws state) c.args.cluster c.args.block (by_blocks c.args.self.now) c.args.file.now c.requires flushed.new.file (by_blocks flushed.new.self) first
+    (Ok c.in_ok-insert-in-Ok.field-0) c.insert.new.device (by_blocks (record flushed.new.self { rb = c.insert.new.self })) (ap (λ l. record (by_blocks flushed.new.self) { own = l }) c.insert.ensures.others) c.in_ok-insert-in-Ok.ensures.inserted)
 
 pub returns-in_err-insert-in-Ok : goal.returns-in_err-insert-in-Ok
 returns-in_err-insert-in-Ok g c =
@@ -19,8 +20,8 @@ returns-in_err-insert-in-Ok g c =
     let flushed = c.before_blocks-flushed in
     let done = c.in-Ok.ensures in
     let first = tables-first state c.args.self.now c.args.file.now (Ok tt) flushed.new.self flushed.new.file done.going done.kept done.ready done.idle done.others done.room done.cause done.faults done.written in
-    rw (handed-on _ _ c.from_residual.ensures.1) (block-put state c.args.cluster _ _ _ _ c.args.block _ (put-behind (blocks state) (block-laws state) c.args.cluster c.args.block (rb_side state c.args.self.now) c.args.file.now c.requires flushed.new.file (rb_side state flushed.new.self) first
-    (Err c.in_err-insert-in-Ok.field-0.0) c.insert.new.device (rb_side state (record flushed.new.self { rb = c.insert.new.self })) (ap (λ l. record (rb_side state flushed.new.self) { own = l }) c.insert.ensures.others) c.in_err-insert-in-Ok.ensures.inserted))
+    rw (handed-on _ _ c.from_residual.ensures.1) ((put-behind (block_entries state) (block-laws state) c.args.cluster c.args.block (by_blocks c.args.self.now) c.args.file.now c.requires flushed.new.file (by_blocks flushed.new.self) first
+    (Err c.in_err-insert-in-Ok.field-0.0) c.insert.new.device (by_blocks (record flushed.new.self { rb = c.insert.new.self })) (ap (λ l. record (by_blocks flushed.new.self) { own = l }) c.insert.ensures.others) c.in_err-insert-in-Ok.ensures.inserted))
 
 pub returns-in-Err : goal.returns-in-Err
 returns-in-Err g c =
@@ -28,4 +29,4 @@ returns-in-Err g c =
     let flushed = c.before_blocks-flushed in
     let done = c.in-Err.ensures in
     let first = tables-first state c.args.self.now c.args.file.now (Err c.in-Err.fault) flushed.new.self flushed.new.file done.going done.kept done.ready done.idle done.others done.room done.cause done.faults done.written in
-    block-put state c.args.cluster _ _ _ _ c.args.block _ (put-halted (blocks state) (block-laws state) c.args.cluster c.args.block (rb_side state c.args.self.now) c.args.file.now c.requires flushed.new.file (rb_side state flushed.new.self) c.in-Err.fault first)
+    (put-halted (block_entries state) (block-laws state) c.args.cluster c.args.block (by_blocks c.args.self.now) c.args.file.now c.requires flushed.new.file (by_blocks flushed.new.self) c.in-Err.fault first)

@@ -1,0 +1,133 @@
+-- What the two caches have entries of, L2 tables and refcount blocks: what calls of either do is stated once, over such a kind.
+use Rattle.std.specs.Prelude.{◌≡◌, ℕ, ◌*◌, true, false, List, Result}
+use Rattle.std.specs.List.{AllByRecursion}
+use Rattle.imago_storage.specs.State.{StorageState}
+use Rattle.imago_storage.specs.declared.fault.Fault.{Fault}
+use Rattle.qcow2_types.specs.Bytes.{Bytes}
+use Rattle.qcow2_types.specs.Header.{Fields, cluster_size, words_of_cluster, layout_of}
+use Rattle.qcow2_metadata.specs.Places.{IsInReach}
+use Rattle.qcow2_metadata.specs.Tables.{HasUnsound, TableValue, l2_words, table_in, words_in}
+use Rattle.qcow2_metadata.specs.Blocks.{Block, block_in}
+use Rattle.qcow2_alloc.specs.declared.async_lru_cache.AsyncLruCache.{AsyncLruCache}
+use Rattle.qcow2_alloc.specs.declared.async_lru_cache.Slot.{Slot}
+use Rattle.qcow2_alloc.specs.declared.cache.CacheDependency.{CacheDependency}
+use Rattle.qcow2_alloc.specs.declared.cache.CacheDependency.TheVariants.{L2DependsOnRb, RbDependsOnL2}
+use Rattle.qcow2_alloc.specs.declared.cache.L2CacheBackend.{L2CacheBackend}
+use Rattle.qcow2_alloc.specs.declared.cache.MetadataCaches.{MetadataCaches}
+use Rattle.qcow2_alloc.specs.declared.cache.RefBlockCacheBackend.{RefBlockCacheBackend}
+use Rattle.qcow2_alloc.specs.declared.file.ImageFile.{ImageFile}
+use Rattle.qcow2_alloc.specs.Backends.{WrittenKind, Flushed, TableLoaded, BlockLoaded, written_tables, written_blocks}
+use Rattle.qcow2_alloc.specs.Cache.{FlushedEach, fault_of}
+use Rattle.qcow2_alloc.specs.Going.{CachedStep}
+use Rattle.qcow2_alloc.specs.Memory.{Cached}
+use Rattle.qcow2_alloc.specs.Safety.{IsCachedTable, IsCachedBlock}
+
+-- A kind of entries, beside those of the other cache.
+pub record CachedKind (S V W : Type 0) : Type 1 where
+  -- what contracts see of a storage
+  pub state : S → StorageState
+  -- how an entry is written, and how one of the other cache is
+  pub writes : WrittenKind V
+  pub other_writes : WrittenKind W
+  -- the order in which the other cache is written first
+  pub first : CacheDependency
+  -- what the file has in a cluster, whether words can name it and that is sound, and how it is loaded
+  pub read : Bytes → Fields → (cluster : ℕ) → V
+  pub Fine : Bytes → Fields → (cluster : ℕ) → Type 0
+  pub Loads : Fields → (cluster : ℕ) → StorageState → Result V Fault → StorageState → Type 0
+  -- whether a value may be cached of a cluster of the file
+  pub Fits : Bytes → Fields → (cluster : ℕ) → V → Type 0
+  -- all that is cached, by entries of the other cache and of this one; and of all that is, either
+  pub cached : List (ℕ × Slot W) → List (ℕ × Slot V) → Cached
+  pub own : Cached → List (ℕ × Slot V)
+  pub others : Cached → List (ℕ × Slot W)
+
+-- One of the two caches, the other one, and the announced order.
+pub record Beside (S V W A B : Type 0) : Type 0 where
+  pub own : AsyncLruCache ℕ V A (ImageFile S)
+  pub other : AsyncLruCache ℕ W B (ImageFile S)
+  pub order : CacheDependency
+
+module _ {V : Type 0} (writes : WrittenKind V) where
+  -- an entry as it is once written
+  abbrev pub as_written : ℕ × Slot V → ℕ × Slot V
+  as_written e = (e.0, record e.1 { value = writes.marked e.1.value e.0 false })
+
+  -- none waits to be written
+  abbrev pub AreClean : List (ℕ × Slot V) → Type 0
+  AreClean es = AllByRecursion (λ e. writes.modified e.1.value ≡ false) es
+
+  -- words can name the cluster of each that does
+  abbrev pub AreInReach : List (ℕ × Slot V) → Type 0
+  AreInReach es = AllByRecursion (λ e. writes.modified e.1.value ≡ true → IsInReach (writes.cluster_bits e.1.value) e.0) es
+
+module _ {S V W : Type 0} (kind : CachedKind S V W) where
+  -- all that is cached
+  abbrev pub cached_of : {A B : Type 0} → Beside S V W A B → Cached
+  cached_of c = kind.cached c.other.slots.entries c.own.slots.entries
+
+  -- an entry is loaded from an image file, and flushed to it
+  abbrev pub loads_of : ImageFile S → ℕ → Result V Fault → ImageFile S → Type 0
+  loads_of old key result new = (new.header ≡ old.header)
+      × kind.Loads old.header.fields key (kind.state old.image) result (kind.state new.image)
+
+  abbrev pub flushes_of : ImageFile S → ℕ → V → Result Unit Fault → ImageFile S → V → Type 0
+  flushes_of old key value result new value' = (new.header ≡ old.header)
+      × Flushed kind.writes (kind.state old.image) key value result (kind.state new.image) value'
+
+  -- the other cache waits for nothing to be written, and words can name each of its entries that does
+  abbrev pub OtherClean : Cached → Type 0
+  OtherClean cached = AreClean kind.other_writes (kind.others cached)
+
+  abbrev pub OtherReach : Cached → Type 0
+  OtherReach cached = AreInReach kind.other_writes (kind.others cached)
+
+  -- The entries of the other cache are flushed, each by one request at most, and none of this one.
+  abbrev pub WritesOther : CachedStep
+  WritesOther old cached result new cached' = (kind.own cached' ≡ kind.own cached)
+      × FlushedEach (Flushed kind.other_writes) old (kind.others cached) (fault_of result) new (kind.others cached')
+
+-- Words can name the table in this cluster, and the file has it sound.
+pub record IsTableFine (f : Bytes) (h : Fields) (cluster : ℕ) : Type 0 where
+  pub reach : IsInReach h.cluster_bits cluster
+  pub sound : HasUnsound l2_words (layout_of h) (words_in f (cluster * cluster_size h) (words_of_cluster h)) → ⊥
+
+module _ {S : Type 0} where
+  -- L2 tables, before which blocks are written as clusters are allocated,
+  abbrev pub table_entries : (S → StorageState) → CachedKind S TableValue Block
+  table_entries state = record {
+    state = state;
+    writes = written_tables;
+    other_writes = written_blocks;
+    first = L2DependsOnRb;
+    read = λ f h cluster. table_in f h cluster (words_of_cluster h);
+    Fine = IsTableFine;
+    Loads = TableLoaded;
+    Fits = IsCachedTable;
+    cached = λ blocks tables. record { tables = tables; blocks = blocks };
+    own = λ cached. cached.tables;
+    others = λ cached. cached.blocks;
+  }
+
+  -- and blocks, before which tables are as clusters are freed
+  abbrev pub block_entries : (S → StorageState) → CachedKind S Block TableValue
+  block_entries state = record {
+    state = state;
+    writes = written_blocks;
+    other_writes = written_tables;
+    first = RbDependsOnL2;
+    read = block_in;
+    Fine = λ f h cluster. IsInReach h.cluster_bits cluster;
+    Loads = BlockLoaded;
+    Fits = IsCachedBlock;
+    cached = λ tables blocks. record { tables = tables; blocks = blocks };
+    own = λ cached. cached.blocks;
+    others = λ cached. cached.tables;
+  }
+
+  -- the two caches, as that of tables stands beside the other, and as that of blocks does
+  abbrev pub by_tables : MetadataCaches S → Beside S TableValue Block (L2CacheBackend S) (RefBlockCacheBackend S)
+  by_tables caches = record { own = caches.l2; other = caches.rb; order = caches.order }
+
+  abbrev pub by_blocks : MetadataCaches S → Beside S Block TableValue (RefBlockCacheBackend S) (L2CacheBackend S)
+  by_blocks caches = record { own = caches.rb; other = caches.l2; order = caches.order }
