@@ -1,7 +1,7 @@
 -- Entries of the caches: found, loaded, put, used, dropped.
 pub mod Entries
 pub mod SingleEntries
-pub mod Empty
+pub mod EmptyCaches
 pub mod EntryTraffic
 pub mod Pins
 pub mod Places
@@ -10,7 +10,7 @@ pub mod Sides
 pub mod EntryLoads
 pub mod SearchOutcomes
 pub mod Admission
-pub mod Lengths
+pub mod FileLengths
 pub mod FitsAfterFlushes
 pub mod PutOutcomes
 pub mod PutsInOrder
@@ -22,6 +22,6 @@ pub mod BlockSide
 pub mod EntryDrops
 pub mod EntryUses
 pub mod EntryLoans
-pub mod Loose
+pub mod UnpinnedCaches
 pub mod BlockDrops
 pub mod BlockRunDrops

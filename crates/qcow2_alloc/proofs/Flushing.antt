@@ -4,7 +4,7 @@ pub mod EntryWriteBacks
 pub mod TableWriteBacks
 pub mod BlockWriteBacks
 pub mod WriteSequences
-pub mod Faultless
+pub mod FaultlessCalls
 pub mod EntryFlushes
 pub mod TableFlushes
 pub mod BlockFlushes

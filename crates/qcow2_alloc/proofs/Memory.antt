@@ -8,7 +8,7 @@ pub mod EntryChanges
 pub mod CounterChanges
 pub mod WordChanges
 pub mod NameDrops
-pub mod FitsByWords
-pub mod WordsKept
+pub mod FittingWords
+pub mod KeptWords
 pub mod FreeClusterWrites
 pub mod StructureWrites

@@ -1,10 +1,10 @@
 -- What leaves the disk as it is.
-pub mod QuietShows
+pub mod ShownDisks
 pub mod QuietFlushes
-pub mod QuietThen
+pub mod QuietSequences
 pub mod QuietCounters
 pub mod QuietEntries
 pub mod QuietAnnouncements
-pub mod AtOnce
-pub mod QuietGiven
+pub mod SingleRequests
+pub mod QuietPremises
 pub mod QuietNames

@@ -24,7 +24,7 @@ use Rattle.qcow2_alloc.specs.State.{marked_metadata, IsKept, WhereKept}
 use Rattle.qcow2_alloc.specs.Freeing.{IsMarked}
 use Rattle.qcow2_alloc.proofs.Causes.{cause-weaker, cause-told}
 use Rattle.qcow2_alloc.proofs.Handing.ClustersHandedOut.{unnamed-used}
-use Rattle.qcow2_alloc.proofs.Quiet.QuietThen.{quietly-otherwise, used-then}
+use Rattle.qcow2_alloc.proofs.Quiet.QuietSequences.{quietly-otherwise, used-then}
 use Rattle.qcow2_clusters.specs.Rest.{AreEmpty, Clusters, HasEntries, IsReady, changed, resting, storage}
 use Rattle.qcow2_clusters.specs.Room.{IsFull, LeavesRoom, mark_in}
 use Rattle.qcow2_clusters.specs.Settling.{AreUnpinned}

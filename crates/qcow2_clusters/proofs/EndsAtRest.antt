@@ -15,8 +15,8 @@ use Rattle.qcow2_alloc.specs.Causes.{HasCause}
 use Rattle.qcow2_alloc.specs.Going.{AreBlocksInReach, AreTablesInReach, WasNotCutOff, writing_causes}
 use Rattle.qcow2_alloc.specs.Quiet.{Metadata, Quietly}
 use Rattle.qcow2_alloc.specs.State.{AllocatorState, ImageState, IsKept, lent_to, seen}
-use Rattle.qcow2_alloc.proofs.Flushing.Faultless.{faultless-then}
-use Rattle.qcow2_alloc.proofs.Quiet.QuietThen.{quietly-otherwise, quietly-then}
+use Rattle.qcow2_alloc.proofs.Flushing.FaultlessCalls.{faultless-then}
+use Rattle.qcow2_alloc.proofs.Quiet.QuietSequences.{quietly-otherwise, quietly-then}
 use Rattle.qcow2_clusters.specs.Progress.{Kind, Progresses, both, handing}
 use Rattle.qcow2_clusters.specs.Rest.{AreEmpty, Clusters, IsReady, changed, resting, storage}
 use Rattle.qcow2_clusters.specs.Settling.{Settles, at_rest}

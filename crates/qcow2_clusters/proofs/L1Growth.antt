@@ -34,9 +34,9 @@ use Rattle.qcow2_alloc.specs.Opening.{IsL1Of}
 use Rattle.qcow2_alloc.specs.Quiet.{Metadata, IsQuiet, IsSound, counted, named_at_all, referenced, waiting}
 use Rattle.qcow2_alloc.specs.Freeing.{IsMarked}
 use Rattle.qcow2_alloc.proofs.Causes.{storage-cause}
-use Rattle.qcow2_alloc.proofs.Flushing.Faultless.{faultless-then, put-faultless}
+use Rattle.qcow2_alloc.proofs.Flushing.FaultlessCalls.{faultless-then, put-faultless}
 use Rattle.qcow2_alloc.proofs.Growth.TableSwitches.{sound-sizes}
-use Rattle.qcow2_alloc.proofs.Quiet.AtOnce.{at-once-file, put-done}
+use Rattle.qcow2_alloc.proofs.Quiet.SingleRequests.{at-once-file, put-done}
 use Rattle.qcow2_steps.specs.Advancing.{KeepsHeader}
 use Rattle.qcow2_steps.specs.LongerL1.{old_l1}
 use Rattle.qcow2_steps.proofs.Headers.{header-counts, header-l1, header-same, header-then}

@@ -33,8 +33,8 @@ use Rattle.qcow2_alloc.proofs.Flushing.FlushRefusals.{never-refused, writing-imp
 use Rattle.qcow2_alloc.proofs.Causes.{cause-weaker}
 use Rattle.qcow2_alloc.proofs.Memory.SafeLaws.{clean-memory}
 use Rattle.qcow2_alloc.proofs.Quiet.QuietFlushes.{going-quietly}
-use Rattle.qcow2_alloc.proofs.Quiet.QuietShows.{in-cluster}
-use Rattle.qcow2_alloc.proofs.Quiet.QuietThen.{quietly-then}
+use Rattle.qcow2_alloc.proofs.Quiet.ShownDisks.{in-cluster}
+use Rattle.qcow2_alloc.proofs.Quiet.QuietSequences.{quietly-then}
 use Rattle.qcow2_alloc.proofs.Searching.FreeClusters.{clean-counts}
 use Rattle.qcow2_steps.proofs.QuietValues.{data-used, quiet-entries}
 use Rattle.qcow2_clusters.specs.Naming.{AreNameable, LeavesTable, Listed, NamesIn, NamesRun, NamesWords, given_for_run, listing, naming_run}

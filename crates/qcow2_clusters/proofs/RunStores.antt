@@ -20,13 +20,13 @@ use Rattle.qcow2_alloc.specs.MakingRoom.{run_of}
 use Rattle.qcow2_alloc.specs.Quiet.{IsSound, IsUsed, Metadata, Quietly}
 use Rattle.qcow2_alloc.specs.Freeing.{IsMarked}
 use Rattle.qcow2_alloc.proofs.Causes.{storage-cause}
-use Rattle.qcow2_alloc.proofs.Flushing.Faultless.{faultless-then, never-mild, put-faultless}
+use Rattle.qcow2_alloc.proofs.Flushing.FaultlessCalls.{faultless-then, never-mild, put-faultless}
 use Rattle.qcow2_alloc.proofs.Blocks.RunCounts.{covers-behind}
 use Rattle.qcow2_alloc.proofs.Growth.LongerReftables.{covers-before, covers-inside}
 use Rattle.qcow2_alloc.proofs.Memory.FreeClusterWrites.{run-quietly}
-use Rattle.qcow2_alloc.proofs.Quiet.AtOnce.{put-whole}
-use Rattle.qcow2_alloc.proofs.Quiet.QuietGiven.{quietly-given}
-use Rattle.qcow2_alloc.proofs.Quiet.QuietThen.{quietly-otherwise, quietly-then}
+use Rattle.qcow2_alloc.proofs.Quiet.SingleRequests.{put-whole}
+use Rattle.qcow2_alloc.proofs.Quiet.QuietPremises.{quietly-given}
+use Rattle.qcow2_alloc.proofs.Quiet.QuietSequences.{quietly-otherwise, quietly-then}
 use Rattle.qcow2_steps.specs.Data.{WritesBeside}
 use Rattle.qcow2_steps.proofs.DataRuns.{beside-reserved, beside-words}
 use Rattle.qcow2_clusters.specs.Rest.{AreEmpty, Clusters, HasEntries, IsReady, changed, lent, resting, storage}

@@ -27,7 +27,7 @@ use Rattle.qcow2_alloc.specs.declared.cache.CacheDependency.{CacheDependency}
 use Rattle.qcow2_alloc.specs.Memory.{Cached, memory, written, written_block, written_table}
 use Rattle.qcow2_alloc.specs.Quiet.{IsIn, IsQuiet, IsSound, Metadata, Quietly, counted}
 use Rattle.qcow2_alloc.specs.Safety.{AreBlocksClean, AreTablesClean, IsCachedTable, IsLeft, IsSettled, Safe}
-use Rattle.qcow2_alloc.proofs.Caching.Empty.{empty-safe}
+use Rattle.qcow2_alloc.proofs.Caching.EmptyCaches.{empty-safe}
 use Rattle.qcow2_alloc.proofs.Caching.Admission.{blocks-none, is-order, tables-none}
 use Rattle.qcow2_alloc.proofs.Flushing.WriteSequences.{kept-same}
 use Rattle.qcow2_alloc.proofs.Memory.SafeLaws.{clean-memory, safe-reach}

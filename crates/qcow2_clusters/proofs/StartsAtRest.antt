@@ -27,7 +27,7 @@ use Rattle.qcow2_alloc.specs.Memory.{Cached, memory}
 use Rattle.qcow2_alloc.specs.Opening.{IsL1Of}
 use Rattle.qcow2_alloc.specs.Quiet.{IsQuiet, IsSound, Metadata, Quietly, counted}
 use Rattle.qcow2_alloc.specs.Safety.{IsOrdered, Safe}
-use Rattle.qcow2_alloc.proofs.Caching.Loose.{loose-none}
+use Rattle.qcow2_alloc.proofs.Caching.UnpinnedCaches.{loose-none}
 use Rattle.qcow2_alloc.proofs.Quiet.QuietFlushes.{memory-quietly, order-quiet}
 use Rattle.qcow2_clusters.specs.Rest.{AreEmpty, Clusters, HasEntries, KeepsL1, changed, nothing_cached, resting, storage}
 use Rattle.qcow2_clusters.specs.Settling.{AreUnpinned, at_rest}

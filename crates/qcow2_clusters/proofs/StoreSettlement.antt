@@ -23,7 +23,7 @@ use Rattle.qcow2_alloc.proofs.Flushing.FlushRefusals.{never-refused, writing-imp
 use Rattle.qcow2_alloc.proofs.Causes.{cause-weaker}
 use Rattle.qcow2_alloc.proofs.Freeing.ClusterOccurrences.{covers-one}
 use Rattle.qcow2_alloc.proofs.Memory.SafeLaws.{safe-reach}
-use Rattle.qcow2_alloc.proofs.Quiet.QuietGiven.{quietly-given}
+use Rattle.qcow2_alloc.proofs.Quiet.QuietPremises.{quietly-given}
 use Rattle.qcow2_steps.proofs.StepSums.{reserved-still}
 use Rattle.qcow2_steps.proofs.Steps.{quiet-advances}
 use Rattle.qcow2_clusters.specs.Rest.{Clusters, IsReady, changed, lent, resting, storage}

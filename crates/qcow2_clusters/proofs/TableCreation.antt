@@ -28,8 +28,8 @@ use Rattle.qcow2_alloc.specs.Opening.{IsL1Of}
 use Rattle.qcow2_alloc.specs.Quiet.{Metadata, IsIn, IsSound, counted, named_at_all, one_at}
 use Rattle.qcow2_alloc.specs.Freeing.{IsMarked}
 use Rattle.qcow2_alloc.proofs.Causes.{storage-cause}
-use Rattle.qcow2_alloc.proofs.Flushing.Faultless.{faultless-then, put-faultless}
-use Rattle.qcow2_alloc.proofs.Quiet.AtOnce.{at-once-file, put-done}
+use Rattle.qcow2_alloc.proofs.Flushing.FaultlessCalls.{faultless-then, put-faultless}
+use Rattle.qcow2_alloc.proofs.Quiet.SingleRequests.{at-once-file, put-done}
 use Rattle.qcow2_steps.specs.Advancing.{MayBeLeft}
 use Rattle.qcow2_steps.specs.NewTables.{old_table, slot_or_none}
 use Rattle.qcow2_clusters.specs.MakingTables.{EntersTable, HasWordsOf, IsContent, NamesNewTable, PlacesTable, replacing}

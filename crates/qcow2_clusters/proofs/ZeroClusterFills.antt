@@ -18,9 +18,9 @@ use Rattle.qcow2_alloc.specs.Going.{WasNotCutOff}
 use Rattle.qcow2_alloc.specs.Opening.{IsL1Of}
 use Rattle.qcow2_alloc.specs.Quiet.{IsSound, Metadata}
 use Rattle.qcow2_alloc.specs.Freeing.{IsMarked}
-use Rattle.qcow2_alloc.proofs.Flushing.Faultless.{put-faultless}
+use Rattle.qcow2_alloc.proofs.Flushing.FaultlessCalls.{put-faultless}
 use Rattle.qcow2_alloc.proofs.Memory.FreeClusterWrites.{put-outside}
-use Rattle.qcow2_alloc.proofs.Quiet.AtOnce.{put-done}
+use Rattle.qcow2_alloc.proofs.Quiet.SingleRequests.{put-done}
 use Rattle.qcow2_steps.specs.Advancing.{Advances, MayBeLeft}
 use Rattle.qcow2_steps.specs.Data.{IsHiddenIn, IsKeptFor, WritesBeside}
 use Rattle.qcow2_steps.proofs.InvisibleClusters.{hidden-advances, hidden-stops, kept-hidden, kept-stays}

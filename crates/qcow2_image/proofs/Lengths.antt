@@ -7,7 +7,7 @@ use Rattle.imago_storage.specs.declared.fault.Fault.{Fault}
 use Rattle.imago_storage.specs.declared.storage.Storage.{Ghosts}
 use Rattle.imago_access.specs.declared.mapping.PreparedDataMapping.{PreparedDataMapping}
 use Rattle.qcow2_alloc.specs.Going.{IsNoShorter}
-use Rattle.qcow2_alloc.proofs.Caching.Lengths.{kept-long, put-long, same-long}
+use Rattle.qcow2_alloc.proofs.Caching.FileLengths.{kept-long, put-long, same-long}
 use Rattle.qcow2_image.specs.Committing.{CommitsUnspent}
 use Rattle.qcow2_image.specs.Steps.{KeepsImage}
 use Rattle.qcow2_image.specs.declared.qcow2.PreparedMappingState.{PreparedMappingState}

@@ -20,8 +20,8 @@ use Rattle.qcow2_alloc.specs.Quiet.{Metadata, IsSound, IsUsed, in_memory, named_
 use Rattle.qcow2_alloc.specs.Safety.{IsCachedBlock, Safe}
 use Rattle.qcow2_alloc.proofs.Memory.FreeClusterWrites.{over-agrees}
 use Rattle.qcow2_alloc.proofs.Memory.Patches.{all-weaker, place-there}
-use Rattle.qcow2_alloc.proofs.Memory.FitsByWords.{counters-same, table-fits}
-use Rattle.qcow2_alloc.proofs.Memory.WordsKept.{block-fits, copied-stays, named-more, ordered-still}
+use Rattle.qcow2_alloc.proofs.Memory.FittingWords.{counters-same, table-fits}
+use Rattle.qcow2_alloc.proofs.Memory.KeptWords.{block-fits, copied-stays, named-more, ordered-still}
 use Rattle.qcow2_alloc.proofs.Quiet.QuietFlushes.{still-table}
 use Rattle.qcow2_steps.specs.Data.{KeepsWords, WritesBeside}
 use Rattle.qcow2_steps.specs.Words.{IsReserved}

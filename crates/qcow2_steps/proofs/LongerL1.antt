@@ -34,10 +34,10 @@ use Rattle.qcow2_alloc.proofs.Memory.FreeClusterWrites.{over-agrees}
 use Rattle.qcow2_alloc.proofs.Memory.MemoryImage.{range-stays}
 use Rattle.qcow2_alloc.proofs.Memory.Patches.{all-weaker, patches-are, place-there}
 use Rattle.qcow2_alloc.proofs.Memory.StructureWrites.{memory-start, unmet-stays}
-use Rattle.qcow2_alloc.proofs.Memory.FitsByWords.{counters-same}
-use Rattle.qcow2_alloc.proofs.Memory.WordsKept.{ordered-still}
+use Rattle.qcow2_alloc.proofs.Memory.FittingWords.{counters-same}
+use Rattle.qcow2_alloc.proofs.Memory.KeptWords.{ordered-still}
 use Rattle.qcow2_alloc.proofs.Quiet.QuietEntries.{metadata-among}
-use Rattle.qcow2_alloc.proofs.Quiet.QuietShows.{in-cluster, memory-same, named-apart}
+use Rattle.qcow2_alloc.proofs.Quiet.ShownDisks.{in-cluster, memory-same, named-apart}
 use Rattle.qcow2_steps.specs.Advancing.{Advances}
 use Rattle.qcow2_steps.specs.LongerL1.{IsReadyL1Table, NamesL1Table, new_l1, old_l1, with_longer_l1}
 use Rattle.qcow2_steps.specs.Values.{file_value, memory_value, own_value_by}

@@ -30,12 +30,12 @@ use Rattle.qcow2_alloc.specs.Safety.{IsCachedBlock, IsCachedTable, Safe}
 use Rattle.qcow2_alloc.proofs.Memory.MemoryWords.{slot-same}
 use Rattle.qcow2_alloc.proofs.Memory.Patches.{all-both, all-weaker, place-there, places-differ}
 use Rattle.qcow2_alloc.proofs.Memory.StructureWrites.{memory-beside, unmet-stays}
-use Rattle.qcow2_alloc.proofs.Memory.FitsByWords.{counters-same}
-use Rattle.qcow2_alloc.proofs.Memory.WordsKept.{block-fits, ordered-still}
+use Rattle.qcow2_alloc.proofs.Memory.FittingWords.{counters-same}
+use Rattle.qcow2_alloc.proofs.Memory.KeptWords.{block-fits, ordered-still}
 use Rattle.qcow2_alloc.proofs.Freeing.Lists.{map-same}
 use Rattle.qcow2_alloc.proofs.Quiet.QuietEntries.{metadata-among}
 use Rattle.qcow2_alloc.proofs.Quiet.QuietFlushes.{still-table}
-use Rattle.qcow2_alloc.proofs.Quiet.QuietShows.{in-cluster, memory-same, named-apart}
+use Rattle.qcow2_alloc.proofs.Quiet.ShownDisks.{in-cluster, memory-same, named-apart}
 use Rattle.qcow2_steps.specs.Advancing.{Advances}
 use Rattle.qcow2_steps.specs.NewTables.{IsOfTable, IsReadyL2Table, LosesMark, NamesTable, copied_as, old_table, slot_or_none, with_l1_word}
 use Rattle.qcow2_steps.specs.Values.{file_value, memory_value, own_value_by}

@@ -18,8 +18,8 @@ use Rattle.qcow2_types.proofs.Counting.Parts.{touches-inside}
 use Rattle.qcow2_types.proofs.Showing.Shows.{guest-live}
 use Rattle.qcow2_types.proofs.Showing.Values.{entry-slot}
 use Rattle.qcow2_alloc.specs.Quiet.{Metadata, IsQuiet, IsSound, IsUsed, ShowsEither, in_memory, referenced}
-use Rattle.qcow2_alloc.proofs.Memory.WordsKept.{word-contents}
-use Rattle.qcow2_alloc.proofs.Quiet.QuietShows.{named-apart}
+use Rattle.qcow2_alloc.proofs.Memory.KeptWords.{word-contents}
+use Rattle.qcow2_alloc.proofs.Quiet.ShownDisks.{named-apart}
 use Rattle.qcow2_steps.specs.Advancing.{MayBeLeft}
 use Rattle.qcow2_steps.specs.Values.{file_value, memory_value, own_value, own_value_by}
 use Rattle.qcow2_steps.proofs.Headers.{header-counts}

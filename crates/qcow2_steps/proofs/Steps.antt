@@ -17,8 +17,8 @@ use Rattle.qcow2_alloc.specs.Quiet.{Metadata, IsQuiet, IsSound, counted, covers_
 use Rattle.qcow2_alloc.proofs.Handing.ClustersHandedOut.{quiet-names-no-more}
 use Rattle.qcow2_alloc.proofs.Freeing.ClusterOccurrences.{listed_push}
 use Rattle.qcow2_alloc.proofs.Quiet.QuietEntries.{push-quiet}
-use Rattle.qcow2_alloc.proofs.Quiet.QuietShows.{in-cluster}
-use Rattle.qcow2_alloc.proofs.Quiet.QuietThen.{used-then}
+use Rattle.qcow2_alloc.proofs.Quiet.ShownDisks.{in-cluster}
+use Rattle.qcow2_alloc.proofs.Quiet.QuietSequences.{used-then}
 use Rattle.qcow2_steps.specs.Advancing.{Advances}
 use Rattle.qcow2_steps.specs.Data.{AreNamedFor, GivesData, WritesBeside}
 use Rattle.qcow2_steps.specs.Values.{memory_value, own_value_by}

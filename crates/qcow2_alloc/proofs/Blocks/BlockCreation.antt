@@ -24,13 +24,13 @@ use Rattle.qcow2_alloc.specs.Safety.{AreBlocksClean}
 use Rattle.std.proofs.lemmas.Bool.{cases_eq}
 use Rattle.qcow2_types.proofs.Counting.Either.{refs-cached}
 use Rattle.qcow2_alloc.proofs.Quiet.QuietCounters.{here-one, away-none}
-use Rattle.qcow2_alloc.proofs.Quiet.QuietThen.{quietly-otherwise}
+use Rattle.qcow2_alloc.proofs.Quiet.QuietSequences.{quietly-otherwise}
 use Rattle.qcow2_alloc.proofs.Searching.FreeClusters.{uncounted-free, clean-counts}
 use Rattle.qcow2_alloc.proofs.Memory.FreeClusterWrites.{block-quietly, block-counts}
 use Rattle.qcow2_alloc.proofs.Memory.MemoryWords.{places-in-memory}
 use Rattle.qcow2_alloc.proofs.Blocks.BlockNames.{count-none, counted-block-quietly, own-block-quietly, names-block}
 use Rattle.qcow2_alloc.proofs.Blocks.NewBlocks.{zeroes-count, itself-counts, none-cached}
-use Rattle.qcow2_alloc.proofs.Quiet.QuietGiven.{quietly-then-given}
+use Rattle.qcow2_alloc.proofs.Quiet.QuietPremises.{quietly-then-given}
 
 -- A block that is named raises the counts of its own clusters alone, and that from 0 to 1.
 only-named : (m m1 m2 : Metadata) (i d : ℕ) → ((c : ℕ) → counted m1 c ≡ counted m c) → BlockNamed m1 m2 i d → OnlyRaised m m2

@@ -40,15 +40,15 @@ use Rattle.qcow2_alloc.specs.Quiet.{Metadata, in_memory, counted, IsUsed, IsSoun
 use Rattle.qcow2_alloc.specs.State.{ImageState, lent, metadata, IsGuarded}
 use Rattle.qcow2_alloc.proofs.Causes.{Implies, bare-weaker, fails-weaker, storage-fails}
 use Rattle.qcow2_alloc.proofs.Handing.CountSequences.{raised-then}
-use Rattle.qcow2_alloc.proofs.Quiet.AtOnce.{put-done}
-use Rattle.qcow2_alloc.proofs.Flushing.Faultless.{never-mild, faultless-then, put-faultless}
+use Rattle.qcow2_alloc.proofs.Quiet.SingleRequests.{put-done}
+use Rattle.qcow2_alloc.proofs.Flushing.FaultlessCalls.{never-mild, faultless-then, put-faultless}
 use Rattle.qcow2_alloc.proofs.Caching.BlockDrops.{never-unnamed}
 use Rattle.qcow2_alloc.proofs.Freeing.EntryFrees.{failed, unbarred-still}
-use Rattle.qcow2_alloc.proofs.Caching.Loose.{StaysLoose, loose-named, name-kept}
+use Rattle.qcow2_alloc.proofs.Caching.UnpinnedCaches.{StaysLoose, loose-named, name-kept}
 use Rattle.qcow2_alloc.proofs.Memory.Patches.{place-there}
 use Rattle.qcow2_alloc.proofs.Quiet.QuietFlushes.{memory-quietly, quiet-none, quietly-weaker}
-use Rattle.qcow2_alloc.proofs.Quiet.QuietGiven.{quietly-given, quietly-then-given}
-use Rattle.qcow2_alloc.proofs.Quiet.QuietThen.{quietly-then, quietly-otherwise, quiet-otherwise}
+use Rattle.qcow2_alloc.proofs.Quiet.QuietPremises.{quietly-given, quietly-then-given}
+use Rattle.qcow2_alloc.proofs.Quiet.QuietSequences.{quietly-then, quietly-otherwise, quiet-otherwise}
 use Rattle.qcow2_alloc.proofs.Caching.Pins.{pinned-there}
 
 module _ (m : Metadata) (sound : IsSound m) where

@@ -33,16 +33,16 @@ use Rattle.qcow2_metadata.proofs.TableSteps.{block_named, block_word_named}
 use Rattle.qcow2_alloc.specs.Safety.{Safe, IsCachedBlock}
 use Rattle.qcow2_alloc.specs.MakingRoom.{IsReadyBlock, BlockNamed, with_block}
 use Rattle.qcow2_alloc.specs.Quiet.{IsTableOf, Metadata, in_memory, counted, referenced, named_at_all, waiting, one_at, IsSound, IsQuiet, ShowsEither, IsIn, Quietly}
-use Rattle.qcow2_alloc.proofs.Quiet.AtOnce.{at-once-quietly, at-once-file}
+use Rattle.qcow2_alloc.proofs.Quiet.SingleRequests.{at-once-quietly, at-once-file}
 use Rattle.qcow2_alloc.proofs.Memory.MemoryImage.{safe-memory}
 use Rattle.qcow2_alloc.proofs.Memory.MemoryWords.{places-in-memory}
 use Rattle.qcow2_alloc.proofs.Memory.Patches.{all-weaker, all-both, place-there, places-differ, shaped-in}
 use Rattle.qcow2_alloc.proofs.Quiet.QuietCounters.{here-one, away-none}
 use Rattle.qcow2_alloc.proofs.Quiet.QuietEntries.{metadata-among}
-use Rattle.qcow2_alloc.proofs.Quiet.QuietShows.{from-start, mapping-meets, in-cluster, memory-same}
+use Rattle.qcow2_alloc.proofs.Quiet.ShownDisks.{from-start, mapping-meets, in-cluster, memory-same}
 use Rattle.qcow2_alloc.proofs.Memory.StructureWrites.{memory-beside, unmet-stays}
-use Rattle.qcow2_alloc.proofs.Memory.FitsByWords.{table-fits, counters-same}
-use Rattle.qcow2_alloc.proofs.Memory.WordsKept.{word-contents, structure-named, named-more, copied-stays, ordered-still, block-fits}
+use Rattle.qcow2_alloc.proofs.Memory.FittingWords.{table-fits, counters-same}
+use Rattle.qcow2_alloc.proofs.Memory.KeptWords.{word-contents, structure-named, named-more, copied-stays, ordered-still, block-fits}
 
 -- Where there is no block nothing is counted.
 pub count-none : (f : Bytes) (h : Fields) (c : ℕ) → block_at f h (c / counters_of_block h) ≡ 0 → count f h c ≡ 0

@@ -42,15 +42,15 @@ use Rattle.qcow2_alloc.proofs.Causes.{Implies, cause-weaker}
 use Rattle.qcow2_alloc.proofs.Memory.CounterChanges.{cached-count, counter-raised}
 use Rattle.qcow2_alloc.proofs.Blocks.ClusterBlocks.{block-named}
 use Rattle.qcow2_alloc.proofs.Freeing.ClusterFrees.{named-there, search-quietly}
-use Rattle.qcow2_alloc.proofs.Caching.Loose.{loose-never, found-stays, used-stays}
+use Rattle.qcow2_alloc.proofs.Caching.UnpinnedCaches.{loose-never, found-stays, used-stays}
 use Rattle.qcow2_alloc.proofs.Freeing.EntryFrees.{failed}
 use Rattle.qcow2_alloc.proofs.Freeing.ClusterOccurrences.{covers-none, covers-one}
 use Rattle.qcow2_alloc.proofs.Memory.Patches.{shaped-in, place-there}
 use Rattle.qcow2_alloc.proofs.Caching.Places.{slot-of}
 use Rattle.qcow2_alloc.proofs.Quiet.QuietCounters.{hand-out-quiet, here-one, away-none}
 use Rattle.qcow2_alloc.proofs.Quiet.QuietFlushes.{used-quiet, memory-quietly, quiet-none}
-use Rattle.qcow2_alloc.proofs.Quiet.QuietGiven.{quietly-then-given}
-use Rattle.qcow2_alloc.proofs.Quiet.QuietThen.{quiet-otherwise, quietly-otherwise}
+use Rattle.qcow2_alloc.proofs.Quiet.QuietPremises.{quietly-then-given}
+use Rattle.qcow2_alloc.proofs.Quiet.QuietSequences.{quiet-otherwise, quietly-otherwise}
 use Rattle.qcow2_alloc.proofs.Memory.SafeLaws.{safe-reach}
 use Rattle.qcow2_alloc.proofs.Caching.SearchOutcomes.{all-at}
 use Rattle.qcow2_alloc.proofs.Caching.EntryUses.{block-used}

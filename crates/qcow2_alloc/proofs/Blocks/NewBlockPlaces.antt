@@ -33,7 +33,7 @@ use Rattle.qcow2_alloc.specs.State.{ImageState, lent, metadata}
 use Rattle.qcow2_alloc.proofs.Searching.SearchesBeforeCounts.{sound-safe, counter-there}
 use Rattle.qcow2_alloc.proofs.Blocks.BlockNames.{meets-one}
 use Rattle.qcow2_alloc.proofs.Memory.Patches.{place-there}
-use Rattle.qcow2_alloc.proofs.Quiet.QuietThen.{structure-in-memory, contents-then}
+use Rattle.qcow2_alloc.proofs.Quiet.QuietSequences.{structure-in-memory, contents-then}
 
 -- A word that was written names the block's cluster.
 pub written-at : (table : TableValue) (i d bits : ℕ) (block : Block) (old new : StorageState) (table' : TableValue) → i < length table.words → 9 ≤ bits → IsInReach bits d → block.cluster_bits ≡ bits → block.cluster ≡ Some d → NamesWritten table i block old (Ok tt) table' new

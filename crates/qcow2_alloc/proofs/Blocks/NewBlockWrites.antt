@@ -26,8 +26,8 @@ use Rattle.qcow2_alloc.specs.Growing.{lacks, lacking}
 use Rattle.qcow2_alloc.specs.MakingRoom.{rank, run_of, CountsTheSame}
 use Rattle.qcow2_alloc.specs.NewBlocks.{CountsItsOwn, HasCountedOwn, with_file, MayWrite, WritesClusters, WritesBlockTo, WritesLacking}
 use Rattle.qcow2_alloc.specs.Quiet.{Metadata, in_memory, referenced, named_at_all, IsUsed, IsSound, IsQuiet, Quietly}
-use Rattle.qcow2_alloc.proofs.Quiet.AtOnce.{put-done, put-whole}
-use Rattle.qcow2_alloc.proofs.Flushing.Faultless.{faultless-then, put-faultless}
+use Rattle.qcow2_alloc.proofs.Quiet.SingleRequests.{put-done, put-whole}
+use Rattle.qcow2_alloc.proofs.Flushing.FaultlessCalls.{faultless-then, put-faultless}
 use Rattle.qcow2_alloc.proofs.Memory.FreeClusterWrites.{block-quietly, block-counts, block-short, put-outside}
 use Rattle.qcow2_alloc.proofs.Growth.FirstRooms.{rank-longer, index-near, lacks-inside}
 use Rattle.qcow2_alloc.proofs.Growth.LongerReftables.{rank-new}
@@ -35,10 +35,10 @@ use Rattle.qcow2_alloc.proofs.Memory.MemoryWords.{places-in-memory}
 use Rattle.qcow2_alloc.proofs.Blocks.NewBlocks.{counter-read}
 use Rattle.qcow2_alloc.proofs.Memory.Patches.{shaped-in}
 use Rattle.qcow2_alloc.proofs.Quiet.QuietFlushes.{memory-quietly, quiet-none}
-use Rattle.qcow2_alloc.proofs.Quiet.QuietGiven.{quietly-then-given}
-use Rattle.qcow2_alloc.proofs.Quiet.QuietThen.{quietly-otherwise, quiet-otherwise}
-use Rattle.qcow2_alloc.proofs.Memory.FitsByWords.{counters-same}
-use Rattle.qcow2_alloc.proofs.Memory.WordsKept.{structure-named}
+use Rattle.qcow2_alloc.proofs.Quiet.QuietPremises.{quietly-then-given}
+use Rattle.qcow2_alloc.proofs.Quiet.QuietSequences.{quietly-otherwise, quiet-otherwise}
+use Rattle.qcow2_alloc.proofs.Memory.FittingWords.{counters-same}
+use Rattle.qcow2_alloc.proofs.Memory.KeptWords.{structure-named}
 
 -- What is known of the faults of a write.
 pub put-counts : (old new : StorageState) (at : ℕ) (bytes : List ℕ) (result : Result Unit Fault) → Put old new at bytes result → MatchResult result (λ _. new.faults ≡ old.faults) (Cause old.faults new.faults)

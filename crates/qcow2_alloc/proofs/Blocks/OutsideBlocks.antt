@@ -42,11 +42,11 @@ use Rattle.qcow2_alloc.proofs.Searching.FreeClusters.{uncounted-free, flushes-co
 use Rattle.qcow2_alloc.proofs.Freeing.EntryFrees.{failed}
 use Rattle.qcow2_alloc.proofs.Memory.FreeClusterWrites.{block-quietly}
 use Rattle.qcow2_alloc.proofs.Freeing.ClusterOccurrences.{covers-none, covers-one}
-use Rattle.qcow2_alloc.proofs.Caching.Loose.{kept-tables, loose-on}
+use Rattle.qcow2_alloc.proofs.Caching.UnpinnedCaches.{kept-tables, loose-on}
 use Rattle.qcow2_alloc.proofs.Blocks.BlockCreationCalls.{Follows, B, begins-then, begins-refused, ends, made, counting-allocates}
 use Rattle.qcow2_alloc.proofs.Blocks.BlockCreation.{other-block-made, other-block-raises}
 use Rattle.qcow2_alloc.proofs.Blocks.OwnBlocks.{without}
-use Rattle.qcow2_alloc.proofs.Quiet.QuietThen.{used-then}
+use Rattle.qcow2_alloc.proofs.Quiet.QuietSequences.{used-then}
 use Rattle.qcow2_alloc.proofs.Caching.Pins.{pins-removed, pins-written}
 use Rattle.qcow2_alloc.proofs.Quiet.QuietAnnouncements.{whole-quietly, written-whole}
 use Rattle.qcow2_alloc.proofs.Quiet.QuietCounters.{here-one, away-none}

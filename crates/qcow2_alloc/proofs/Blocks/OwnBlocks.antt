@@ -25,11 +25,11 @@ use Rattle.qcow2_alloc.specs.State.{ImageState, lent, metadata}
 use Rattle.qcow2_alloc.proofs.Caching.BlockDrops.{forgotten-quiet, forgotten-counts, removed-apart}
 use Rattle.qcow2_alloc.proofs.Searching.FreeClusters.{uncounted-free}
 use Rattle.qcow2_alloc.proofs.Memory.FreeClusterWrites.{block-quietly}
-use Rattle.qcow2_alloc.proofs.Caching.Loose.{loose-on}
+use Rattle.qcow2_alloc.proofs.Caching.UnpinnedCaches.{loose-on}
 use Rattle.qcow2_alloc.proofs.Blocks.BlockCreationCalls.{B, ends, made}
 use Rattle.qcow2_alloc.proofs.Blocks.BlockCreation.{unnamed-uncounted, own-block-made, own-block-raises}
 use Rattle.qcow2_alloc.proofs.Quiet.QuietFlushes.{memory-quietly}
-use Rattle.qcow2_alloc.proofs.Quiet.QuietGiven.{quietly-given}
+use Rattle.qcow2_alloc.proofs.Quiet.QuietPremises.{quietly-given}
 use Rattle.qcow2_alloc.proofs.Caching.Pins.{pins-removed}
 
 -- Where the refcount table names no block the clusters of one aren't counted.

@@ -24,12 +24,12 @@ use Rattle.qcow2_alloc.specs.Quiet.{Metadata, IsSound, counted}
 use Rattle.qcow2_alloc.specs.State.{lent}
 use Rattle.qcow2_alloc.proofs.Causes.{cause-weaker, fails-weaker}
 use Rattle.qcow2_alloc.proofs.Blocks.ClusterCounts.{succeeded}
-use Rattle.qcow2_alloc.proofs.Flushing.Faultless.{faultless-then}
+use Rattle.qcow2_alloc.proofs.Flushing.FaultlessCalls.{faultless-then}
 use Rattle.qcow2_alloc.proofs.Freeing.EntryFrees.{failed, counting-weaker}
 use Rattle.qcow2_alloc.proofs.Freeing.ClusterOccurrences.{covers-none}
 use Rattle.qcow2_alloc.proofs.Quiet.QuietFlushes.{memory-quietly, quiet-none}
-use Rattle.qcow2_alloc.proofs.Quiet.QuietGiven.{quietly-then-given}
-use Rattle.qcow2_alloc.proofs.Quiet.QuietThen.{quietly-otherwise, quiet-otherwise}
+use Rattle.qcow2_alloc.proofs.Quiet.QuietPremises.{quietly-then-given}
+use Rattle.qcow2_alloc.proofs.Quiet.QuietSequences.{quietly-otherwise, quiet-otherwise}
 
 -- A run goes on in the next one, and ends where that begins.
 pub covers-join : (c first n k : ℕ) → covers c (run_of first n) + covers c (run_of (first + n) k) ≡ covers c (run_of first (n + k))

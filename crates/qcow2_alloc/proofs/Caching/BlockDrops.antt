@@ -26,7 +26,7 @@ use Rattle.qcow2_alloc.proofs.Memory.Patches.{all-weaker, place-there}
 use Rattle.qcow2_alloc.proofs.Caching.Places.{Place, place-of-key}
 use Rattle.qcow2_alloc.proofs.Quiet.QuietFlushes.{used-quiet}
 use Rattle.qcow2_alloc.proofs.Caching.SearchOutcomes.{all-removed}
-use Rattle.qcow2_alloc.proofs.Memory.WordsKept.{structure-named}
+use Rattle.qcow2_alloc.proofs.Memory.KeptWords.{structure-named}
 use Rattle.std.proofs.lemmas.Nat.{pow_pos}
 
 module _ {V : Type 0} (key : ℕ) where

@@ -17,7 +17,7 @@ use Rattle.qcow2_alloc.proofs.Caching.Entries.{remove_absent}
 use Rattle.qcow2_alloc.proofs.Caching.BlockDrops.{forgotten-quiet, forgotten-stays, removed-apart}
 use Rattle.qcow2_alloc.proofs.Quiet.QuietFlushes.{quiet-none}
 use Rattle.qcow2_alloc.proofs.Caching.Pins.{pinned-there, pins-removed}
-use Rattle.qcow2_alloc.proofs.Quiet.QuietThen.{quiet-then, quiet-otherwise}
+use Rattle.qcow2_alloc.proofs.Quiet.QuietSequences.{quiet-then, quiet-otherwise}
 
 -- What stays in memory is counted and named as it was.
 pub memory-counts : (m : Metadata) (cached' : Cached) → StaysInMemory m (with_cached m cached') → (c : ℕ) → counted (with_cached m cached') c ≡ counted m c

@@ -30,7 +30,7 @@ use Rattle.qcow2_alloc.proofs.Caching.Admission.{tables-idle}
 use Rattle.qcow2_alloc.proofs.Caching.Sides.{SideLaws, WrittenFirst}
 use Rattle.qcow2_alloc.proofs.Caching.FitsAfterFlushes.{block-stays}
 use Rattle.qcow2_alloc.proofs.Flushing.FlushRefusals.{block-counted}
-use Rattle.qcow2_alloc.proofs.Flushing.Faultless.{never-mild}
+use Rattle.qcow2_alloc.proofs.Flushing.FaultlessCalls.{never-mild}
 use Rattle.qcow2_alloc.proofs.Flushing.BlockFlushes.{block-flushed, flushed-clean}
 use Rattle.qcow2_alloc.proofs.Flushing.EntriesAfterWrites.{block-kept}
 use Rattle.qcow2_alloc.proofs.Memory.EntryKinds.{block_kind}

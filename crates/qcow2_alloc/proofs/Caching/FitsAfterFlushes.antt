@@ -16,7 +16,7 @@ use Rattle.qcow2_alloc.specs.declared.async_lru_cache.Slot.{Slot}
 use Rattle.qcow2_alloc.specs.declared.cache.CacheDependency.{CacheDependency}
 use Rattle.qcow2_alloc.specs.Memory.{Cached, memory}
 use Rattle.qcow2_alloc.specs.Safety.{Safe, IsLeft, IsCachedTable, IsCachedBlock}
-use Rattle.qcow2_alloc.proofs.Memory.FitsByWords.{table-still, block-still}
+use Rattle.qcow2_alloc.proofs.Memory.FittingWords.{table-still, block-still}
 use Rattle.qcow2_alloc.proofs.Memory.MemoryWords.{table-same, block-same}
 use Rattle.qcow2_alloc.proofs.Memory.Patches.{all-weaker, places-differ}
 

@@ -30,7 +30,7 @@ use Rattle.qcow2_alloc.proofs.Memory.Patches.{all-weaker, places-differ, place-t
 use Rattle.qcow2_alloc.proofs.Caching.SingleEntries.{block-kind-laws, entry-fits}
 use Rattle.qcow2_alloc.proofs.Flushing.EntryWriteBacks.{EntryWritten, entry-written, fills, shown}
 use Rattle.qcow2_alloc.proofs.Memory.EntryKinds.{block_kind, blocks_with}
-use Rattle.qcow2_alloc.proofs.Memory.FitsByWords.{table-still, block-still}
+use Rattle.qcow2_alloc.proofs.Memory.FittingWords.{table-still, block-still}
 use Rattle.qcow2_alloc.proofs.Memory.MemoryWords.{places-in-memory, slot-same}
 
 block-number : (i k : ℕ) → block i ≡ block k → i ≡ k

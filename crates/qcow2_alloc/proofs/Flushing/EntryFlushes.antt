@@ -21,7 +21,7 @@ use Rattle.qcow2_alloc.specs.Going.{Going, IsMild, WasNotCutOff}
 use Rattle.qcow2_alloc.specs.Memory.{Cached, memory}
 use Rattle.qcow2_alloc.specs.Safety.{Safe, IsLeft, IsCalm, IsSettled}
 use Rattle.qcow2_alloc.proofs.Caching.SingleEntries.{EntryLaws, entry-fits}
-use Rattle.qcow2_alloc.proofs.Flushing.Faultless.{never-mild, put-faultless}
+use Rattle.qcow2_alloc.proofs.Flushing.FaultlessCalls.{never-mild, put-faultless}
 use Rattle.qcow2_alloc.proofs.Flushing.WriteSequences.{going-none, going-weaker, settled-same}
 use Rattle.qcow2_alloc.proofs.Flushing.EntryWriteBacks.{EntryWritten}
 use Rattle.qcow2_alloc.proofs.Memory.EntryKinds.{EntryKind}

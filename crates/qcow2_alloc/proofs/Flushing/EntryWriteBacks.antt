@@ -14,7 +14,7 @@ use Rattle.qcow2_alloc.specs.Safety.{IsLeft, IsOrdered, Safe}
 use Rattle.qcow2_alloc.proofs.Caching.SingleEntries.{EntryLaws, are-safe, entry-fits, entry-settled, entry-shows, others-safe}
 use Rattle.qcow2_alloc.proofs.Caching.EntryTraffic.{keys-with}
 use Rattle.qcow2_alloc.proofs.Memory.EntryKinds.{EntryKind, IsSafeMemory}
-use Rattle.qcow2_alloc.proofs.Memory.FitsByWords.{written-either}
+use Rattle.qcow2_alloc.proofs.Memory.FittingWords.{written-either}
 use Rattle.qcow2_alloc.proofs.Memory.Patches.{all-append, all-front, all-back, all-weaker, all-both, others-before, others-behind}
 
 -- One was written to file f, which is x then.

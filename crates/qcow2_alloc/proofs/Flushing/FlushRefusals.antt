@@ -19,7 +19,7 @@ use Rattle.qcow2_alloc.specs.Backends.{Flushed, WrittenKind, TableFlushed, Block
 use Rattle.qcow2_alloc.specs.Causes.{HasCause, FailsFor, Causes}
 use Rattle.qcow2_alloc.specs.Going.{IsMild, WasNotCutOff, writing_causes}
 use Rattle.qcow2_alloc.proofs.Causes.{Implies, cause-weaker, storage-cause}
-use Rattle.qcow2_alloc.proofs.Flushing.Faultless.{faultless-same, faultless-then, mild-later, put-faultless}
+use Rattle.qcow2_alloc.proofs.Flushing.FaultlessCalls.{faultless-same, faultless-then, mild-later, put-faultless}
 
 -- A cause of a write is one of each call that made it, where that says why something was out of reach.
 pub writing-implies : {reach : Type 0} {b c : ℕ} → (new : Causes) → new.before ≤ b → c ≤ new.after → ((reach → ⊥) → new.damaged) → Implies (writing_causes reach b c) new

@@ -35,7 +35,7 @@ use Rattle.qcow2_metadata.proofs.WrittenBack.{read_back}
 use Rattle.qcow2_alloc.proofs.Caching.SingleEntries.{table-kind-laws, entry-fits, entry-shows}
 use Rattle.qcow2_alloc.proofs.Flushing.EntryWriteBacks.{EntryWritten, entry-written, fills, shown}
 use Rattle.qcow2_alloc.proofs.Memory.EntryKinds.{table_kind, tables_with}
-use Rattle.qcow2_alloc.proofs.Memory.FitsByWords.{table-still, block-still}
+use Rattle.qcow2_alloc.proofs.Memory.FittingWords.{table-still, block-still}
 use Rattle.qcow2_alloc.proofs.Memory.MemoryWords.{find-table, places-in-memory, slot-same, counts-same}
 
 table-number : (i k : ℕ) → table i ≡ table k → i ≡ k

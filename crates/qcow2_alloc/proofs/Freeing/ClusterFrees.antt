@@ -36,7 +36,7 @@ use Rattle.qcow2_alloc.proofs.Causes.{Implies, cause-weaker}
 use Rattle.qcow2_alloc.proofs.Blocks.TableBlocks.{named-block}
 use Rattle.qcow2_alloc.proofs.Memory.CounterChanges.{cached-count, counter-lowered}
 use Rattle.qcow2_alloc.proofs.Quiet.QuietCounters.{free-quiet, here-one, waiting-covered, metadata-covered}
-use Rattle.qcow2_alloc.proofs.Quiet.QuietThen.{quietly-then}
+use Rattle.qcow2_alloc.proofs.Quiet.QuietSequences.{quietly-then}
 use Rattle.qcow2_alloc.proofs.Caching.EntryUses.{block-used}
 use Rattle.qcow2_alloc.proofs.Caching.Places.{slot-of}
 use Rattle.qcow2_alloc.proofs.Memory.SafeLaws.{safe-reach}
@@ -45,7 +45,7 @@ use Rattle.qcow2_alloc.proofs.Memory.Patches.{shaped-in}
 use Rattle.qcow2_alloc.specs.Safety.{IsCachedBlock}
 use Rattle.qcow2_types.proofs.Counting.Counters.{some-counters}
 use Rattle.qcow2_alloc.proofs.Blocks.ClusterBlocks.{counted-block}
-use Rattle.qcow2_alloc.proofs.Caching.Loose.{KeepsPins, named-keeps}
+use Rattle.qcow2_alloc.proofs.Caching.UnpinnedCaches.{KeepsPins, named-keeps}
 use Rattle.qcow2_alloc.proofs.Caching.Pins.{full-pinned}
 use Rattle.qcow2_alloc.proofs.Quiet.QuietFlushes.{quiet-none, used-quiet, flushes-quietly, quietly-weaker, memory-quietly}
 

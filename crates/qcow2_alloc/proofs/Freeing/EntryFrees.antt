@@ -25,16 +25,16 @@ use Rattle.qcow2_alloc.specs.Going.{WasNotCutOff}
 use Rattle.qcow2_alloc.specs.Quiet.{Metadata, IsSound, IsQuiet, counted, in_memory, waiting, waiting_metadata, metadata_in}
 use Rattle.qcow2_alloc.specs.State.{lent, with_mark}
 use Rattle.qcow2_alloc.proofs.Causes.{Implies, fails-weaker}
-use Rattle.qcow2_alloc.proofs.Flushing.Faultless.{faultless-then, named-faultless}
+use Rattle.qcow2_alloc.proofs.Flushing.FaultlessCalls.{faultless-then, named-faultless}
 use Rattle.qcow2_alloc.proofs.Freeing.ClusterFrees.{LosesOne, left, cluster-freed, freeing-caused, counts-stay, freeing-stays}
 use Rattle.qcow2_alloc.proofs.Freeing.ShorterLists.{last, last-off, metadata-less, metadata-last, entry-shortened}
-use Rattle.qcow2_alloc.proofs.Caching.Lengths.{named-long}
-use Rattle.qcow2_alloc.proofs.Caching.Loose.{spare-on}
+use Rattle.qcow2_alloc.proofs.Caching.FileLengths.{named-long}
+use Rattle.qcow2_alloc.proofs.Caching.UnpinnedCaches.{spare-on}
 use Rattle.qcow2_alloc.proofs.Memory.Patches.{shaped-in}
 use Rattle.qcow2_alloc.proofs.Caching.Pins.{pins-none, pins-then}
 use Rattle.qcow2_alloc.proofs.Quiet.QuietCounters.{here-one}
 use Rattle.qcow2_alloc.proofs.Quiet.QuietFlushes.{quiet-none, memory-quietly}
-use Rattle.qcow2_alloc.proofs.Quiet.QuietThen.{calm-behind, calmly-then}
+use Rattle.qcow2_alloc.proofs.Quiet.QuietSequences.{calm-behind, calmly-then}
 use Rattle.qcow2_alloc.proofs.Quiet.QuietEntries.{metadata-remove}
 use Rattle.qcow2_alloc.proofs.Freeing.ClusterOccurrences.{listed-remove, covers-none}
 use Rattle.imago_storage.proofs.Composing.{keeps_on}

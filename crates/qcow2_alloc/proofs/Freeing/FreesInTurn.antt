@@ -28,7 +28,7 @@ use Rattle.qcow2_alloc.specs.Safety.{Safe, IsCalm}
 use Rattle.qcow2_alloc.specs.State.{ImageState, lent, metadata, with_mark}
 use Rattle.qcow2_alloc.proofs.Flushing.FlushRefusals.{never-refused, writing-implies}
 use Rattle.qcow2_alloc.proofs.Causes.{cause-weaker}
-use Rattle.qcow2_alloc.proofs.Caching.Loose.{kept-tables}
+use Rattle.qcow2_alloc.proofs.Caching.UnpinnedCaches.{kept-tables}
 use Rattle.qcow2_alloc.proofs.Caching.Pins.{pins-written}
 use Rattle.qcow2_alloc.proofs.Quiet.QuietAnnouncements.{announced-quietly, whole-quietly}
 use Rattle.qcow2_alloc.proofs.Quiet.QuietFlushes.{flushes-quietly, quietly-weaker}

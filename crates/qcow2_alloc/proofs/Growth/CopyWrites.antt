@@ -18,9 +18,9 @@ use Rattle.qcow2_alloc.specs.Quiet.{Metadata, IsSound}
 use Rattle.qcow2_alloc.specs.State.{ImageState, lent}
 use Rattle.qcow2_alloc.proofs.Causes.{storage-fails}
 use Rattle.qcow2_alloc.proofs.Blocks.ClusterCounts.{succeeded}
-use Rattle.qcow2_alloc.proofs.Flushing.Faultless.{put-faultless}
+use Rattle.qcow2_alloc.proofs.Flushing.FaultlessCalls.{put-faultless}
 use Rattle.qcow2_alloc.proofs.Growth.LongerReftables.{covers-inside}
-use Rattle.qcow2_alloc.proofs.Quiet.AtOnce.{put-whole, put-done}
+use Rattle.qcow2_alloc.proofs.Quiet.SingleRequests.{put-whole, put-done}
 use Rattle.qcow2_alloc.proofs.Growth.TableMoves.{table-quietly, table-counts}
 use Rattle.qcow2_alloc.proofs.Memory.Patches.{shaped-in}
 use Rattle.qcow2_alloc.proofs.Growth.RoomAcquisition.{Given, Next, ours, sound-then, counts-then}

@@ -30,8 +30,8 @@ use Rattle.qcow2_alloc.proofs.Handing.CountSequences.{moved-none}
 use Rattle.qcow2_alloc.proofs.Blocks.RunCounts.{covers-behind}
 use Rattle.qcow2_alloc.proofs.Freeing.EntryFrees.{failed, counting-weaker}
 use Rattle.qcow2_alloc.proofs.Growth.LongerReftables.{covers-inside, covers-before}
-use Rattle.qcow2_alloc.proofs.Quiet.QuietGiven.{quietly-given}
-use Rattle.qcow2_alloc.proofs.Quiet.QuietThen.{quiet-otherwise}
+use Rattle.qcow2_alloc.proofs.Quiet.QuietPremises.{quietly-given}
+use Rattle.qcow2_alloc.proofs.Quiet.QuietSequences.{quiet-otherwise}
 use Rattle.qcow2_alloc.proofs.Quiet.QuietFlushes.{memory-quietly, quiet-none}
 
 -- What is known of counts that were raised by a part of a run: each was raised from 0 to 1.

@@ -36,21 +36,21 @@ use Rattle.qcow2_alloc.proofs.Flushing.FlushRefusals.{writing-implies}
 use Rattle.qcow2_alloc.proofs.Causes.{fails-weaker, storage-fails}
 use Rattle.qcow2_alloc.proofs.Blocks.ClusterCounts.{succeeded}
 use Rattle.qcow2_alloc.proofs.Blocks.RunCounts.{covers-behind}
-use Rattle.qcow2_alloc.proofs.Flushing.Faultless.{faultless-then}
+use Rattle.qcow2_alloc.proofs.Flushing.FaultlessCalls.{faultless-then}
 use Rattle.qcow2_alloc.proofs.Caching.BlockDrops.{never-unnamed}
 use Rattle.qcow2_alloc.proofs.Caching.BlockRunDrops.{memory-counts}
 use Rattle.qcow2_alloc.proofs.Searching.FreeClusters.{uncounted-free, flushes-count, clean-counts}
 use Rattle.qcow2_alloc.proofs.Freeing.EntryFrees.{failed, counting-weaker}
 use Rattle.qcow2_alloc.proofs.Growth.LongerReftables.{covers-inside, covers-before}
-use Rattle.qcow2_alloc.proofs.Caching.Loose.{kept-tables, StaysLoose, loose-on}
+use Rattle.qcow2_alloc.proofs.Caching.UnpinnedCaches.{kept-tables, StaysLoose, loose-on}
 use Rattle.qcow2_alloc.proofs.Blocks.NewBlockNames.{rank-before}
 use Rattle.qcow2_alloc.proofs.Growth.FirstRooms.{lacks-inside}
 use Rattle.qcow2_alloc.proofs.Caching.Pins.{pins-written}
 use Rattle.qcow2_alloc.proofs.Quiet.QuietAnnouncements.{whole-quietly, written-whole}
 use Rattle.qcow2_alloc.proofs.Quiet.QuietFlushes.{going-quietly, memory-quietly}
-use Rattle.qcow2_alloc.proofs.Quiet.QuietGiven.{quietly-then-given, quietly-given}
+use Rattle.qcow2_alloc.proofs.Quiet.QuietPremises.{quietly-then-given, quietly-given}
 use Rattle.qcow2_alloc.proofs.Quiet.QuietNames.{quiet-names}
-use Rattle.qcow2_alloc.proofs.Quiet.QuietThen.{quietly-otherwise}
+use Rattle.qcow2_alloc.proofs.Quiet.QuietSequences.{quietly-otherwise}
 use Rattle.qcow2_alloc.proofs.Memory.SafeLaws.{safe-reach}
 use Rattle.std.proofs.Math.Nat.{mul-le-mul}
 

@@ -40,11 +40,11 @@ use Rattle.qcow2_alloc.proofs.Blocks.RunCounts.{covers-behind}
 use Rattle.qcow2_alloc.proofs.Searching.FreeClusters.{uncounted-free}
 use Rattle.qcow2_alloc.proofs.Freeing.EntryFrees.{failed}
 use Rattle.qcow2_alloc.proofs.Growth.LongerReftables.{covers-inside, covers-before}
-use Rattle.qcow2_alloc.proofs.Quiet.QuietGiven.{quietly-given}
-use Rattle.qcow2_alloc.proofs.Quiet.QuietThen.{quietly-then, quietly-otherwise}
-use Rattle.qcow2_alloc.proofs.Flushing.Faultless.{never-mild, faultless-then, put-faultless}
+use Rattle.qcow2_alloc.proofs.Quiet.QuietPremises.{quietly-given}
+use Rattle.qcow2_alloc.proofs.Quiet.QuietSequences.{quietly-then, quietly-otherwise}
+use Rattle.qcow2_alloc.proofs.Flushing.FaultlessCalls.{never-mild, faultless-then, put-faultless}
 use Rattle.qcow2_alloc.proofs.Blocks.BlockCreationCalls.{first-counted}
-use Rattle.qcow2_alloc.proofs.Caching.Loose.{loose-named, name-kept}
+use Rattle.qcow2_alloc.proofs.Caching.UnpinnedCaches.{loose-named, name-kept}
 use Rattle.qcow2_alloc.proofs.Memory.MemoryWords.{places-in-memory}
 use Rattle.qcow2_alloc.proofs.Blocks.BlockNames.{count-none}
 use Rattle.qcow2_alloc.proofs.Quiet.QuietFlushes.{quietly-weaker}

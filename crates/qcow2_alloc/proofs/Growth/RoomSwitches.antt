@@ -40,7 +40,7 @@ use Rattle.qcow2_alloc.proofs.Growth.TableMoves.{place-there, all-are, table-gro
 use Rattle.qcow2_alloc.proofs.Blocks.NewBlockNames.{lack-here}
 use Rattle.qcow2_alloc.proofs.Memory.Patches.{shaped-in}
 use Rattle.qcow2_alloc.proofs.Quiet.QuietNames.{table-names}
-use Rattle.qcow2_alloc.proofs.Quiet.QuietThen.{quiet-then, quiet-otherwise}
+use Rattle.qcow2_alloc.proofs.Quiet.QuietSequences.{quiet-then, quiet-otherwise}
 use Rattle.qcow2_alloc.proofs.Growth.TableSwitches.{switch-quietly, switch-names, sound-sizes}
 
 -- 1 where a cluster of a run has a block that counts it, else 0

@@ -30,13 +30,13 @@ use Rattle.qcow2_alloc.specs.SearchingClusters.{IsSafeWith, Looked}
 use Rattle.qcow2_alloc.specs.State.{lent, metadata, with_mark, AllocatorState}
 use Rattle.qcow2_alloc.proofs.Causes.{bare-weaker, cause-weaker, fails-weaker}
 use Rattle.qcow2_alloc.proofs.Handing.CountSequences.{allocating-none, allocating-as}
-use Rattle.qcow2_alloc.proofs.Flushing.Faultless.{faultless-then}
+use Rattle.qcow2_alloc.proofs.Flushing.FaultlessCalls.{faultless-then}
 use Rattle.qcow2_alloc.proofs.Searching.SearchesBeforeCounts.{counts-looked, looked-allocates}
 use Rattle.qcow2_alloc.proofs.Freeing.EntryFrees.{failed}
-use Rattle.qcow2_alloc.proofs.Caching.Loose.{loose-all}
+use Rattle.qcow2_alloc.proofs.Caching.UnpinnedCaches.{loose-all}
 use Rattle.qcow2_alloc.proofs.Blocks.BlockCreationCalls.{first-counted, can-name, counting-allocates, freeing-allocates}
-use Rattle.qcow2_alloc.proofs.Quiet.QuietGiven.{quietly-given, quietly-then-given}
-use Rattle.qcow2_alloc.proofs.Quiet.QuietThen.{quietly-otherwise}
+use Rattle.qcow2_alloc.proofs.Quiet.QuietPremises.{quietly-given, quietly-then-given}
+use Rattle.qcow2_alloc.proofs.Quiet.QuietSequences.{quietly-otherwise}
 
 module _ {S : Type 0} (state : S → StorageState) (at : ℕ) (s : AllocatorState S) where
   abbrev start : Metadata

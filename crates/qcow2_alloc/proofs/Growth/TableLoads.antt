@@ -30,7 +30,7 @@ use Rattle.qcow2_alloc.specs.declared.cache.CacheDependency.TheVariants.{Unset}
 use Rattle.qcow2_alloc.specs.Allocators.{IsTablePlaced, LoadsAllocator, table_of, mark_of}
 use Rattle.qcow2_alloc.specs.Opening.{IsL1Of, opened}
 use Rattle.qcow2_alloc.specs.Quiet.{IsSound, IsTableOf}
-use Rattle.qcow2_alloc.proofs.Caching.Empty.{empty-safe}
+use Rattle.qcow2_alloc.proofs.Caching.EmptyCaches.{empty-safe}
 use Rattle.qcow2_alloc.proofs.Caching.TableSide.{load-counted}
 use Rattle.qcow2_alloc.proofs.Memory.Patches.{shaped-in}
 use Rattle.qcow2_alloc.proofs.Quiet.QuietEntries.{safe-sound}

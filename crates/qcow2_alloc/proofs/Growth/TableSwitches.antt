@@ -36,16 +36,16 @@ use Rattle.qcow2_metadata.specs.Blocks.{Block, counters_in}
 use Rattle.qcow2_alloc.specs.Safety.{Safe, IsCachedBlock}
 use Rattle.qcow2_alloc.specs.MakingRoom.{newly, formerly, newly_counted, IsReadyTable, TableSwitched, with_table}
 use Rattle.qcow2_alloc.specs.Quiet.{IsTableOf, Metadata, in_memory, counted, referenced, named_at_all, waiting, IsSound, IsQuiet, ShowsEither, IsIn, Quietly}
-use Rattle.qcow2_alloc.proofs.Quiet.AtOnce.{at-once-quietly, at-once-file}
+use Rattle.qcow2_alloc.proofs.Quiet.SingleRequests.{at-once-quietly, at-once-file}
 use Rattle.qcow2_alloc.proofs.Memory.MemoryImage.{safe-memory}
 use Rattle.qcow2_alloc.proofs.Memory.MemoryWords.{places-in-memory}
 use Rattle.qcow2_alloc.proofs.Blocks.BlockNames.{count-none}
 use Rattle.qcow2_alloc.proofs.Memory.Patches.{all-weaker, all-both, place-there, shaped-in}
 use Rattle.qcow2_alloc.proofs.Quiet.QuietEntries.{metadata-among}
-use Rattle.qcow2_alloc.proofs.Quiet.QuietShows.{mapping-meets, in-cluster, memory-same}
+use Rattle.qcow2_alloc.proofs.Quiet.ShownDisks.{mapping-meets, in-cluster, memory-same}
 use Rattle.qcow2_alloc.proofs.Memory.StructureWrites.{splice-agrees, memory-start, memory-beside, unmet-stays}
-use Rattle.qcow2_alloc.proofs.Memory.FitsByWords.{table-fits, counters-same}
-use Rattle.qcow2_alloc.proofs.Memory.WordsKept.{word-contents, structure-named, named-more, copied-stays, ordered-still, block-fits}
+use Rattle.qcow2_alloc.proofs.Memory.FittingWords.{table-fits, counters-same}
+use Rattle.qcow2_alloc.proofs.Memory.KeptWords.{word-contents, structure-named, named-more, copied-stays, ordered-still, block-fits}
 
 -- A block that stays in its place counts what it did.
 count-moved : (f : Bytes) (h : Fields) (o n c : ℕ) → block_at f (with_reftable h o n) (c / counters_of_block h) ≡ block_at f h (c / counters_of_block h) → count f (with_reftable h o n) c ≡ count f h c

@@ -32,14 +32,14 @@ use Rattle.qcow2_alloc.proofs.Blocks.BlockCreationCalls.{freeing-allocates, allo
 use Rattle.qcow2_alloc.proofs.Handing.CountSequences.{moved-none}
 use Rattle.qcow2_alloc.proofs.Handing.BlocksBeforeTables.{Announced, no-place-as, room-as, quiet-behind, sound-behind, raised-behind, marked-behind, allocates-behind}
 use Rattle.qcow2_alloc.proofs.Handing.SingleCounts.{not_handed}
-use Rattle.qcow2_alloc.proofs.Flushing.Faultless.{faultless-then}
+use Rattle.qcow2_alloc.proofs.Flushing.FaultlessCalls.{faultless-then}
 use Rattle.qcow2_alloc.proofs.Freeing.EntryFrees.{failed}
 use Rattle.qcow2_alloc.proofs.Freeing.ListRemainders.{rest-all, rest-none}
 use Rattle.qcow2_alloc.proofs.Growth.GrowthInOrder.{shape-behind}
 use Rattle.qcow2_alloc.proofs.Handing.ClustersHandedOut.{handed-unnamed}
-use Rattle.qcow2_alloc.proofs.Caching.Loose.{loose-on, loose-all}
+use Rattle.qcow2_alloc.proofs.Caching.UnpinnedCaches.{loose-on, loose-all}
 use Rattle.qcow2_alloc.proofs.Quiet.QuietFlushes.{memory-quietly, quiet-none, quietly-weaker}
-use Rattle.qcow2_alloc.proofs.Quiet.QuietThen.{fewer-counted, quietly-then, quietly-otherwise}
+use Rattle.qcow2_alloc.proofs.Quiet.QuietSequences.{fewer-counted, quietly-then, quietly-otherwise}
 use Rattle.qcow2_alloc.proofs.Blocks.RunProvision.{leaks-none}
 
 module _ {S : Type 0} (state : S → StorageState) (cluster : ℕ) (s : AllocatorState S) (mid : MetadataCaches S) (between : ImageFile S) where

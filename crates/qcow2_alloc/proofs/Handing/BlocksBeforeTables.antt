@@ -32,11 +32,11 @@ use Rattle.qcow2_alloc.specs.State.{ImageState, lent, metadata, IsKept}
 use Rattle.qcow2_alloc.proofs.Flushing.FlushRefusals.{never-refused, writing-implies}
 use Rattle.qcow2_alloc.proofs.Causes.{cause-weaker, Implies}
 use Rattle.qcow2_alloc.proofs.Blocks.BlockCreationCalls.{allocating-weaker}
-use Rattle.qcow2_alloc.proofs.Caching.Loose.{kept-tables, loose-on}
+use Rattle.qcow2_alloc.proofs.Caching.UnpinnedCaches.{kept-tables, loose-on}
 use Rattle.qcow2_alloc.proofs.Caching.Pins.{pins-none}
 use Rattle.qcow2_alloc.proofs.Quiet.QuietAnnouncements.{announced-quietly, whole-quietly}
 use Rattle.qcow2_alloc.proofs.Quiet.QuietFlushes.{memory-quietly}
-use Rattle.qcow2_alloc.proofs.Quiet.QuietThen.{quietly-then, quietly-otherwise}
+use Rattle.qcow2_alloc.proofs.Quiet.QuietSequences.{quietly-then, quietly-otherwise}
 use Rattle.qcow2_alloc.proofs.Memory.SafeLaws.{safe-reach}
 
 -- What the announcement does: it is quiet, and changes no count.

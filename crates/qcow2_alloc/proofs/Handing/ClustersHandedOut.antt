@@ -22,7 +22,7 @@ use Rattle.qcow2_alloc.specs.Quiet.{Metadata, in_memory, counted, referenced, na
 use Rattle.qcow2_alloc.specs.Safety.{IsOrdered}
 use Rattle.qcow2_alloc.proofs.Freeing.ClusterOccurrences.{listed_push}
 use Rattle.qcow2_alloc.proofs.Memory.MemoryWords.{places-in-memory}
-use Rattle.qcow2_alloc.proofs.Quiet.QuietThen.{contents-then, of-moved, structure-in-memory}
+use Rattle.qcow2_alloc.proofs.Quiet.QuietSequences.{contents-then, of-moved, structure-in-memory}
 use Rattle.qcow2_alloc.proofs.Growth.RoomSwitches.{old_run, old-run-is}
 
 -- A word that means what it did in one of two versions weighs no more than both did.

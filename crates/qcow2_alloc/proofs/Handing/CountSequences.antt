@@ -13,9 +13,9 @@ use Rattle.qcow2_alloc.specs.Allocating.{Allocating, MakesBlock, MovedTable, Onl
 use Rattle.qcow2_alloc.specs.Going.{WasNotCutOff}
 use Rattle.qcow2_alloc.specs.Quiet.{Metadata, counted}
 use Rattle.qcow2_alloc.specs.State.{ImageState, lent, metadata}
-use Rattle.qcow2_alloc.proofs.Flushing.Faultless.{faultless-then}
+use Rattle.qcow2_alloc.proofs.Flushing.FaultlessCalls.{faultless-then}
 use Rattle.qcow2_alloc.proofs.Quiet.QuietFlushes.{memory-quietly, quiet-none, quietly-weaker}
-use Rattle.qcow2_alloc.proofs.Quiet.QuietThen.{quietly-then, quietly-otherwise}
+use Rattle.qcow2_alloc.proofs.Quiet.QuietSequences.{quietly-then, quietly-otherwise}
 
 -- A header whose table stays has moved nowhere, and where it moved twice it has moved once.
 pub moved-none : (H H' : Header) → H' ≡ H → MovedTable H H'

@@ -30,12 +30,12 @@ use Rattle.qcow2_alloc.specs.State.{ImageState, lent, metadata, with_mark, Alloc
 use Rattle.qcow2_alloc.proofs.Causes.{cause-weaker}
 use Rattle.qcow2_alloc.proofs.Blocks.BlockCreationCalls.{counting-allocates}
 use Rattle.qcow2_alloc.proofs.Handing.CountSequences.{allocating-none, allocating-as, raised-then}
-use Rattle.qcow2_alloc.proofs.Flushing.Faultless.{faultless-then}
+use Rattle.qcow2_alloc.proofs.Flushing.FaultlessCalls.{faultless-then}
 use Rattle.qcow2_alloc.proofs.Space.GaplessRuns.{gapless-same}
 use Rattle.qcow2_alloc.proofs.Growth.LongerReftables.{covers-inside}
 use Rattle.qcow2_alloc.proofs.Space.RoomConsumption.{covered-inside}
-use Rattle.qcow2_alloc.proofs.Quiet.QuietGiven.{quietly-then-given}
-use Rattle.qcow2_alloc.proofs.Quiet.QuietThen.{quietly-otherwise}
+use Rattle.qcow2_alloc.proofs.Quiet.QuietPremises.{quietly-then-given}
+use Rattle.qcow2_alloc.proofs.Quiet.QuietSequences.{quietly-otherwise}
 use Rattle.qcow2_alloc.proofs.Blocks.RunProvision.{leaks-on, leaks-ok}
 
 -- No cluster is covered by a run that is no part of it.

@@ -41,7 +41,7 @@ use Rattle.qcow2_alloc.proofs.Searching.SearchesBeforeCounts.{looked-allocates, 
 use Rattle.qcow2_alloc.specs.Crowding.{IsCrowded, IsGapless, IsRoomy, TakesLittle, room_for}
 use Rattle.qcow2_alloc.specs.State.{ImageState, lent, metadata, IsGuarded, with_mark, AllocatorState}
 use Rattle.qcow2_alloc.proofs.Space.GaplessRuns.{gapless-same, gapless-then, made-gapless}
-use Rattle.qcow2_alloc.proofs.Caching.Loose.{loose-all}
+use Rattle.qcow2_alloc.proofs.Caching.UnpinnedCaches.{loose-all}
 use Rattle.qcow2_alloc.proofs.Space.RoomyRuns.{RoomStays, stays-start, stays-searched, room-left, run-counted, run-early, run-fits, can-make, stays-made}
 use Rattle.qcow2_alloc.proofs.Blocks.BlockCreationCalls.{first-counted, freeing-allocates}
 use Rattle.qcow2_alloc.proofs.Blocks.RunProvision.{leaks-none, leaks-on, leaks-ok}

@@ -29,7 +29,7 @@ use Rattle.qcow2_alloc.specs.SearchingClusters.{LooksForFree}
 use Rattle.qcow2_alloc.specs.State.{lent, metadata, IsGuarded, with_mark, AllocatorState}
 use Rattle.qcow2_alloc.proofs.Causes.{cause-weaker}
 use Rattle.qcow2_alloc.proofs.Blocks.BlockCreationCalls.{counting-allocates, freeing-allocates}
-use Rattle.qcow2_alloc.proofs.Flushing.Faultless.{faultless-then}
+use Rattle.qcow2_alloc.proofs.Flushing.FaultlessCalls.{faultless-then}
 use Rattle.qcow2_alloc.proofs.Space.RoomConsumption.{covered-inside}
 use Rattle.qcow2_alloc.proofs.Handing.CountSequences.{moved-none}
 use Rattle.qcow2_alloc.proofs.Blocks.ClusterCounts.{one-run}
@@ -37,11 +37,11 @@ use Rattle.qcow2_alloc.proofs.Handing.SingleCounts.{handed_so, not_handed}
 use Rattle.qcow2_alloc.proofs.Handing.ClustersHandedOut.{handed-unnamed}
 use Rattle.qcow2_alloc.proofs.Freeing.ClusterOccurrences.{covers-none}
 use Rattle.qcow2_alloc.proofs.Searching.SearchesBeforeCounts.{sound-safe, counts-looked, looked-allocates, counted-found, free-found}
-use Rattle.qcow2_alloc.proofs.Caching.Loose.{loose-all}
+use Rattle.qcow2_alloc.proofs.Caching.UnpinnedCaches.{loose-all}
 use Rattle.qcow2_alloc.proofs.Quiet.QuietCounters.{here-one, away-none}
 use Rattle.qcow2_alloc.proofs.Quiet.QuietFlushes.{quietly-weaker}
-use Rattle.qcow2_alloc.proofs.Quiet.QuietGiven.{quietly-then-given}
-use Rattle.qcow2_alloc.proofs.Quiet.QuietThen.{quietly-otherwise}
+use Rattle.qcow2_alloc.proofs.Quiet.QuietPremises.{quietly-then-given}
+use Rattle.qcow2_alloc.proofs.Quiet.QuietSequences.{quietly-otherwise}
 use Rattle.qcow2_alloc.proofs.Blocks.RunProvision.{leaks-none}
 
 -- The place that was found is the one, or isn't.

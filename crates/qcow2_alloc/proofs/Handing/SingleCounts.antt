@@ -20,7 +20,7 @@ use Rattle.qcow2_alloc.proofs.Blocks.ClusterCounts.{one-counted}
 use Rattle.qcow2_alloc.proofs.Freeing.ClusterOccurrences.{covers-none}
 use Rattle.qcow2_alloc.proofs.Blocks.BlockCreationCalls.{first-counted}
 use Rattle.qcow2_alloc.proofs.Quiet.QuietFlushes.{memory-quietly, quiet-none}
-use Rattle.qcow2_alloc.proofs.Quiet.QuietThen.{quietly-otherwise}
+use Rattle.qcow2_alloc.proofs.Quiet.QuietSequences.{quietly-otherwise}
 
 -- what is answered with clusters, and where that is refused
 abbrev pub handed_so : Option FreeEntry → Result (Option FreeEntry) Fault

@@ -28,7 +28,7 @@ use Rattle.qcow2_types.proofs.Counting.Either.{structure-same, refs-file, refs-c
 use Rattle.qcow2_metadata.specs.Blocks.{Block, BlockPut, counters_in}
 use Rattle.qcow2_types.proofs.Numbers.BlockBytes.{bytes-only}
 use Rattle.qcow2_types.proofs.Changes.BlockSteps.{counters-written}
-use Rattle.qcow2_alloc.proofs.Quiet.AtOnce.{at-once-file}
+use Rattle.qcow2_alloc.proofs.Quiet.SingleRequests.{at-once-file}
 use Rattle.qcow2_alloc.specs.Memory.{patches}
 use Rattle.qcow2_alloc.specs.Safety.{Safe, IsCachedBlock}
 use Rattle.qcow2_alloc.specs.MakingRoom.{CountsTheSame}
@@ -37,9 +37,9 @@ use Rattle.qcow2_alloc.proofs.Memory.MemoryImage.{safe-memory}
 use Rattle.qcow2_alloc.proofs.Memory.MemoryWords.{places-in-memory}
 use Rattle.qcow2_alloc.proofs.Memory.Patches.{all-weaker, block-length, place-there, shaped-in}
 use Rattle.qcow2_alloc.proofs.Quiet.QuietFlushes.{still-table}
-use Rattle.qcow2_alloc.proofs.Quiet.QuietShows.{from-start, mapping-meets, in-cluster}
-use Rattle.qcow2_alloc.proofs.Memory.FitsByWords.{table-fits, counters-same}
-use Rattle.qcow2_alloc.proofs.Memory.WordsKept.{word-named, named-more, copied-stays, ordered-still, block-fits}
+use Rattle.qcow2_alloc.proofs.Quiet.ShownDisks.{from-start, mapping-meets, in-cluster}
+use Rattle.qcow2_alloc.proofs.Memory.FittingWords.{table-fits, counters-same}
+use Rattle.qcow2_alloc.proofs.Memory.KeptWords.{word-named, named-more, copied-stays, ordered-still, block-fits}
 
 -- What is in memory agrees where the file does.
 pub over-agrees : (f g : Bytes) (es : List Patch) (p : ℕ) → f p ≡ g p → over f es p ≡ over g es p

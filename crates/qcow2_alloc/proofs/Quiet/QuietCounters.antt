@@ -17,7 +17,7 @@ use Rattle.qcow2_alloc.specs.Safety.{Safe}
 use Rattle.qcow2_alloc.specs.Quiet.{Metadata, metadata_in, in_memory, counted, referenced, named_at_all, waiting, waiting_metadata, one_at, IsSound, IsQuiet}
 use Rattle.qcow2_alloc.proofs.Memory.CounterChanges.{counter-raised, counter-lowered}
 use Rattle.qcow2_alloc.proofs.Memory.MemoryWords.{places-in-memory}
-use Rattle.qcow2_alloc.proofs.Quiet.QuietShows.{file-shows}
+use Rattle.qcow2_alloc.proofs.Quiet.ShownDisks.{file-shows}
 
 -- A counter changes with the list of what waits to be freed.
 module _ (m : Metadata) (c n : ℕ) (cached' : Cached) (pending' : List FreeEntry) (handed taken : ℕ → ℕ) (sound : IsSound m) (changed : CounterChanged m.file m.header m.order m.cached c n cached')

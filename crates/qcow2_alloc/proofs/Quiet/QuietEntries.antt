@@ -15,7 +15,7 @@ use Rattle.qcow2_alloc.specs.Memory.{Cached}
 use Rattle.qcow2_alloc.specs.Safety.{Safe}
 use Rattle.qcow2_alloc.specs.Quiet.{IsTableOf, Metadata, metadata_in, covers_metadata, counted, referenced, named_at_all, waiting, one_at, IsSound, IsQuiet}
 use Rattle.qcow2_alloc.proofs.Freeing.ClusterOccurrences.{listed_push, covers-parts}
-use Rattle.qcow2_alloc.proofs.Quiet.QuietShows.{file-shows}
+use Rattle.qcow2_alloc.proofs.Quiet.ShownDisks.{file-shows}
 
 -- An entry of metadata counts as it does among all, and no other does.
 listed-metadata : (c : ℕ) (entries : List FreeEntry) → listed (metadata_in entries) c ≡ sum_by (covers_metadata c) entries

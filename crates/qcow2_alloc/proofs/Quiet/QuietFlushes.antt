@@ -18,7 +18,7 @@ use Rattle.qcow2_alloc.specs.Changes.{StaysAsItIs}
 use Rattle.qcow2_alloc.specs.Going.{Going, Always}
 use Rattle.qcow2_alloc.specs.Quiet.{IsTableOf, Metadata, in_memory, counted, referenced, waiting, IsSound, IsQuiet, IsIn, Quietly}
 use Rattle.qcow2_alloc.proofs.Flushing.WriteSequences.{left-same}
-use Rattle.qcow2_alloc.proofs.Quiet.QuietShows.{left-shows, left-same-there}
+use Rattle.qcow2_alloc.proofs.Quiet.ShownDisks.{left-shows, left-same-there}
 
 -- The refcount table in memory is still the file's where that names the same blocks.
 pub still-table : (f x : Bytes) (h : Fields) (table : TableValue) → ((i : ℕ) → block_at x h i ≡ block_at f h i) → IsTableOf f h table → IsTableOf x h table

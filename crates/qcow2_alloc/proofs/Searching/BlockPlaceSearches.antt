@@ -22,7 +22,7 @@ use Rattle.qcow2_alloc.specs.SearchingClusters.{IsSafeWith, Looked, LooksForFree
 use Rattle.qcow2_alloc.specs.State.{ImageState, lent, metadata}
 use Rattle.qcow2_alloc.proofs.Causes.{cause-weaker}
 use Rattle.qcow2_alloc.proofs.Searching.FreeClusters.{flushes-count}
-use Rattle.qcow2_alloc.proofs.Caching.Loose.{loose-all}
+use Rattle.qcow2_alloc.proofs.Caching.UnpinnedCaches.{loose-all}
 use Rattle.qcow2_alloc.proofs.Blocks.BlockCreationCalls.{Follows, begins-none, begins-then, begins-refused, freeing-allocates}
 use Rattle.qcow2_alloc.proofs.Quiet.QuietFlushes.{going-quietly}
 

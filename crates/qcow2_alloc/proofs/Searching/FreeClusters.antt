@@ -22,7 +22,7 @@ use Rattle.qcow2_alloc.proofs.Memory.MemoryWords.{counts-same}
 use Rattle.qcow2_alloc.proofs.Memory.SafeLaws.{settled-names}
 use Rattle.qcow2_alloc.proofs.Freeing.ClusterOccurrences.{covers-meets}
 use Rattle.qcow2_alloc.proofs.Quiet.QuietEntries.{push-quiet}
-use Rattle.qcow2_alloc.proofs.Memory.WordsKept.{structure-named}
+use Rattle.qcow2_alloc.proofs.Memory.KeptWords.{structure-named}
 
 -- While blocks are written first, what isn't counted in memory is named nowhere, and nothing waits to free it.
 pub uncounted-free : (m : Metadata) → IsSound m → m.order ≡ L2DependsOnRb → (c : ℕ) → counted m c ≡ 0 → (named_at_all m c ≡ 0) × (waiting m c ≡ 0) × (IsUsed m c → ⊥)

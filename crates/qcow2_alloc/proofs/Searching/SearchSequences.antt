@@ -34,7 +34,7 @@ use Rattle.qcow2_alloc.specs.Quiet.{IsTableOf}
 use Rattle.qcow2_alloc.specs.Safety.{Safe, IsSettled, IsCachedBlock}
 use Rattle.qcow2_alloc.specs.Scanning.{Reads, AreCounted}
 use Rattle.qcow2_alloc.specs.SearchingClusters.{counts_in, IsSafeWith, KeepsClean, Looked}
-use Rattle.qcow2_alloc.proofs.Caching.Loose.{loose-on, loose-never}
+use Rattle.qcow2_alloc.proofs.Caching.UnpinnedCaches.{loose-on, loose-never}
 use Rattle.qcow2_alloc.proofs.Caching.Pins.{pins-hit}
 use Rattle.qcow2_alloc.proofs.Causes.{cause-weaker, Implies, fails-weaker}
 use Rattle.qcow2_alloc.proofs.Flushing.WriteSequences.{going-none, going-both, going-weaker, kept-same, left-same}

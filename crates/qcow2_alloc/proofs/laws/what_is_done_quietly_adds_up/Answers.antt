@@ -1,6 +1,6 @@
 use Rattle.std.proofs.Common.{inl}
 use Rattle.qcow2_alloc.specs.Going.{WasNotCutOff}
-use Rattle.qcow2_alloc.proofs.Quiet.QuietThen.{calmly-then, quietly-then, quietly-otherwise}
+use Rattle.qcow2_alloc.proofs.Quiet.QuietSequences.{calmly-then, quietly-then, quietly-otherwise}
 use Rattle.qcow2_alloc.proofs.laws.what_is_done_quietly_adds_up.Goals as goal
 
 pub returns : goal.returns

@@ -1,6 +1,6 @@
 use Rattle.imago_storage.specs.declared.fault.Fault.{Fault}
 use Rattle.std.proofs.Common.{◌≡◌, Result, Ok}
-use Rattle.qcow2_alloc.proofs.Quiet.QuietGiven.{quietly-given, quietly-then-given}
+use Rattle.qcow2_alloc.proofs.Quiet.QuietPremises.{quietly-given, quietly-then-given}
 use Rattle.qcow2_alloc.proofs.laws.what_is_done_quietly_may_use_what_was_done.Goals as goal
 
 pub returns : goal.returns

@@ -1,4 +1,4 @@
-use Rattle.qcow2_alloc.proofs.Quiet.AtOnce.{put-whole}
+use Rattle.qcow2_alloc.proofs.Quiet.SingleRequests.{put-whole}
 use Rattle.qcow2_alloc.proofs.laws.what_is_written_quietly.Goals as goal
 
 pub returns : goal.returns

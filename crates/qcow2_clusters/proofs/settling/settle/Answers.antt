@@ -1,7 +1,7 @@
 use Rattle.std.proofs.Common.{ap, ◌∙◌}
 use Rattle.qcow2_alloc.specs.Caches.{HasRoomOf, cached_in, order_of}
 use Rattle.qcow2_alloc.specs.Memory.{Cached}
-use Rattle.qcow2_alloc.proofs.Caching.Lengths.{all-long}
+use Rattle.qcow2_alloc.proofs.Caching.FileLengths.{all-long}
 use Rattle.qcow2_alloc.proofs.Faults.{handed-on}
 use Rattle.qcow2_clusters.proofs.Settlement.{done_so, flushed-still, refused_so, settled-refused, settled-whole, unpinned-blocks, unpinned-tables}
 use Rattle.qcow2_clusters.proofs.settling.settle.Goals as goal

@@ -1,7 +1,7 @@
 use Rattle.std.proofs.Common.{ap, ◌∙◌}
 use Rattle.qcow2_alloc.specs.Caches.{cached_in, order_of}
 use Rattle.qcow2_alloc.specs.Memory.{Cached}
-use Rattle.qcow2_alloc.proofs.Caching.Lengths.{all-long}
+use Rattle.qcow2_alloc.proofs.Caching.FileLengths.{all-long}
 use Rattle.qcow2_clusters.specs.Settling.{without_tables}
 use Rattle.qcow2_clusters.proofs.Settlement.{blocks-dropped, done_so, flushed-still, loose-flushed, refused_so, settled-refused, settled-whole, tables-kept, without-tables-empty}
 use Rattle.qcow2_clusters.proofs.settling.settle_keeping_tables.Goals as goal

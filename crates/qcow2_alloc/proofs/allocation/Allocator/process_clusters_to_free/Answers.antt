@@ -10,7 +10,7 @@ use Rattle.qcow2_alloc.specs.FreeList.{FreeList}
 use Rattle.qcow2_alloc.specs.Freeing.{Frees, IsRest, IsRestInTurn, data_in}
 use Rattle.qcow2_alloc.specs.Quiet.{metadata_in}
 use Rattle.qcow2_alloc.specs.State.{lent, with_mark}
-use Rattle.qcow2_alloc.proofs.Caching.Lengths.{announced-long}
+use Rattle.qcow2_alloc.proofs.Caching.FileLengths.{announced-long}
 use Rattle.qcow2_alloc.proofs.Freeing.EntryFrees.{frees-then, freed, failed}
 use Rattle.qcow2_alloc.proofs.Freeing.FreesInTurn.{announcing-frees}
 use Rattle.qcow2_alloc.proofs.Freeing.ListRemainders.{order-announced, rest-none, rest-of-data, rest-without-metadata}

@@ -1,4 +1,4 @@
-use Rattle.qcow2_alloc.proofs.Caching.Empty.{empty-safe}
+use Rattle.qcow2_alloc.proofs.Caching.EmptyCaches.{empty-safe}
 use Rattle.qcow2_alloc.proofs.cache.MetadataCaches.new.Goals as goal
 
 pub returns-clause-safe : goal.returns-clause-safe

@@ -17,7 +17,7 @@ use Rattle.qcow2_metadata.specs.Blocks.{Block, counters_in}
 use Rattle.qcow2_alloc.specs.declared.cache.CacheDependency.{CacheDependency}
 use Rattle.qcow2_alloc.specs.declared.cache.CacheDependency.TheVariants.{Unset, L2DependsOnRb, RbDependsOnL2}
 use Rattle.qcow2_alloc.specs.Safety.{IsLiveBlock, IsCachedBlock, IsOrdered}
-use Rattle.qcow2_alloc.proofs.Quiet.QuietThen.{of-moved}
+use Rattle.qcow2_alloc.proofs.Quiet.QuietSequences.{of-moved}
 
 -- What a word names as copied doesn't depend on the refcount table.
 copied-moved : (h h' : Fields) → cluster_size h' ≡ cluster_size h → (w : Weight) (m : Mapping) → of_copied h' w m ≡ of_copied h w m

@@ -22,7 +22,7 @@ use Rattle.qcow2_metadata.specs.Tables.{TableValue}
 use Rattle.qcow2_alloc.specs.Quiet.{Metadata, counted, in_memory, referenced, waiting, IsUsed, IsSound, ShowsEither, IsQuiet, Quietly}
 use Rattle.qcow2_alloc.specs.Safety.{IsCalm}
 use Rattle.qcow2_alloc.proofs.Memory.MemoryWords.{places-in-memory}
-use Rattle.qcow2_alloc.proofs.Quiet.QuietShows.{mapping-meets, in-cluster, named-apart}
+use Rattle.qcow2_alloc.proofs.Quiet.ShownDisks.{mapping-meets, in-cluster, named-apart}
 
 -- A word names what it does whatever the refcount table.
 pub of-moved : (h h' : Fields) → cluster_size h' ≡ cluster_size h → (w : Weight) (m : Mapping) → of_mapping h' w m ≡ of_mapping h w m

@@ -8,7 +8,7 @@ use Rattle.imago_storage.proofs.Composing.{no_stops, one_stop, tells_on, keeps_o
 use Rattle.qcow2_types.specs.Bytes.{Bytes, bytes_of, splice}
 use Rattle.qcow2_types.specs.Header.{Header}
 use Rattle.qcow2_alloc.specs.Quiet.{Metadata, IsSound, IsQuiet, ShowsEither, IsIn, Quietly}
-use Rattle.qcow2_alloc.proofs.Flushing.Faultless.{never-mild}
+use Rattle.qcow2_alloc.proofs.Flushing.FaultlessCalls.{never-mild}
 use Rattle.qcow2_alloc.proofs.Flushing.EntryFlushes.{spliced-bytes}
 use Rattle.qcow2_alloc.specs.Going.{WasNotCutOff}
 use Rattle.qcow2_alloc.proofs.Quiet.QuietFlushes.{quietly-weaker}

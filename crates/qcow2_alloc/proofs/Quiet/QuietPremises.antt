@@ -5,7 +5,7 @@ use Rattle.imago_storage.specs.State.{StorageState}
 use Rattle.imago_storage.specs.Calls.{Later}
 use Rattle.imago_storage.proofs.Composing.{later_both}
 use Rattle.qcow2_alloc.specs.Quiet.{Metadata, referenced, IsSound, IsQuiet, Quietly}
-use Rattle.qcow2_alloc.proofs.Quiet.QuietThen.{quietly-then}
+use Rattle.qcow2_alloc.proofs.Quiet.QuietSequences.{quietly-then}
 
 -- That the storage keeps what is written, and that the image was sound, may be used to show that a call is quiet,
 pub quietly-given : (ok : Type 0) (handed taken : ℕ → ℕ) (s : StorageState) (m : Metadata) (s' : StorageState) (m' : Metadata) → s'.shape ≡ s.shape → Later s s' → (IsTrue s.shape.keeps → IsSound m → Quietly ok handed taken s m s' m') → Quietly ok handed taken s m s' m'
