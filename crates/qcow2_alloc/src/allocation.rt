@@ -42,7 +42,7 @@ impl Allocator {
     ghost use Rattle.qcow2_alloc.specs.HandingOut.{AllocatesClusters, AllocatesClusterAt, GrowsReftable, held_at, held_by};
     ghost use Rattle.qcow2_alloc.specs.ReadyingRuns.{Spares};
     ghost use Rattle.qcow2_alloc.specs.Quiet.{metadata_in};
-    ghost use Rattle.qcow2_alloc.specs.State.{lent_to, seen, with_mark};
+    ghost use Rattle.qcow2_alloc.specs.State.{lent_to, seen};
 
     /// The allocator of an image: its refcount table is loaded, and the search for free clusters begins at cluster 0.
     ///
@@ -132,7 +132,7 @@ impl Allocator {
         requires some { 0 < (entry_at list.old.entries index).count }
         ensures frees { MayFree (order_of caches.old) (entry_at list.old.entries index)
             → Frees S.state (lent_to self.old caches.old file.old list.old) result
-            (with_mark (seen self.old caches.new file.new list.new) (mark_of self.new)) }
+            (lent_to self.new caches.new file.new list.new) }
         ensures order { order_of caches.new ≡ order_of caches.old }
         ensures table { table_of self.new ≡ table_of self.old }
         ensures ok { OnOk result (list.new.entries ≡ shortened list.old.entries index 1) }
@@ -158,7 +158,7 @@ impl Allocator {
         requires inside { index < length list.old.entries }
         ensures frees { MayFree (order_of caches.old) (entry_at list.old.entries index)
             → Frees S.state (lent_to self.old caches.old file.old list.old) result
-            (with_mark (seen self.old caches.new file.new list.new) (mark_of self.new)) }
+            (lent_to self.new caches.new file.new list.new) }
         ensures order { order_of caches.new ≡ order_of caches.old }
         ensures table { table_of self.new ≡ table_of self.old }
         ensures ok { OnOk result (list.new.entries ≡ remove list.old.entries index) }
@@ -182,7 +182,7 @@ impl Allocator {
         list: &mut ClustersToFreeList,
     ) -> Result<(), Fault>
         ensures frees { Frees S.state (lent_to self.old caches.old file.old list.old) result
-            (with_mark (seen self.old caches.new file.new list.new) (mark_of self.new)) }
+            (lent_to self.new caches.new file.new list.new) }
         ensures order { order_of caches.new ≡ order_of caches.old }
         ensures table { table_of self.new ≡ table_of self.old }
         ensures ok { OnOk result (list.new.entries ≡ data_in list.old.entries) }
@@ -206,7 +206,7 @@ impl Allocator {
     ) -> Result<(), Fault>
         ensures frees { order_of caches.old ≡ RbDependsOnL2
             → Frees S.state (lent_to self.old caches.old file.old list.old) result
-            (with_mark (seen self.old caches.new file.new list.new) (mark_of self.new)) }
+            (lent_to self.new caches.new file.new list.new) }
         ensures order { order_of caches.new ≡ order_of caches.old }
         ensures table { table_of self.new ≡ table_of self.old }
         ensures ok { OnOk result (list.new.entries ≡ []) }
@@ -236,7 +236,7 @@ impl Allocator {
         list: &mut ClustersToFreeList,
     ) -> Result<(), Fault>
         ensures frees { Frees S.state (lent_to self.old caches.old file.old list.old) result
-            (with_mark (seen self.old caches.new file.new list.new) (mark_of self.new)) }
+            (lent_to self.new caches.new file.new list.new) }
         ensures table { table_of self.new ≡ table_of self.old }
         ensures ok { OnOk result (list.new.entries ≡ []) }
         ensures left { IsRestInTurn list.old.entries list.new.entries }

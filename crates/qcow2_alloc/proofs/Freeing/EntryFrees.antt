@@ -23,7 +23,7 @@ use Rattle.qcow2_alloc.specs.Freeing.{IsUnbarred, Frees, MayFree, IsWholeOrCalm,
 use Rattle.qcow2_alloc.specs.FreeList.{entry_at, shorter, shortened, listed}
 use Rattle.qcow2_alloc.specs.Going.{WasNotCutOff}
 use Rattle.qcow2_alloc.specs.Quiet.{Metadata, IsSound, IsQuiet, counted, in_memory, waiting, waiting_metadata, metadata_in}
-use Rattle.qcow2_alloc.specs.State.{lent, with_mark}
+use Rattle.qcow2_alloc.specs.State.{AllocatorState, lent, metadata, with_mark}
 use Rattle.qcow2_alloc.proofs.Causes.{Implies, fails-weaker}
 use Rattle.qcow2_alloc.proofs.Flushing.FaultlessCalls.{faultless-then, named-faultless}
 use Rattle.qcow2_alloc.proofs.Freeing.ClusterFrees.{LosesOne, left, cluster-freed, freeing-caused, counts-stay, freeing-stays}
@@ -183,20 +183,20 @@ freed = Ok tt
 abbrev pub failed : Fault → Result Unit Fault
 failed fault = Err fault
 
-module _ {S : Type 0} (state : S → StorageState) (table : TableValue) where
+module _ {S : Type 0} (state : S → StorageState) where
   -- None,
-  pub frees-none : (old : MetadataCaches S) (before : ImageFile S) (mark : ℕ) (es : List FreeEntry) → Frees state (with_mark (lent table old before es) mark) freed (with_mark (lent table old before es) mark)
-  frees-none old before mark es =
-      let m = metadata_of state before old table es in
+  pub frees-none : (s : AllocatorState S) → Frees state s freed s
+  frees-none s =
+      let m = metadata state s.image in
       record {
         faults = λ whole. (refl, refl);
-        quiet = memory-quietly _ (λ _. 0) (λ _. 0) (state before.image) m m (λ sound whole. (sound, quiet-none m sound));
+        quiet = memory-quietly _ (λ _. 0) (λ _. 0) (state s.file.image) m m (λ sound whole. (sound, quiet-none m sound));
         marked = λ keeps sound whole marked. marked;
         lower = omega arith;
         fallen = inl refl;
         header = refl;
         no_shorter = omega arith;
-        pins = pins-none (cached_in old).blocks (cached_in old).blocks refl;
+        pins = pins-none (cached_in s.caches).blocks (cached_in s.caches).blocks refl;
         room = record { tables = refl; blocks = refl; entries = refl };
         less = λ d. omega arith;
         fewer = omega arith;
@@ -204,10 +204,9 @@ module _ {S : Type 0} (state : S → StorageState) (table : TableValue) where
       }
 
   -- and some more.
-  pub frees-then : (A : MetadataCaches S) (fA : ImageFile S) (mark : ℕ) (es : List FreeEntry) (B : MetadataCaches S) (fB : ImageFile S) (mark1 : ℕ) (es1 : List FreeEntry) (result : Result Unit Fault) (C : MetadataCaches S) (fC : ImageFile S) (mark2 : ℕ) (es2 : List FreeEntry)
-      → Frees state (with_mark (lent table A fA es) mark) freed (with_mark (lent table B fB es1) mark1) → Frees state (with_mark (lent table B fB es1) mark1) result (with_mark (lent table C fC es2) mark2) → Frees state (with_mark (lent table A fA es) mark) result (with_mark (lent table C fC es2) mark2)
-  frees-then A fA mark es B fB mark1 es1 result C fC mark2 es2 first second =
-      let on : IsTrue (state fA.image).shape.keeps → IsTrue (state fB.image).shape.keeps = keeps_on (state fA.image) (state fB.image) first.quiet.shape in
+  pub frees-then : (a b : AllocatorState S) (result : Result Unit Fault) (c : AllocatorState S) → Frees state a freed b → Frees state b result c → Frees state a result c
+  frees-then a b result c first second =
+      let on : IsTrue (state a.file.image).shape.keeps → IsTrue (state b.file.image).shape.keeps = keeps_on (state a.file.image) (state b.file.image) first.quiet.shape in
       let le = first.lower in
       let le' = second.lower in
       let few = first.fewer in
@@ -216,41 +215,42 @@ module _ {S : Type 0} (state : S → StorageState) (table : TableValue) where
       let long' = second.no_shorter in
       record {
         faults = λ whole. faultless-then (first.faults tt) (second.faults whole);
-        quiet = calmly-then _ (WasNotCutOff result) (λ _. 0) (λ _. 0) (λ _. 0) (λ _. 0) (state fA.image) (metadata_of state fA A table es) (state fB.image) (metadata_of state fB B table es1) (state fC.image) (metadata_of state fC C table es2) (inl tt) (λ sound d some. refl) first.quiet second.quiet;
+        quiet = calmly-then _ (WasNotCutOff result) (λ _. 0) (λ _. 0) (λ _. 0) (λ _. 0) (state a.file.image) (metadata state a.image) (state b.file.image) (metadata state b.image) (state c.file.image) (metadata state c.image) (inl tt) (λ sound d some. refl) first.quiet second.quiet;
         marked = λ keeps sound why marked. second.marked (on keeps) (first.quiet.holds keeps sound (inl tt)).0 (behind keeps sound why) (first.marked keeps sound (inl tt) marked);
         lower = omega (arith, le, le');
-        fallen = fallen-then mark mark1 mark2 es es1 es2 first.less second.less first.fallen second.fallen;
+        fallen = fallen-then a.mark b.mark c.mark a.pending b.pending c.pending first.less second.less first.fallen second.fallen;
         header = second.header ∙ first.header;
         no_shorter = omega (arith, long, long');
-        pins = pins-then (cached_in A).blocks (cached_in B).blocks (cached_in C).blocks first.pins second.pins;
+        pins = pins-then (cached_in a.caches).blocks (cached_in b.caches).blocks (cached_in c.caches).blocks first.pins second.pins;
         room = record { tables = second.room.tables ∙ first.room.tables; blocks = second.room.blocks ∙ first.room.blocks; entries = second.room.entries ∙ first.room.entries };
         less = λ d. let l = first.less d in let l' = second.less d in omega (arith, l, l');
         fewer = omega (arith, few, few');
-        cause = fails-weaker _ _ (freeing-weaker (λ holds. (on holds.0, (first.quiet.holds holds.0 holds.1 (inl tt)).0)) (spare-on A B first.pins first.room.blocks) first.cause) (λ same. same ∙ first.cause) result second.cause;
+        cause = fails-weaker _ _ (freeing-weaker (λ holds. (on holds.0, (first.quiet.holds holds.0 holds.1 (inl tt)).0)) (spare-on a.caches b.caches first.pins first.room.blocks) first.cause) (λ same. same ∙ first.cause) result second.cause;
       }
     where
-      behind : IsTrue (state fA.image).shape.keeps → IsSound (metadata_of state fA A table es) → IsWholeOrCalm result (state fA.image) (state fC.image) → IsWholeOrCalm result (state fB.image) (state fC.image)
+      behind : IsTrue (state a.file.image).shape.keeps → IsSound (metadata state a.image) → IsWholeOrCalm result (state a.file.image) (state c.file.image) → IsWholeOrCalm result (state b.file.image) (state c.file.image)
       behind keeps sound why = elim why [
         | inl whole ↦ inl whole
-        | inr calm ↦ inr (calm-behind _ (λ _. 0) (λ _. 0) (state fA.image) (metadata_of state fA A table es) (state fB.image) (metadata_of state fB B table es1) (state fC.image) keeps sound first.quiet second.quiet.later calm)
+        | inr calm ↦ inr (calm-behind _ (λ _. 0) (λ _. 0) (state a.file.image) (metadata state a.image) (state b.file.image) (metadata state b.image) (state c.file.image) keeps sound first.quiet second.quiet.later calm)
       ]
 
   -- An entry of no clusters is taken off the list.
-  pub empty-removed : (old : MetadataCaches S) (before : ImageFile S) (mark : ℕ) (es : List FreeEntry) (i : ℕ) → i < length es → (entry_at es i).count ≡ 0 → Frees state (with_mark (lent table old before es) mark) freed (with_mark (lent table old before (remove es i)) mark)
-  empty-removed old before mark es i inside none =
-      let m = metadata_of state before old table es in
+  pub empty-removed : (s : AllocatorState S) (i : ℕ) → i < length s.pending → (entry_at s.pending i).count ≡ 0 → Frees state s freed (with_mark (lent s.table s.caches s.file (remove s.pending i)) s.mark)
+  empty-removed s i inside none =
+      let m = metadata state s.image in
+      let es = s.pending in
       let less : (d : ℕ) → listed (remove es i) d ≡ listed es d = λ d. let off = listed-remove es i d inside in let zero = covers-none d (entry_at es i) none in omega (arith, off, zero) in
       let metadata : (d : ℕ) → listed (metadata_in (remove es i)) d ≤ listed (metadata_in es) d = λ d. let off = metadata-remove es i d inside in omega (arith, off) in
       let long = length-remove es i inside in
       record {
         faults = λ whole. (refl, refl);
-        quiet = memory-quietly _ (λ _. 0) (λ _. 0) (state before.image) m (record m { pending = remove es i }) (λ sound whole. waits-quiet m (remove es i) sound less metadata);
+        quiet = memory-quietly _ (λ _. 0) (λ _. 0) (state s.file.image) m (record m { pending = remove es i }) (λ sound whole. waits-quiet m (remove es i) sound less metadata);
         marked = λ keeps sound whole marked. marked;
         lower = omega arith;
         fallen = inl refl;
         header = refl;
         no_shorter = omega arith;
-        pins = pins-none (cached_in old).blocks (cached_in old).blocks refl;
+        pins = pins-none (cached_in s.caches).blocks (cached_in s.caches).blocks refl;
         room = record { tables = refl; blocks = refl; entries = refl };
         less = λ d. let same = less d in omega (arith, same);
         fewer = omega (arith, long);

@@ -25,7 +25,7 @@ use Rattle.qcow2_alloc.specs.Going.{Going, Always, IsNoShorter, AreBlocksInReach
 use Rattle.qcow2_alloc.specs.Memory.{Cached, memory, written, written_block}
 use Rattle.qcow2_alloc.specs.Quiet.{Metadata, IsSound, Quietly, metadata_in}
 use Rattle.qcow2_alloc.specs.Safety.{Safe, IsCalm}
-use Rattle.qcow2_alloc.specs.State.{ImageState, lent, metadata, with_mark}
+use Rattle.qcow2_alloc.specs.State.{AllocatorState, lent, metadata, with_mark}
 use Rattle.qcow2_alloc.proofs.Flushing.FlushRefusals.{never-refused, writing-implies}
 use Rattle.qcow2_alloc.proofs.Causes.{cause-weaker}
 use Rattle.qcow2_alloc.proofs.Caching.UnpinnedCaches.{kept-tables}
@@ -35,10 +35,10 @@ use Rattle.qcow2_alloc.proofs.Quiet.QuietFlushes.{flushes-quietly, quietly-weake
 use Rattle.qcow2_alloc.proofs.Memory.SafeLaws.{safe-reach}
 
 -- The order is announced.
-module _ {S : Type 0} (state : S → StorageState) (s : ImageState S) (new : MetadataCaches S) (after : ImageFile S) (mark : ℕ)
+module _ {S : Type 0} (state : S → StorageState) (s : AllocatorState S) (new : MetadataCaches S) (after : ImageFile S)
     (kept : written (cached_in new) ≡ written (cached_in s.caches)) (header : after.header ≡ s.file.header) (room : HasRoomOf s.caches new) where
   abbrev Old : Metadata
-  Old = metadata state s
+  Old = metadata state s.image
 
   abbrev New : Metadata
   New = metadata_of state after new s.table s.pending
@@ -52,7 +52,7 @@ module _ {S : Type 0} (state : S → StorageState) (s : ImageState S) (new : Met
   abbrev Succeeds : Result Unit Fault → Type 0
   Succeeds result = result ≡ Ok tt
 
-  still-marked : (result : Result Unit Fault) → Goes result → IsTrue (state s.file.image).shape.keeps → IsSound Old → Succeeds result ⊎ IsCalm (state s.file.image) (state after.image) → IsMarked Old mark → IsMarked New mark
+  still-marked : (result : Result Unit Fault) → Goes result → IsTrue (state s.file.image).shape.keeps → IsSound Old → Succeeds result ⊎ IsCalm (state s.file.image) (state after.image) → IsMarked Old s.mark → IsMarked New s.mark
   still-marked result going keeps sound why marked d below =
       let settled = going.holds keeps sound.safe tt why in
       let was = marked d below in
@@ -60,7 +60,7 @@ module _ {S : Type 0} (state : S → StorageState) (s : ImageState S) (new : Met
 
   pub announcing-frees : (result : Result Unit Fault) → Goes result → OnOk result (order_of new ≡ RbDependsOnL2) → OnErr result (order_of new ≡ order_of s.caches) → OnOk result ((f : Bytes) (H : Header) → Safe f H (cached_in new) (order_of s.caches) → Safe f H (cached_in new) RbDependsOnL2)
       → FailsFor (writing_causes (AreBlocksInReach (cached_in s.caches)) (state s.file.image).faults (state after.image).faults) result → (WasNotCutOff result → IsFaultless (state s.file.image) (state after.image))
-      → IsNoShorter (state s.file.image) (state after.image) → Frees state (with_mark s mark) result (with_mark (lent s.table new after s.pending) mark)
+      → IsNoShorter (state s.file.image) (state after.image) → Frees state s result (with_mark (lent s.table new after s.pending) s.mark)
   announcing-frees (Ok done) going order stays safe counts faultless long =
       let announced = announced-quietly Old RbDependsOnL2 (Ok tt) (state s.file.image) (state after.image) (cached_in new) refl going safe in
       let quiet = whole-quietly Old (AreBlocksInReach (cached_in s.caches)) (state s.file.image).faults (state after.image).faults (Ok tt) (λ _. 0) (λ _. 0) (state s.file.image) (state after.image) _ (λ reach. reach.1) counts announced in

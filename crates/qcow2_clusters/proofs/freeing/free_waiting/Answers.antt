@@ -20,8 +20,5 @@ returns g c =
     let state = g.S.Storage.state in
     let old = lent c.args.file.now c.args.caches.now c.args.space.now in
     let mid = lent freed.new.file freed.new.caches (record { allocator = freed.new.self; to_free = freed.new.list }) in
-    let frees : Frees state (lent_by old) freed.result (lent_by mid) =
-    subst (λ (t : TableValue). Frees state (lent_by old) freed.result (with_mark (allocating t freed.new.caches freed.new.file freed.new.list.entries) (mark_of freed.new.self)))
-    (sym freed.ensures.table) freed.ensures.frees in
-    frees-waiting state old c.requires.rest c.requires.room mid freed.result frees
+    frees-waiting state old c.requires.rest c.requires.room mid freed.result freed.ensures.frees
     c.settle.result c.settle.new.file c.settle.new.caches c.settle.ensures freed.ensures.ok freed.ensures.held

@@ -31,7 +31,9 @@ returns-in_err-process_clusters_to_free-clause-allocates g c = rw (handed-on _ _
     let f = c.process_clusters_to_free.new in
     subst (λ (v : TableValue). AllocatesClusters state c.args.count c.args.metadata (lent_to c.args.self.now c.args.caches.now c.args.file.now c.args.list.now) (refused_run c.in_err-process_clusters_to_free.field-0.0) (with_mark (lent v f.caches f.file f.list.entries) (mark_of f.self)))
     (sym c.in_err-process_clusters_to_free.ensures.table)
-    (run-not-freed state c.args.count c.args.metadata (lent_to c.args.self.now c.args.caches.now c.args.file.now c.args.list.now) c.in_err-process_clusters_to_free.field-0.0 (mark_of f.self) f.caches f.file f.list.entries c.in_err-process_clusters_to_free.ensures.frees c.in_err-process_clusters_to_free.ensures.left))
+    (run-not-freed state c.args.count c.args.metadata (lent_to c.args.self.now c.args.caches.now c.args.file.now c.args.list.now) c.in_err-process_clusters_to_free.field-0.0 (mark_of f.self) f.caches f.file f.list.entries
+    (subst (λ (v : TableValue). Frees state (lent_to c.args.self.now c.args.caches.now c.args.file.now c.args.list.now) (failed c.in_err-process_clusters_to_free.field-0.0) (with_mark (lent v f.caches f.file f.list.entries) (mark_of f.self))) c.in_err-process_clusters_to_free.ensures.table c.in_err-process_clusters_to_free.ensures.frees)
+    c.in_err-process_clusters_to_free.ensures.left))
 
 pub returns-clause-allocates : goal.returns-clause-allocates
 returns-clause-allocates g c =
@@ -43,7 +45,8 @@ returns-clause-allocates g c =
     let s' = lent_to new.self new.caches new.file new.list in
     let empty = c.in_ok-process_clusters_to_free.ensures.ok in
     let done = c.in_ok-l2_depends_on_rb.ensures in
-    let frees = subst (λ (l : List FreeEntry). Frees state (lent_to c.args.self.now c.args.caches.now c.args.file.now c.args.list.now) succeeded (with_mark (lent t f.caches f.file l) (mark_of f.self))) empty c.in_ok-process_clusters_to_free.ensures.frees in
+    let frees = subst (λ (v : TableValue). Frees state (lent_to c.args.self.now c.args.caches.now c.args.file.now c.args.list.now) succeeded (with_mark (lent v f.caches f.file []) (mark_of f.self))) c.process_clusters_to_free.ensures.table
+    (subst (λ (l : List FreeEntry). Frees state (lent_to c.args.self.now c.args.caches.now c.args.file.now c.args.list.now) succeeded (with_mark (lent (table_of f.self) f.caches f.file l) (mark_of f.self))) empty c.in_ok-process_clusters_to_free.ensures.frees) in
     let second = announced state (lent t f.caches f.file []) a.self a.file done.kept done.blocks done.header done.room succeeded done.going done.announced done.safe done.cause done.faults in
     let third = subst (λ (v : TableValue). Allocates state c.args.count c.args.metadata (with_mark (lent v a.self a.file []) (mark_of f.self)) c.allocate.result s') c.process_clusters_to_free.ensures.table
     (subst (λ (l : List FreeEntry). Allocates state c.args.count c.args.metadata (with_mark (lent (table_of f.self) a.self a.file l) (mark_of f.self)) c.allocate.result s') empty c.allocate.ensures.allocates) in
@@ -57,7 +60,8 @@ returns-in_err-l2_depends_on_rb-clause-allocates g c = rw (handed-on _ _ c.from_
     let a = c.l2_depends_on_rb.new in
     let empty = c.in_ok-process_clusters_to_free.ensures.ok in
     let done = c.in_err-l2_depends_on_rb.ensures in
-    let frees = subst (λ (l : List FreeEntry). Frees state (lent_to c.args.self.now c.args.caches.now c.args.file.now c.args.list.now) succeeded (with_mark (lent t f.caches f.file l) (mark_of f.self))) empty c.in_ok-process_clusters_to_free.ensures.frees in
+    let frees = subst (λ (v : TableValue). Frees state (lent_to c.args.self.now c.args.caches.now c.args.file.now c.args.list.now) succeeded (with_mark (lent v f.caches f.file []) (mark_of f.self))) c.process_clusters_to_free.ensures.table
+    (subst (λ (l : List FreeEntry). Frees state (lent_to c.args.self.now c.args.caches.now c.args.file.now c.args.list.now) succeeded (with_mark (lent (table_of f.self) f.caches f.file l) (mark_of f.self))) empty c.in_ok-process_clusters_to_free.ensures.frees) in
     let second = announced state (lent t f.caches f.file []) a.self a.file done.kept done.blocks done.header done.room (failed c.in_err-l2_depends_on_rb.field-0.0) done.going tt tt done.cause done.faults in
     subst (λ (v : TableValue). AllocatesClusters state c.args.count c.args.metadata (lent_to c.args.self.now c.args.caches.now c.args.file.now c.args.list.now) (refused_run c.in_err-l2_depends_on_rb.field-0.0) (with_mark (lent v a.self a.file f.list.entries) (mark_of f.self)))
     (sym c.process_clusters_to_free.ensures.table)

@@ -2,19 +2,17 @@ use Rattle.std.proofs.Common.{◌≡◌, ◌-◌, List, length, refl, arith, ap,
 use Rattle.std.specs.List.{remove}
 use Rattle.std.proofs.lemmas.List.{length-set}
 use Rattle.qcow2_types.specs.Pending.{FreeEntry}
-use Rattle.qcow2_metadata.specs.Tables.{TableValue}
-use Rattle.qcow2_alloc.specs.Allocators.{table_of, mark_of}
 use Rattle.qcow2_alloc.specs.Caches.{order_of}
 use Rattle.qcow2_alloc.specs.FreeList.{FreeList, entry_at, shorter, shortened}
 use Rattle.qcow2_alloc.specs.Freeing.{Frees}
-use Rattle.qcow2_alloc.specs.State.{lent, with_mark}
+use Rattle.qcow2_alloc.specs.State.{lent, with_mark, lent_to}
 use Rattle.qcow2_alloc.proofs.Freeing.EntryFrees.{frees-none, frees-then, empty-removed, may-still, freed, failed}
 use Rattle.qcow2_alloc.proofs.Freeing.ShorterLists.{entry-shortened, shortened-none, shortened-more, removed-shortened}
 use Rattle.qcow2_alloc.proofs.Faults.{handed-on}
 use Rattle.qcow2_alloc.proofs.allocation.Allocator.free_entry.Goals as goal
 
 pub loop-init : goal.loop-init
-loop-init g c = (shortened-none c.args.list.now.entries c.args.index c.requires.inside, refl, refl, refl, λ may. frees-none g.S.Storage.state (table_of c.args.self.now) c.args.caches.now c.args.file.now (mark_of c.args.self.now) c.args.list.now.entries)
+loop-init g c = (shortened-none c.args.list.now.entries c.args.index c.requires.inside, refl, refl, refl, λ may. frees-none g.S.Storage.state (lent_to c.args.self.now c.args.caches.now c.args.file.now c.args.list.now))
 
 pub free_last-requires-clause-inside : goal.free_last-requires-clause-inside
 free_last-requires-clause-inside g c =
@@ -33,9 +31,8 @@ free_last-requires-clause-some g c =
 pub returns-in_err-free_last-clause-frees : goal.returns-in_err-free_last-clause-frees
 returns-in_err-free_last-clause-frees g c = rw (handed-on _ _ c.from_residual.ensures.1) (λ may.
     let same = c.loop.invariant in
-    frees-then g.S.Storage.state (table_of c.args.self.now) c.args.caches.now c.args.file.now (mark_of c.args.self.now) c.args.list.now.entries c.loop.caches c.loop.file (mark_of c.loop.self) c.loop.list.entries (failed c.in_err-free_last.field-0.0) c.free_last.new.caches c.free_last.new.file (mark_of c.free_last.new.self) c.free_last.new.list.entries
-    (same.4 may) (subst (λ (t : TableValue). Frees g.S.Storage.state (with_mark (lent t c.loop.caches c.loop.file c.loop.list.entries) (mark_of c.loop.self)) (failed c.in_err-free_last.field-0.0) (with_mark (lent t c.free_last.new.caches c.free_last.new.file c.free_last.new.list.entries) (mark_of c.free_last.new.self))) same.3
-    (c.in_err-free_last.ensures.frees (may-still c.args.list.now.entries c.args.index c.loop.counter c.requires.inside c.loop.list.entries (order_of c.args.caches.now) (order_of c.loop.caches) same.0 same.2 may))))
+    frees-then g.S.Storage.state (lent_to c.args.self.now c.args.caches.now c.args.file.now c.args.list.now) (lent_to c.loop.self c.loop.caches c.loop.file c.loop.list) (failed c.in_err-free_last.field-0.0) (lent_to c.free_last.new.self c.free_last.new.caches c.free_last.new.file c.free_last.new.list)
+    (same.4 may) (c.in_err-free_last.ensures.frees (may-still c.args.list.now.entries c.args.index c.loop.counter c.requires.inside c.loop.list.entries (order_of c.args.caches.now) (order_of c.loop.caches) same.0 same.2 may)))
 
 pub returns-in_err-free_last-clause-order : goal.returns-in_err-free_last-clause-order
 returns-in_err-free_last-clause-order g c = c.free_last.ensures.order ∙ c.loop.invariant.2
@@ -60,9 +57,8 @@ loop-preserved g c =
       c.free_last.ensures.held ∙ same.1,
       c.free_last.ensures.order ∙ same.2,
       c.free_last.ensures.table ∙ same.3,
-      λ may. frees-then g.S.Storage.state (table_of c.args.self.now) c.args.caches.now c.args.file.now (mark_of c.args.self.now) es c.loop.caches c.loop.file (mark_of c.loop.self) c.loop.list.entries freed c.free_last.new.caches c.free_last.new.file (mark_of c.free_last.new.self) c.free_last.new.list.entries
-          (same.4 may) (subst (λ (t : TableValue). Frees g.S.Storage.state (with_mark (lent t c.loop.caches c.loop.file c.loop.list.entries) (mark_of c.loop.self)) freed (with_mark (lent t c.free_last.new.caches c.free_last.new.file c.free_last.new.list.entries) (mark_of c.free_last.new.self))) same.3
-          (c.in_ok-free_last.ensures.frees (may-still es c.args.index c.loop.counter c.requires.inside c.loop.list.entries (order_of c.args.caches.now) (order_of c.loop.caches) same.0 same.2 may))),
+      λ may. frees-then g.S.Storage.state (lent_to c.args.self.now c.args.caches.now c.args.file.now c.args.list.now) (lent_to c.loop.self c.loop.caches c.loop.file c.loop.list) freed (lent_to c.free_last.new.self c.free_last.new.caches c.free_last.new.file c.free_last.new.list)
+          (same.4 may) (c.in_ok-free_last.ensures.frees (may-still es c.args.index c.loop.counter c.requires.inside c.loop.list.entries (order_of c.args.caches.now) (order_of c.loop.caches) same.0 same.2 may)),
     )
 
 pub remove-requires : goal.remove-requires
@@ -74,7 +70,7 @@ remove-requires g c =
 pub returns-clause-frees : goal.returns-clause-frees
 returns-clause-frees g c = λ may.
     let state = g.S.Storage.state in
-    let table = table_of c.args.self.now in
+    let s = lent_to c.args.self.now c.args.caches.now c.args.file.now c.args.list.now in
     let same = c.loop.invariant in
     let es = c.args.list.now.entries in
     let i = c.args.index in
@@ -83,9 +79,9 @@ returns-clause-frees g c = λ may.
     let count = c.count-2.view_is ∙ c.count.ensures ∙ ap (λ (e : FreeEntry). e.count) c.entry.ensures in
     let test = c.loop-test.false in
     let none : (entry_at c.loop.list.entries i).count ≡ 0 = omega (arith, left, count, test) in
-    let removed = empty-removed state table c.loop.caches c.loop.file (mark_of c.loop.self) c.loop.list.entries i (rw long c.requires.inside) none in
-    subst (λ (l : List FreeEntry). Frees state (with_mark (lent table c.args.caches.now c.args.file.now es) (mark_of c.args.self.now)) freed (with_mark (lent table c.loop.caches c.loop.file l) (mark_of c.loop.self))) (sym (ap (λ (l : FreeList). l.entries) c.remove.ensures.left))
-    (frees-then state table c.args.caches.now c.args.file.now (mark_of c.args.self.now) es c.loop.caches c.loop.file (mark_of c.loop.self) c.loop.list.entries freed c.loop.caches c.loop.file (mark_of c.loop.self) (remove c.loop.list.entries i) (same.4 may) removed)
+    let now = lent_to c.loop.self c.loop.caches c.loop.file c.loop.list in
+    subst (λ (l : List FreeEntry). Frees state s freed (with_mark (lent now.table now.caches now.file l) now.mark)) (sym (ap (λ (l : FreeList). l.entries) c.remove.ensures.left))
+    (frees-then state s now freed (with_mark (lent now.table now.caches now.file (remove now.pending i)) now.mark) (same.4 may) (empty-removed state now i (rw long c.requires.inside) none))
 
 pub returns-clause-order : goal.returns-clause-order
 returns-clause-order g c = c.loop.invariant.2

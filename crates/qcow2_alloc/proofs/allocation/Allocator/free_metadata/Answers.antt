@@ -1,10 +1,8 @@
 use Rattle.std.proofs.Common.{◌≡◌, [], List, refl, sym, ap, ◌∙◌, subst, inl}
 use Rattle.qcow2_types.specs.Pending.{FreeEntry}
-use Rattle.qcow2_metadata.specs.Tables.{TableValue}
-use Rattle.qcow2_alloc.specs.Allocators.{table_of, mark_of}
-use Rattle.qcow2_alloc.specs.Freeing.{Frees, IsSublist, data_in}
+use Rattle.qcow2_alloc.specs.Freeing.{IsSublist, data_in}
 use Rattle.qcow2_alloc.specs.Quiet.{metadata_in}
-use Rattle.qcow2_alloc.specs.State.{lent, with_mark}
+use Rattle.qcow2_alloc.specs.State.{lent_to}
 use Rattle.qcow2_alloc.proofs.Freeing.EntryFrees.{frees-none, frees-then, freed, failed}
 use Rattle.qcow2_alloc.proofs.Freeing.FreesInTurn.{metadata-found, none-found, data-stays, all-data}
 use Rattle.qcow2_alloc.proofs.Freeing.ListRemainders.{sublist-all, sublist-then, sublist-removed, data-not-shortened, rest-whole, rest-shortened, rest-with-data}
@@ -12,7 +10,7 @@ use Rattle.qcow2_alloc.proofs.Faults.{handed-on}
 use Rattle.qcow2_alloc.proofs.allocation.Allocator.free_metadata.Goals as goal
 
 pub loop-index-init : goal.loop-index-init
-loop-index-init g c = (refl, refl, refl, refl, sublist-all c.args.list.now.entries, frees-none g.S.Storage.state (table_of c.args.self.now) c.args.caches.now c.args.file.now (mark_of c.args.self.now) c.args.list.now.entries, λ none. (refl, refl, refl, refl))
+loop-index-init g c = (refl, refl, refl, refl, sublist-all c.args.list.now.entries, frees-none g.S.Storage.state (lent_to c.args.self.now c.args.caches.now c.args.file.now c.args.list.now), λ none. (refl, refl, refl, refl))
 
 pub loop-index-preserved : goal.loop-index-preserved
 loop-index-preserved g c =
@@ -25,8 +23,8 @@ loop-index-preserved g c =
       c.free_entry.ensures.table ∙ same.2,
       ap data_in c.in_ok-free_entry.ensures.ok ∙ data-stays l.list.entries c.in-Some.index found.0 found.1 ∙ same.3,
       sublist-then n.list.entries l.list.entries c.args.list.now.entries (subst (λ (es : List FreeEntry). IsSublist es l.list.entries) (sym c.in_ok-free_entry.ensures.ok) (sublist-removed l.list.entries c.in-Some.index)) same.4,
-      frees-then g.S.Storage.state (table_of c.args.self.now) c.args.caches.now c.args.file.now (mark_of c.args.self.now) c.args.list.now.entries l.caches l.file (mark_of l.self) l.list.entries freed n.caches n.file (mark_of n.self) n.list.entries same.5
-          (subst (λ (t : TableValue). Frees g.S.Storage.state (with_mark (lent t l.caches l.file l.list.entries) (mark_of l.self)) freed (with_mark (lent t n.caches n.file n.list.entries) (mark_of n.self))) same.2 (c.in_ok-free_entry.ensures.frees (inl found.1))),
+      frees-then g.S.Storage.state (lent_to c.args.self.now c.args.caches.now c.args.file.now c.args.list.now) (lent_to l.self l.caches l.file l.list) freed (lent_to n.self n.caches n.file n.list) same.5
+          (c.in_ok-free_entry.ensures.frees (inl found.1)),
       λ none. absurd (none-found l.list.entries c.in-Some.index found.0 found.1 (subst (λ (es : List FreeEntry). metadata_in es ≡ []) (sym (same.6 none).3) none)),
     )
 
@@ -36,8 +34,8 @@ returns-in_err-free_entry-clause-frees g c = rw (handed-on _ _ c.from_residual.e
     let l = c.loop-index in
     let n = c.free_entry.new in
     let found = metadata-found l.list.entries c.in-Some.index (sym c.in-Some.ensures) in
-    frees-then g.S.Storage.state (table_of c.args.self.now) c.args.caches.now c.args.file.now (mark_of c.args.self.now) c.args.list.now.entries l.caches l.file (mark_of l.self) l.list.entries (failed c.in_err-free_entry.field-0.0) n.caches n.file (mark_of n.self) n.list.entries same.5
-    (subst (λ (t : TableValue). Frees g.S.Storage.state (with_mark (lent t l.caches l.file l.list.entries) (mark_of l.self)) (failed c.in_err-free_entry.field-0.0) (with_mark (lent t n.caches n.file n.list.entries) (mark_of n.self))) same.2 (c.in_err-free_entry.ensures.frees (inl found.1))))
+    frees-then g.S.Storage.state (lent_to c.args.self.now c.args.caches.now c.args.file.now c.args.list.now) (lent_to l.self l.caches l.file l.list) (failed c.in_err-free_entry.field-0.0) (lent_to n.self n.caches n.file n.list) same.5
+    (c.in_err-free_entry.ensures.frees (inl found.1)))
 
 pub returns-clause-ok : goal.returns-clause-ok
 returns-clause-ok g c = all-data c.loop-index.list.entries (sym c.in_default.ensures) ∙ c.loop-index.invariant.3

@@ -2,14 +2,12 @@ use Rattle.std.proofs.Common.{◌≡◌, [], List, length, refl, ap, sym, subst,
 use Rattle.std.specs.Prelude.{◌==◌}
 use Rattle.qcow2_types.specs.Header.{Header, has_external_data}
 use Rattle.qcow2_types.specs.Pending.{FreeEntry}
-use Rattle.qcow2_metadata.specs.Tables.{TableValue}
-use Rattle.qcow2_alloc.specs.Allocators.{table_of, mark_of}
 use Rattle.qcow2_alloc.specs.declared.file.ImageFile.{ImageFile}
 use Rattle.qcow2_alloc.specs.Caches.{cached_in, order_of}
 use Rattle.qcow2_alloc.specs.FreeList.{FreeList}
-use Rattle.qcow2_alloc.specs.Freeing.{Frees, IsRest, IsRestInTurn, data_in}
+use Rattle.qcow2_alloc.specs.Freeing.{IsRest, IsRestInTurn, data_in}
 use Rattle.qcow2_alloc.specs.Quiet.{metadata_in}
-use Rattle.qcow2_alloc.specs.State.{lent, with_mark}
+use Rattle.qcow2_alloc.specs.State.{lent_to}
 use Rattle.qcow2_alloc.proofs.Caching.FileLengths.{announced-long}
 use Rattle.qcow2_alloc.proofs.Freeing.EntryFrees.{frees-then, freed, failed}
 use Rattle.qcow2_alloc.proofs.Freeing.FreesInTurn.{announcing-frees}
@@ -20,30 +18,30 @@ use Rattle.qcow2_alloc.proofs.allocation.Allocator.process_clusters_to_free.Goal
 pub returns-clause-frees : goal.returns-clause-frees
 returns-clause-frees g c =
     let state = g.S.Storage.state in
-    let t = table_of c.args.self.now in
     let m = c.free_metadata.new in
     let a = c.rb_depends_on_l2.new in
     let n = c.free_all.new in
     let done = c.in_ok-rb_depends_on_l2.ensures in
     let long = announced-long (order_of m.caches) (state m.file.image) (cached_in m.caches) freed (state a.file.image) (cached_in a.self)
     (λ no. ap (λ (f : ImageFile g.row.S.Denot). state f.image) (done.idle no).2) done.written in
-    let announced = announcing-frees state (lent t m.caches m.file m.list.entries) a.self a.file (mark_of m.self) done.kept done.header done.room freed done.going done.announced tt done.safe done.cause done.faults long in
-    let rest = subst (λ (v : TableValue). Frees state (with_mark (lent v a.self a.file m.list.entries) (mark_of m.self)) c.free_all.result (with_mark (lent v n.caches n.file n.list.entries) (mark_of n.self))) c.free_metadata.ensures.table (c.free_all.ensures.frees done.announced) in
-    frees-then state t c.args.caches.now c.args.file.now (mark_of c.args.self.now) c.args.list.now.entries m.caches m.file (mark_of m.self) m.list.entries c.free_all.result n.caches n.file (mark_of n.self) n.list.entries c.in_ok-free_metadata.ensures.frees
-    (frees-then state t m.caches m.file (mark_of m.self) m.list.entries a.self a.file (mark_of m.self) m.list.entries c.free_all.result n.caches n.file (mark_of n.self) n.list.entries announced rest)
+    let before = lent_to m.self m.caches m.file m.list in
+    let announced = announcing-frees state before a.self a.file done.kept done.header done.room freed done.going done.announced tt done.safe done.cause done.faults long in
+    let s' = lent_to n.self n.caches n.file n.list in
+    frees-then state (lent_to c.args.self.now c.args.caches.now c.args.file.now c.args.list.now) before c.free_all.result s' c.in_ok-free_metadata.ensures.frees
+    (frees-then state before (lent_to m.self a.self a.file m.list) c.free_all.result s' announced (c.free_all.ensures.frees done.announced))
 
 pub returns-in_err-rb_depends_on_l2-clause-frees : goal.returns-in_err-rb_depends_on_l2-clause-frees
 returns-in_err-rb_depends_on_l2-clause-frees g c = rw (handed-on _ _ c.from_residual-in_err-rb_depends_on_l2.ensures.1) (
     let state = g.S.Storage.state in
-    let t = table_of c.args.self.now in
     let m = c.free_metadata.new in
     let a = c.rb_depends_on_l2.new in
     let done = c.in_err-rb_depends_on_l2.ensures in
     let refused = failed c.in_err-rb_depends_on_l2.field-0.0 in
     let long = announced-long (order_of m.caches) (state m.file.image) (cached_in m.caches) refused (state a.file.image) (cached_in a.self)
     (λ no. ap (λ (f : ImageFile g.row.S.Denot). state f.image) (done.idle no).2) done.written in
-    let announced = announcing-frees state (lent t m.caches m.file m.list.entries) a.self a.file (mark_of m.self) done.kept done.header done.room (failed c.in_err-rb_depends_on_l2.field-0.0) done.going tt done.stays tt done.cause done.faults long in
-    frees-then state t c.args.caches.now c.args.file.now (mark_of c.args.self.now) c.args.list.now.entries m.caches m.file (mark_of m.self) m.list.entries (failed c.in_err-rb_depends_on_l2.field-0.0) a.self a.file (mark_of m.self) m.list.entries c.in_ok-free_metadata.ensures.frees announced)
+    let before = lent_to m.self m.caches m.file m.list in
+    let announced = announcing-frees state before a.self a.file done.kept done.header done.room refused done.going tt done.stays tt done.cause done.faults long in
+    frees-then state (lent_to c.args.self.now c.args.caches.now c.args.file.now c.args.list.now) before refused (lent_to m.self a.self a.file m.list) c.in_ok-free_metadata.ensures.frees announced)
 
 pub returns-clause-left : goal.returns-clause-left
 returns-clause-left g c = rest-of-data c.args.list.now.entries c.free_all.new.list.entries (subst (λ (es : List FreeEntry). IsRest es c.free_all.new.list.entries) c.in_ok-free_metadata.ensures.ok c.free_all.ensures.left)
