@@ -33,7 +33,7 @@ use Rattle.qcow2_clusters.specs.Rest.{AreEmpty, Clusters, HasEntries, IsReady, c
 use Rattle.qcow2_clusters.specs.Room.{LeavesRoom, mark_in}
 use Rattle.qcow2_clusters.specs.Storing.{AreReserved, StoresRunUnsettled}
 use Rattle.qcow2_clusters.proofs.AllocationsAtRest.{run-leaves, run-marked, run-named, run-quietly-handed, run-reserved, run-room, run-size, run-unpinned, run-unused}
-use Rattle.qcow2_clusters.proofs.EndsAtRest.{begun, quiet-halted, lent_by}
+use Rattle.qcow2_clusters.proofs.EndsAtRest.{quiet-halted, lent_by}
 use Rattle.qcow2_clusters.proofs.RoomAfterAllocations.{leaves-as, marked-as}
 
 -- The content of one cluster fits several.

@@ -1,10 +1,4 @@
-use Rattle.std.proofs.Common.{sym, subst}
-use Rattle.qcow2_metadata.specs.Tables.{TableValue}
-use Rattle.qcow2_alloc.specs.Allocators.{mark_of}
-use Rattle.qcow2_alloc.specs.Freeing.{Frees}
-use Rattle.qcow2_alloc.specs.State.{lent as allocating, with_mark}
 use Rattle.qcow2_clusters.specs.Rest.{lent}
-use Rattle.qcow2_clusters.proofs.EndsAtRest.{lent_by}
 use Rattle.qcow2_clusters.proofs.FreesAtRest.{frees-waiting}
 use Rattle.qcow2_clusters.proofs.StartsAtRest.{freed-unpinned}
 use Rattle.qcow2_clusters.proofs.freeing.free_waiting.Goals as goal

@@ -1,6 +1,4 @@
 use Rattle.std.proofs.Common.{ap, arith, refl, subst}
-use Rattle.std.specs.Prelude.{◌%◌}
-use Rattle.qcow2_types.specs.Header.{words_of_cluster}
 use Rattle.qcow2_alloc.specs.Memory.{Cached}
 use Rattle.qcow2_clusters.specs.Rest.{lent}
 use Rattle.qcow2_clusters.specs.Settling.{Settles, without_tables}
