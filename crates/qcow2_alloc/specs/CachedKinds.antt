@@ -22,24 +22,29 @@ use Rattle.qcow2_alloc.specs.Going.{CachedStep}
 use Rattle.qcow2_alloc.specs.Memory.{Cached}
 use Rattle.qcow2_alloc.specs.Safety.{IsCachedTable, IsCachedBlock}
 
--- A kind of entries, beside those of the other cache.
+-- A kind of entries: what is known of them, and of those of the other cache beside them.
 pub record CachedKind (S V W : Type 0) : Type 1 where
   -- what contracts see of a storage
   pub state : S → StorageState
-  -- how an entry is written, and how one of the other cache is
+  -- how an entry is written,
   pub writes : WrittenKind V
+  -- and how one of the other cache is
   pub other_writes : WrittenKind W
   -- the order in which the other cache is written first
   pub first : CacheDependency
-  -- what the file has in a cluster, whether words can name it and that is sound, and how it is loaded
+  -- what the file has in a cluster
   pub read : Bytes → Fields → (cluster : ℕ) → V
+  -- words can name the cluster, and what it has there is sound
   pub Fine : Bytes → Fields → (cluster : ℕ) → Type 0
+  -- how it is loaded
   pub Loads : Fields → (cluster : ℕ) → StorageState → Result V Fault → StorageState → Type 0
-  -- whether a value may be cached of a cluster of the file
+  -- a value fits the file, and may be cached of a cluster
   pub Fits : Bytes → Fields → (cluster : ℕ) → V → Type 0
-  -- all that is cached, by entries of the other cache and of this one; and of all that is, either
+  -- all that is cached, by the entries of the other cache and of this one;
   pub cached : List (ℕ × Slot W) → List (ℕ × Slot V) → Cached
+  -- of all that is, the entries of this one,
   pub own : Cached → List (ℕ × Slot V)
+  -- and of the other
   pub others : Cached → List (ℕ × Slot W)
 
 -- One of the two caches, the other one, and the announced order.
@@ -74,13 +79,6 @@ module _ {S V W : Type 0} (kind : CachedKind S V W) where
   abbrev pub flushes_of : ImageFile S → ℕ → V → Result Unit Fault → ImageFile S → V → Type 0
   flushes_of old key value result new value' = (new.header ≡ old.header)
       × Flushed kind.writes (kind.state old.image) key value result (kind.state new.image) value'
-
-  -- the other cache waits for nothing to be written, and words can name each of its entries that does
-  abbrev pub OtherClean : Cached → Type 0
-  OtherClean cached = AreClean kind.other_writes (kind.others cached)
-
-  abbrev pub OtherReach : Cached → Type 0
-  OtherReach cached = AreInReach kind.other_writes (kind.others cached)
 
   -- The entries of the other cache are flushed, each by one request at most, and none of this one.
   abbrev pub WritesOther : CachedStep
@@ -125,7 +123,7 @@ module _ {S : Type 0} where
     others = λ cached. cached.tables;
   }
 
-  -- the two caches, as that of tables stands beside the other, and as that of blocks does
+  -- the caches, seen from that of tables, and from that of blocks
   abbrev pub by_tables : MetadataCaches S → Beside S TableValue Block (L2CacheBackend S) (RefBlockCacheBackend S)
   by_tables caches = record { own = caches.l2; other = caches.rb; order = caches.order }
 

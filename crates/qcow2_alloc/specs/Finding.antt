@@ -13,7 +13,7 @@ use Rattle.qcow2_alloc.specs.declared.cache.MetadataCaches.{MetadataCaches}
 use Rattle.qcow2_alloc.specs.declared.file.ImageFile.{ImageFile}
 use Rattle.qcow2_alloc.specs.Backends.{Flushed}
 use Rattle.qcow2_alloc.specs.Cache.{victim, FlushedAt}
-use Rattle.qcow2_alloc.specs.CachedKinds.{AreClean, AreInReach, Beside, CachedKind, OtherClean, OtherReach, WritesOther, as_written, block_entries, by_blocks, by_tables, cached_of, table_entries}
+use Rattle.qcow2_alloc.specs.CachedKinds.{AreClean, AreInReach, Beside, CachedKind, WritesOther, as_written, block_entries, by_blocks, by_tables, cached_of, table_entries}
 use Rattle.qcow2_alloc.specs.Causes.{Causes, FailsFor}
 use Rattle.qcow2_alloc.specs.Going.{Going, Behind, CachedStep, Always, WasNotCutOff}
 
@@ -90,13 +90,13 @@ pub record EntryFound {S V W A B : Type 0} (kind : CachedKind S V W) (cluster : 
       → Behind (old.order ≡ kind.first) (WritesOther kind) (LetsEntryIn kind) (kind.state before.image) (cached_of kind old) result
       (kind.state after.image) (cached_of kind new)
   -- and where nothing is modified nothing is written.
-  pub still : AreClean kind.writes old.own.slots.entries → OtherClean kind (cached_of kind old)
+  pub still : AreClean kind.writes old.own.slots.entries → AreClean kind.other_writes old.other.slots.entries
       → Kept (kind.state before.image) (kind.state after.image) × AreClean kind.writes new.own.slots.entries
-      × OtherClean kind (cached_of kind new)
+      × AreClean kind.other_writes new.other.slots.entries
   pub others : (new.order ≡ old.order) × (after.header ≡ before.header)
   pub room : (new.own.slots.cap ≡ old.own.slots.cap) × (new.other.slots.cap ≡ old.other.slots.cap)
   pub cause : FailsFor (search_causes (kind.Fine (bytes_of (kind.state after.image).bytes) before.header.fields cluster
-      × AreInReach kind.writes old.own.slots.entries × OtherReach kind (cached_of kind old))
+      × AreInReach kind.writes old.own.slots.entries × AreInReach kind.other_writes old.other.slots.entries)
       (IsPinnedFull old.own.slots.cap old.own.slots.entries) (kind.state before.image).faults (kind.state after.image).faults) result
 
 module _ {S : Type 0} (state : S → StorageState) (cluster : ℕ) (old : MetadataCaches S) (before : ImageFile S) (result : Result Unit Fault)

@@ -86,14 +86,6 @@ pub record Behind (comes_first : Type 0) (First Done : CachedStep) (old : Storag
   pub alone : (comes_first → ⊥) → Done old cached result new cached'
   pub in_turn : comes_first → InTurn First Done old cached result new cached'
 
--- Blocks are written before something is done, where they come first,
-abbrev pub BehindBlocks : CacheDependency → CachedStep → CachedStep
-BehindBlocks order = Behind (order ≡ L2DependsOnRb) WritesBlocks
-
--- or tables, where these do.
-abbrev pub BehindTables : CacheDependency → CachedStep → CachedStep
-BehindTables order = Behind (order ≡ RbDependsOnL2) WritesTables
-
 -- The second file is no shorter than the first.
 abbrev pub IsNoShorter : StorageState → StorageState → Type 0
 IsNoShorter old new = length old.bytes ≤ length new.bytes

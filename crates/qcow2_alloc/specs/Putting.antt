@@ -1,5 +1,5 @@
 -- How L2 tables and refcount blocks are put into their caches.
-use Rattle.std.specs.Prelude.{◌≡◌, ◌⊎◌, ℕ, ◌<◌, ◌≤◌, ◌∷◌, Bool, false, IsSome, OnOk, IfErr, Ok, Err, Result, List, None, Some, length, map, nat_eq}
+use Rattle.std.specs.Prelude.{◌≡◌, ◌⊎◌, ℕ, ◌<◌, ◌≤◌, ◌∷◌, false, IsSome, OnOk, IfErr, Ok, Err, Result, List, None, Some, length, map, nat_eq}
 use Rattle.std.specs.List.{AllByRecursion}
 use Rattle.std.specs.Map.{lookup}
 use Rattle.imago_storage.specs.State.{StorageState}
@@ -12,7 +12,7 @@ use Rattle.qcow2_alloc.specs.declared.async_lru_cache.Slot.{Slot}
 use Rattle.qcow2_alloc.specs.declared.file.ImageFile.{ImageFile}
 use Rattle.qcow2_alloc.specs.Backends.{Flushed}
 use Rattle.qcow2_alloc.specs.Cache.{hit, victim}
-use Rattle.qcow2_alloc.specs.CachedKinds.{AreInReach, Beside, CachedKind, OtherReach, WritesOther, as_written, block_entries, by_blocks, by_tables, cached_of, table_entries}
+use Rattle.qcow2_alloc.specs.CachedKinds.{AreInReach, Beside, CachedKind, WritesOther, as_written, block_entries, by_blocks, by_tables, cached_of, table_entries}
 use Rattle.qcow2_alloc.specs.Caches.{CachedFile}
 use Rattle.qcow2_alloc.specs.Causes.{FailsFor}
 use Rattle.qcow2_alloc.specs.Finding.{with_room, LetsEntryIn, IsPinnedFull, PinsNothing, search_causes}
@@ -39,14 +39,11 @@ module _ {V : Type 0} where
   MakesWay cap key es k = (k ≡ key) ⊎ ((lookup (nat_eq key) es ≡ None) × (cap ≤ length es) × (victim es ≡ Some k))
 
 -- A value that is put is what the file has, and none that is cached there is still to be written.
-pub record IsNew {V : Type 0} (Fits : V → Type 0) (modified : V → Bool) (cluster : ℕ) (value : V) (es : List (ℕ × Slot V)) : Type 0 where
-  pub fits : Fits value
-  pub clean : modified value ≡ false
-  pub free : AllByRecursion (λ e. e.0 ≡ cluster → modified e.1.value ≡ false) es
-
-abbrev pub IsNewIn : {S V W A B : Type 0} → CachedKind S V W → ℕ → V → Beside S V W A B → ImageFile S → Type 0
-IsNewIn kind cluster value c file = IsNew (kind.Fits (bytes_of (kind.state file.image).bytes) file.header.fields cluster)
-    kind.writes.modified cluster value c.own.slots.entries
+pub record IsNew {S V W A B : Type 0} (kind : CachedKind S V W) (cluster : ℕ) (value : V) (c : Beside S V W A B) (file : ImageFile S) : Type 0
+  where
+    pub fits : kind.Fits (bytes_of (kind.state file.image).bytes) file.header.fields cluster value
+    pub clean : kind.writes.modified value ≡ false
+    pub free : AllByRecursion (λ e. e.0 ≡ cluster → kind.writes.modified e.1.value ≡ false) c.own.slots.entries
 
 -- What makes way is flushed in place, behind what comes first, if that does.
 pub record MadeWay (comes_first : Type 0) (First : CachedStep) (Flushes : StorageState → StorageState → Type 0) (before : StorageState)
@@ -60,7 +57,7 @@ pub record MadeWay (comes_first : Type 0) (First : CachedStep) (Flushes : Storag
 -- What the put of a value does. It keeps a safe image safe where the value is what the file has.
 pub record EntryInserted {S V W A B : Type 0} (kind : CachedKind S V W) (cluster : ℕ) (value : V) (old : Beside S V W A B)
     (before : ImageFile S) (result : Result Unit (Fault × V)) (new : Beside S V W A B) (after : ImageFile S) : Type 0 where
-  pub going : Going before.header old.order (λ _. IsNewIn kind cluster value old before) (WasNotCutOff (refusal_of result))
+  pub going : Going before.header old.order (λ _. IsNew kind cluster value old before) (WasNotCutOff (refusal_of result))
       (kind.state before.image) (cached_of kind old) (kind.state after.image) (cached_of kind new)
   pub put : PutInto (as_written kind.writes) old.own.slots.cap cluster value old.own.slots.entries result new.own.slots.entries
   pub flushed : (key : ℕ) (slot : Slot V) → MakesWay old.own.slots.cap cluster old.own.slots.entries key
@@ -80,7 +77,8 @@ pub record EntryInserted {S V W A B : Type 0} (kind : CachedKind S V W) (cluster
       (refusal_of result) (kind.state after.image) (cached_of kind new)
   pub others : (new.order ≡ old.order) × (after.header ≡ before.header)
   pub room : (new.own.slots.cap ≡ old.own.slots.cap) × (new.other.slots.cap ≡ old.other.slots.cap)
-  pub cause : FailsFor (search_causes (AreInReach kind.writes old.own.slots.entries × OtherReach kind (cached_of kind old))
+  pub cause : FailsFor (search_causes
+      (AreInReach kind.writes old.own.slots.entries × AreInReach kind.other_writes old.other.slots.entries)
       (IsPinnedFull old.own.slots.cap old.own.slots.entries) (kind.state before.image).faults (kind.state after.image).faults)
       (refusal_of result)
 

@@ -66,7 +66,7 @@ module _ {S : Type 0} (state : S → StorageState) (key : ℕ) (old : MetadataCa
     only-read = (found.still nothing-waits.0 nothing-waits.1).0
 
     blocks-still : (cached_in new).blocks ≡ []
-    blocks-still = none-of written_block (cached_in new).blocks (found.blocks ∙ ap (map written_block) none-blocks)
+    blocks-still = none-of written_block (cached_in new).blocks (found.kept ∙ ap (map written_block) none-blocks)
 
   -- and the table is cached alone,
   pub found-alone : (new : MetadataCaches S) (after : ImageFile S) → TableFound state key old before (Ok tt) new after

@@ -223,7 +223,7 @@ module _ {S : Type 0} (state : S → StorageState) (table guest x n : ℕ) (c c'
         faults = λ whole. found.going.faults (subst WasNotCutOff is whole);
         header = found.others.1;
         long = read-long (Err fault) mid found;
-        room = found.room;
+        room = record { tables = found.room.0; blocks = found.room.1 };
         held = held;
         reach = λ whole ready. subst (λ (k : Cached). AreTablesInReach k × AreBlocksInReach k) (sym (refused-empty state table c.caches c.file rest fault mid between found)) (tt, tt);
         why = subst (λ r. IfErr r (HasCause (writing_causes Ready s0.faults s1.faults))) (sym is) refused-why;
@@ -260,8 +260,8 @@ module _ {S : Type 0} (state : S → StorageState) (table guest x n : ℕ) (c c'
 
       room-same : HasRoomOf c.caches mid
       room-same = record {
-        tables = ap (λ (k : MetadataCaches S). k.l2.slots.cap) u.left ∙ u.found.room.tables;
-        blocks = ap (λ (k : MetadataCaches S). k.rb.slots.cap) u.left ∙ u.found.room.blocks;
+        tables = ap (λ (k : MetadataCaches S). k.l2.slots.cap) u.left ∙ u.found.room.0;
+        blocks = ap (λ (k : MetadataCaches S). k.rb.slots.cap) u.left ∙ u.found.room.1;
       }
 
       -- There was no memory to have something wait.

@@ -203,9 +203,9 @@ module _ {S : Type 0} (state : S → StorageState) (table : ℕ) (old : Metadata
   loose-found : (answer : Result Unit Fault) (new : MetadataCaches S) (after : ImageFile S) → TableFound state table old before answer new after → IsUnpinned old → IsUnpinned new
   loose-found answer new after found loose = (
     (let less = found.sought.pinned.among (λ _. true) in omega (arith, less, loose.0)),
-    (let less = (pins-written written_block (λ e. e.0) (λ e. e.1.pins) (λ e. (refl, refl)) (cached_in old).blocks (cached_in new).blocks found.blocks).among (λ _. true) in omega (arith, less, loose.1)),
-    omega (arith, found.room.tables, loose.2),
-    omega (arith, found.room.blocks, loose.3),
+    (let less = (pins-written written_block (λ e. e.0) (λ e. e.1.pins) (λ e. (refl, refl)) (cached_in old).blocks (cached_in new).blocks found.kept).among (λ _. true) in omega (arith, less, loose.1)),
+    omega (arith, found.room.0, loose.2),
+    omega (arith, found.room.1, loose.3),
   )
 
   pub loose-used : {T : Type 0} (does : TableValue → Result T Fault → TableValue → Type 0) (result : Result T Fault) (new : MetadataCaches S) (after : ImageFile S) → IsUnpinned old → UsesTable state table does (cached_file old before) result (cached_file new after) → IsUnpinned new

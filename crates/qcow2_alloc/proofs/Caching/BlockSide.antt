@@ -87,8 +87,8 @@ module _ {S : Type 0} (state : S → StorageState) where
     cleaned = flushed-clean;
     flushed = block-flushed;
     stays = λ f H order tables es safe x left key value free. block-stays f H order (record { tables = tables; blocks = es }) safe x left key value free;
-    same = λ tables A B clean. clean;
-    near = λ f H order cached safe. (safe-reach f H cached order safe).0;
+    rest_is = λ tables es. refl;
+    near = λ f H order tables es safe. (safe-reach f H (record { tables = tables; blocks = es }) order safe).0;
     lets = λ tables es es' a b result l. (refl, l);
     idle = tables-idle;
   }

@@ -6,7 +6,7 @@ use Rattle.imago_storage.specs.State.{StorageState}
 use Rattle.imago_storage.specs.Calls.{Kept}
 use Rattle.imago_storage.specs.declared.fault.Fault.{Fault}
 use Rattle.qcow2_types.specs.Bytes.{bytes_of}
-use Rattle.qcow2_alloc.specs.CachedKinds.{AreInReach, Beside, CachedKind, OtherReach, WritesOther, as_written, cached_of, flushes_of, loads_of}
+use Rattle.qcow2_alloc.specs.CachedKinds.{AreInReach, Beside, CachedKind, WritesOther, as_written, cached_of, flushes_of, loads_of}
 use Rattle.qcow2_alloc.specs.declared.async_lru_cache.AsyncLruCache.{AsyncLruCache}
 use Rattle.qcow2_alloc.specs.declared.async_lru_cache.Slot.{Slot}
 use Rattle.qcow2_alloc.specs.declared.file.ImageFile.{ImageFile}
@@ -14,7 +14,7 @@ use Rattle.qcow2_alloc.specs.Backends.{Flushed}
 use Rattle.qcow2_alloc.specs.Cache.{cache_kind, Inserted, with_entries}
 use Rattle.qcow2_alloc.specs.Causes.{FailsFor}
 use Rattle.qcow2_alloc.specs.Finding.{IsPinnedFull, LetsEntryIn, search_causes}
-use Rattle.qcow2_alloc.specs.Putting.{EntryInserted, IsNewIn, refusal_of}
+use Rattle.qcow2_alloc.specs.Putting.{EntryInserted, IsNew, refusal_of}
 use Rattle.qcow2_alloc.specs.Going.{Going, Always, WasNotCutOff, IsMild}
 use Rattle.qcow2_alloc.specs.Memory.{memory}
 use Rattle.qcow2_alloc.specs.Safety.{Safe, IsLeft}
@@ -36,14 +36,14 @@ module _ {S V W A B : Type 0} (side : CachedKind S V W) (laws : SideLaws side) (
   kept-by key slot a b answer v flush = laws.keeps key slot (side.state a.image) answer (side.state b.image) v flush.1
 
   put-counts : (may_flush : Bool) (between : ImageFile S) (result : Result (Option V) (Fault × V)) (after : ImageFile S) (es' : List (ℕ × Slot V)) (faults : ℕ) → (side.state between.image).faults ≡ faults → Puts may_flush between result after es'
-      → FailsFor (search_causes (AreInReach side.writes old.own.slots.entries × OtherReach side (cached_of side old)) (IsPinnedFull old.own.slots.cap old.own.slots.entries) faults (side.state after.image).faults) (refusal_of (put_of result))
+      → FailsFor (search_causes (AreInReach side.writes old.own.slots.entries × AreInReach side.other_writes old.other.slots.entries) (IsPinnedFull old.own.slots.cap old.own.slots.entries) faults (side.state after.image).faults) (refusal_of (put_of result))
   put-counts may_flush between result after es' faults is i =
       counts-wider _ _ _ _ faults _ (refusal_of (put_of result)) (λ f. f.0) is
       (inserted-counted (λ (d : ImageFile S). side.state d.image) (loads_of side) (flushes_of side) (Reach side)
       (λ a key v answer b v' flush. laws.counted key v (side.state a.image) (side.state b.image) answer v' flush.1) old.own.slots.cap may_flush cluster value between old.own.slots.entries after es' result i)
 
   -- What is new fits behind calls that keep the image.
-  fresh-stays : Safe (bytes_of (side.state before.image).bytes) before.header (cached_of side old) old.order → IsNewIn side cluster value old before → (b : StorageState)
+  fresh-stays : Safe (bytes_of (side.state before.image).bytes) before.header (cached_of side old) old.order → IsNew side cluster value old before → (b : StorageState)
       → IsLeft (bytes_of (side.state before.image).bytes) (memory (bytes_of (side.state before.image).bytes) before.header.fields (cached_of side old)) before.header (bytes_of b.bytes) → FitsIn side before.header cluster value b
   fresh-stays safe fresh b left =
       (fresh.clean, laws.stays (bytes_of (side.state before.image).bytes) before.header old.order old.other.slots.entries old.own.slots.entries safe (bytes_of b.bytes) left cluster value fresh.free fresh.fits)
@@ -59,7 +59,7 @@ module _ {S V W A B : Type 0} (side : CachedKind S V W) (laws : SideLaws side) (
         let q = quiet (loads_of side) (flushes_of side) cap cluster value before es after es' result not i in
         let kept : Kept (side.state before.image) (side.state after.image) = subst (λ (d : ImageFile S). Kept (side.state before.image) (side.state d.image)) (sym q.file) (kept-same (side.state before.image)) in
         record {
-          going = subst (λ (d : ImageFile S). Going before.header old.order (λ _. IsNewIn side cluster value old before) ok (side.state before.image) (cached_of side old) (side.state d.image) (side.cached old.other.slots.entries es')) (sym q.file)
+          going = subst (λ (d : ImageFile S). Going before.header old.order (λ _. IsNew side cluster value old before) ok (side.state before.image) (cached_of side old) (side.state d.image) (side.cached old.other.slots.entries es')) (sym q.file)
               (put-quietly side laws before.header old.order old.other.slots.entries cluster value (side.state before.image) (cached_of side old) _ fresh-stays
               ok (side.state before.image) es es' _ (going-none before.header old.order Always ok (side.state before.image) (cached_of side old)) q.absent q.way);
           put = inserted-put (loads_of side) (flushes_of side) (as_written side.writes) kept-by cap false cluster value before es after es' result not i;
@@ -109,7 +109,7 @@ module _ {S V W A B : Type 0} (side : CachedKind S V W) (laws : SideLaws side) (
         let mid = record old { other = other } in
         let alone : (old.order ≡ side.first → ⊥) → side.state between.image ≡ side.state before.image = (λ no. ap (λ (d : ImageFile S). side.state d.image) (w.idle no).2) in
         record {
-          going = put-going side laws before.header old.order other.slots.entries cluster value (side.state before.image) (cached_of side old) (IsNewIn side cluster value old before) fresh-stays
+          going = put-going side laws before.header old.order other.slots.entries cluster value (side.state before.image) (cached_of side old) (IsNew side cluster value old before) fresh-stays
               cap between es after es' (Ok tt ≡ Ok tt) refl w.going w.ready result i;
           put = inserted-put (loads_of side) (flushes_of side) (as_written side.writes) kept-by cap true cluster value between es after es' result not i;
           flushed = λ k slot way there. put-then result (λ x. record { mid = side.state between.image; between = cached_of side mid; alone = alone; first = w.did; flush = (x.0, x.1.1) })
@@ -143,8 +143,8 @@ module _ {S V W A B : Type 0} (side : CachedKind S V W) (laws : SideLaws side) (
         let own = ap (λ (c : Beside S V W A B). c.own.slots.entries) w.same in
         let some = first-some side laws old before mid between fault w in
         record {
-          going = going-under before.header old.order (IsNewIn side cluster value old before) (IsMild fault) (side.state before.image) (side.state between.image) (cached_of side old) (cached_of side mid)
-              (going-safely before.header old.order Always (Err fault ≡ Ok tt) (IsMild fault) _ _ _ _ w.faults (λ safe mild. absurd (never-refused _ _ _ fault (laws.near _ _ _ _ safe) mild w.cause)) w.going);
+          going = going-under before.header old.order (IsNew side cluster value old before) (IsMild fault) (side.state before.image) (side.state between.image) (cached_of side old) (cached_of side mid)
+              (going-safely before.header old.order Always (Err fault ≡ Ok tt) (IsMild fault) _ _ _ _ w.faults (λ safe mild. absurd (never-refused _ _ _ fault (laws.near _ _ _ _ _ safe) mild w.cause)) w.going);
           put = record { over = λ there. tt; added = λ none. tt; refused = (refl, inl (ap (λ l. map (as_written side.writes) l) own)); pinned = pins-none old.own.slots.entries mid.own.slots.entries own };
           flushed = λ k slot way there. tt;
           roomy = not-roomy;

@@ -7,7 +7,7 @@ use Rattle.imago_storage.specs.Calls.{Kept}
 use Rattle.imago_storage.specs.declared.fault.Fault.{Fault}
 use Rattle.qcow2_types.specs.Bytes.{bytes_of}
 use Rattle.qcow2_types.specs.Header.{Header}
-use Rattle.qcow2_alloc.specs.CachedKinds.{AreClean, AreInReach, Beside, CachedKind, OtherClean, OtherReach, WritesOther, as_written, cached_of, flushes_of, loads_of}
+use Rattle.qcow2_alloc.specs.CachedKinds.{AreClean, AreInReach, Beside, CachedKind, WritesOther, as_written, cached_of, flushes_of, loads_of}
 use Rattle.qcow2_alloc.specs.declared.async_lru_cache.Admission.{Admission}
 use Rattle.qcow2_alloc.specs.declared.async_lru_cache.Admission.TheVariants.{Denied}
 use Rattle.qcow2_alloc.specs.declared.async_lru_cache.AsyncLruCache.{AsyncLruCache}
@@ -91,10 +91,10 @@ module _ {S V W : Type 0} (side : CachedKind S V W) (laws : SideLaws side) (clus
           apart = λ no. refl;
           behind = λ none full. absurd (not (never-now (λ (d : ImageFile S). side.state d.image) (loads_of side) (flushes_of side)
               (λ a b key answer load. laws.kept a.header.fields key (side.state a.image) answer (side.state b.image) load.1) cap cluster before es result after es' none full r));
-          still = λ own other. let k = side-still false cap before es result after es' r own in (k.0, k.1, laws.same old.other.slots.entries es es' other);
+          still = λ own other. let k = side-still false cap before es result after es' r own in (k.0, k.1, other);
           others = (refl, header);
           room = (refl, refl);
-          cause = side-counts false cap before es result after es' r before.header header (side.state before.image).faults refl (OtherReach side (cached_of side old));
+          cause = side-counts false cap before es result after es' r before.header header (side.state before.image).faults refl (AreInReach side.other_writes old.other.slots.entries);
         }
 
     -- Without leave to flush
@@ -152,10 +152,10 @@ module _ {S V W : Type 0} (side : CachedKind S V W) (laws : SideLaws side) (clus
             still = λ own rest.
                 let n = first-idle side laws old before mid between (Ok tt) w rest in
                 let k = side-still true cap between es result after es' r own in
-                (subst (λ (s : StorageState). Kept s (side.state after.image)) n.1 k.0, k.1, laws.same other.slots.entries es es' (subst (OtherClean side) (sym n.2) rest));
+                (subst (λ (s : StorageState). Kept s (side.state after.image)) n.1 k.0, k.1, subst (λ (l : List (ℕ × Slot W)). AreClean side.other_writes l) (sym n.2) rest);
             others = (refl, header);
             room = (refl, w.room);
-            cause = side-counts true cap between es result after es' r before.header header (side.state before.image).faults w.cause (OtherReach side (cached_of side old));
+            cause = side-counts true cap between es result after es' r before.header header (side.state before.image).faults w.cause (AreInReach side.other_writes old.other.slots.entries);
           }
 
       pub found-full : (mid : Beside S V W A B) → WrittenFirst side old before (Ok tt) mid between → (result : Result Admission Fault) (after : ImageFile S) (new : Beside S V W A B) → new ≡ record mid { own = with_entries mid.own new.own.slots.entries }
@@ -172,7 +172,7 @@ module _ {S V W : Type 0} (side : CachedKind S V W) (laws : SideLaws side) (clus
           let own = ap (λ (c : Beside S V W A B). c.own.slots.entries) w.same in
           let some = first-some side laws old before mid between fault w in
           record {
-            going = going-safely before.header old.order Always (Err fault ≡ Ok tt) (WasNotCutOff {T = Unit} (Err fault)) _ _ _ _ w.faults (λ safe mild. absurd (never-refused _ _ _ fault (laws.near _ _ _ _ safe) mild w.cause)) w.going;
+            going = going-safely before.header old.order Always (Err fault ≡ Ok tt) (WasNotCutOff {T = Unit} (Err fault)) _ _ _ _ w.faults (λ safe mild. absurd (never-refused _ _ _ fault (laws.near _ _ _ _ _ safe) mild w.cause)) w.going;
             hit = not-there;
             there = tt;
             sought = record { there = not-there; loaded = λ none. tt; refused = inl (ap (λ l. map (as_written side.writes) l) own); pinned = pins-none old.own.slots.entries mid.own.slots.entries own };

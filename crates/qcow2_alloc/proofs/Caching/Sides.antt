@@ -1,5 +1,5 @@
 -- One of the two caches beside the other: what is proved of the search and the put of an entry is said once, of L2 tables and refcount blocks alike.
-use Rattle.std.proofs.Common.{◌≡◌, ℕ, ◌≤◌, refl, arith, ap, sym, ◌∙◌, List, [], ◌∷◌, ◌++◌, None, Result, Ok, Err, false, true}
+use Rattle.std.proofs.Common.{◌≡◌, ℕ, ◌≤◌, refl, arith, ap, sym, subst, ◌∙◌, List, [], ◌∷◌, ◌++◌, None, Result, Ok, Err, false, true}
 use Rattle.std.specs.Prelude.{nat_eq, map, ⊤, OnOk}
 use Rattle.std.specs.List.{AllByRecursion}
 use Rattle.std.specs.Map.{lookup, keys_of}
@@ -13,7 +13,7 @@ use Rattle.qcow2_alloc.specs.declared.async_lru_cache.Slot.{Slot}
 use Rattle.qcow2_alloc.specs.declared.cache.CacheDependency.{CacheDependency}
 use Rattle.qcow2_alloc.specs.declared.file.ImageFile.{ImageFile}
 use Rattle.qcow2_alloc.specs.Backends.{Flushed}
-use Rattle.qcow2_alloc.specs.CachedKinds.{Beside, CachedKind, OtherClean, OtherReach, WritesOther, as_written, cached_of}
+use Rattle.qcow2_alloc.specs.CachedKinds.{AreClean, AreInReach, Beside, CachedKind, WritesOther, as_written, cached_of}
 use Rattle.qcow2_alloc.specs.Causes.{FailsFor}
 use Rattle.qcow2_alloc.specs.Finding.{LetsEntryIn, LetsIn, search_causes}
 use Rattle.qcow2_alloc.specs.Going.{Going, Always, WasNotCutOff, writing_causes}
@@ -53,7 +53,7 @@ module _ {S V W : Type 0} (side : CachedKind S V W) where
 
   -- what has to be written before one is
   abbrev pub Ready : CacheDependency → Cached → Type 0
-  Ready order cached = order ≡ side.first → OtherClean side cached
+  Ready order cached = order ≡ side.first → AreClean side.other_writes (side.others cached)
 
   abbrev pub FitsIn : Header → ℕ → V → StorageState → Type 0
   FitsIn H key value s = (side.writes.modified value ≡ false) × side.Fits (bytes_of s.bytes) H.fields key value
@@ -80,13 +80,13 @@ module _ {S V W : Type 0} (side : CachedKind S V W) where
     pub stays : (f : Bytes) (H : Header) (order : CacheDependency) (rest : List (ℕ × Slot W)) (es : List (ℕ × Slot V)) → Safe f H (side.cached rest es) order
         → (x : Bytes) → IsLeft f (memory f H.fields (side.cached rest es)) H x → (key : ℕ) (value : V) → AllByRecursion (λ e. e.0 ≡ key → side.writes.modified e.1.value ≡ false) es
         → side.Fits f H.fields key value → side.Fits x H.fields key value
-    -- the other one has nothing to do with which entries there are
-    pub same : (rest : List (ℕ × Slot W)) (A B : List (ℕ × Slot V)) → OtherClean side (side.cached rest A) → OtherClean side (side.cached rest B)
-    pub near : (f : Bytes) (H : Header) (order : CacheDependency) (cached : Cached) → Safe f H cached order → OtherReach side cached
+    -- the other one's entries are those that were put there, whatever this one has
+    pub rest_is : (rest : List (ℕ × Slot W)) (es : List (ℕ × Slot V)) → side.others (side.cached rest es) ≡ rest
+    pub near : (f : Bytes) (H : Header) (order : CacheDependency) (rest : List (ℕ × Slot W)) (es : List (ℕ × Slot V)) → Safe f H (side.cached rest es) order → AreInReach side.other_writes rest
     pub lets : (rest : List (ℕ × Slot W)) (es es' : List (ℕ × Slot V)) (a b : StorageState) (result : Result Unit Fault)
         → LetsIn (Flushed side.writes) a es result b es' → (LetsEntryIn side) a (side.cached rest es) result b (side.cached rest es')
     pub idle : (order : CacheDependency) (a b : StorageState) (c c' : Cached) (answer : Result Unit Fault) → ((order ≡ side.first → ⊥) → (answer ≡ Ok tt) × (b ≡ a) × (c' ≡ c))
-        → (order ≡ side.first → (WritesOther side) a c answer b c') → OtherClean side c → (answer ≡ Ok tt) × (b ≡ a) × (c' ≡ c)
+        → (order ≡ side.first → (WritesOther side) a c answer b c') → AreClean side.other_writes (side.others c) → (answer ≡ Ok tt) × (b ≡ a) × (c' ≡ c)
 
   module _ (laws : SideLaws) (H : Header) (order : CacheDependency) (rest : List (ℕ × Slot W)) where
     abbrev put : List (ℕ × Slot V) → Cached
@@ -123,7 +123,7 @@ module _ {S V W : Type 0} (side : CachedKind S V W) where
           going-quiet H order Ready (WasNotCutOff answer) a b (put es) (put es) (laws.kept H.fields key a answer b load) (laws.counts H.fields key a answer b load).0 (laws.still H.fields key a answer b load) (λ r. r) (λ r safe. safe) (λ r. refl)
 
     pub ready-same : (A B : List (ℕ × Slot V)) → Ready order (put A) → Ready order (put B)
-    ready-same A B r is = laws.same rest A B (r is)
+    ready-same A B r is = subst (λ (l : List (ℕ × Slot W)). AreClean side.other_writes l) (laws.rest_is rest A ∙ sym (laws.rest_is rest B)) (r is)
 
     -- A new one comes, or goes over another.
     module _ (key : ℕ) (value : V) where
@@ -152,16 +152,19 @@ pub record WrittenFirst {S V W A B : Type 0} (side : CachedKind S V W) (old : Be
   pub same : mid ≡ record old { other = mid.other }
   pub header : between.header ≡ before.header
   pub room : mid.other.slots.cap ≡ old.other.slots.cap
-  pub cause : FailsFor (writing_causes (OtherReach side (cached_of side old)) (side.state before.image).faults (side.state between.image).faults) answer
+  pub cause : FailsFor (writing_causes (AreInReach side.other_writes old.other.slots.entries) (side.state before.image).faults (side.state between.image).faults) answer
   pub faults : WasNotCutOff answer → IsFaultless (side.state before.image) (side.state between.image)
   pub did : old.order ≡ side.first → (WritesOther side) (side.state before.image) (cached_of side old) answer (side.state between.image) (cached_of side mid)
 
 module _ {S V W A B : Type 0} (side : CachedKind S V W) (laws : SideLaws side) (old : Beside S V W A B) (before : ImageFile S) (mid : Beside S V W A B) (between : ImageFile S) where
   -- Where that is nothing modified, nothing was done,
-  pub first-idle : (answer : Result Unit Fault) → WrittenFirst side old before answer mid between → OtherClean side (cached_of side old)
-      → (answer ≡ Ok tt) × (side.state between.image ≡ side.state before.image) × (cached_of side mid ≡ cached_of side old)
-  first-idle answer w = laws.idle old.order (side.state before.image) (side.state between.image) (cached_of side old) (cached_of side mid) answer
+  pub first-idle : (answer : Result Unit Fault) → WrittenFirst side old before answer mid between → AreClean side.other_writes old.other.slots.entries
+      → (answer ≡ Ok tt) × (side.state between.image ≡ side.state before.image) × (mid.other.slots.entries ≡ old.other.slots.entries)
+  first-idle answer w clean =
+      let none = laws.idle old.order (side.state before.image) (side.state between.image) (cached_of side old) (cached_of side mid) answer
       (λ no. let i = w.idle no in (i.0, ap (λ (d : ImageFile S). side.state d.image) i.2, ap (λ (c : Beside S V W A B). cached_of side c) i.1)) w.did
+      (subst (λ (l : List (ℕ × Slot W)). AreClean side.other_writes l) (sym (laws.rest_is old.other.slots.entries old.own.slots.entries)) clean) in
+      (none.0, none.1, sym (laws.rest_is mid.other.slots.entries mid.own.slots.entries) ∙ ap side.others none.2 ∙ laws.rest_is old.other.slots.entries old.own.slots.entries)
 
   -- and a refusal comes only where it comes first.
   pub first-some : (fault : Fault) → WrittenFirst side old before (Err fault) mid between → ((old.order ≡ side.first → ⊥) → ⊥)

@@ -110,8 +110,8 @@ module _ {S : Type 0} (state : S → StorageState) where
     cleaned = flushed-clean;
     flushed = λ H order blocks front key slot back a b answer value flush. table-flushed H order front key slot back blocks a b answer value flush;
     stays = λ f H order blocks es safe x left key value free. table-stays f H order (record { tables = es; blocks = blocks }) safe x left key value free;
-    same = λ blocks A B clean. clean;
-    near = λ f H order cached safe. (safe-reach f H cached order safe).1;
+    rest_is = λ blocks es. refl;
+    near = λ f H order blocks es safe. (safe-reach f H (record { tables = es; blocks = blocks }) order safe).1;
     lets = λ blocks es es' a b result l. (refl, l);
     idle = blocks-idle;
   }
