@@ -2,7 +2,7 @@
 use crate::texts::{Parts, parts_text};
 use cases::{Trouble, joined, number, ok, size};
 use imago_storage::Fault;
-use qcow2_alloc::ClustersToFreeList;
+use qcow2_alloc::{ClustersToFreeList, PendingAllocation};
 use qcow2_types::{ClusterCount, ClustersToFreeEntry, HostCluster, PendingClusters};
 use std::alloc::{AllocError, Global};
 
@@ -89,8 +89,10 @@ impl Waiting {
         Ok(self.pending.reserve(1)?)
     }
 
-    /// Notes clusters that were handed out as pending.
-    pub fn note(&mut self, pending: PendingClusters) -> Result<Parts, Trouble> {
+    /// Notes clusters that were handed out as pending. The room for their entry is left to the list.
+    pub fn note(&mut self, pending: PendingAllocation) -> Result<Parts, Trouble> {
+        let PendingAllocation { pending, hold } = pending;
+        hold.leave();
         let parts = into_parts(pending.into_entry());
         self.pending.push(parts)?;
         Ok(parts)
@@ -111,8 +113,8 @@ impl Waiting {
 
     /// Lets the room for an entry go, where some is held.
     pub fn release(&mut self) {
-        if self.list.held() > 0 {
-            self.list.release();
+        if let Some(hold) = self.list.held_room() {
+            self.list.release(hold);
         }
     }
 
@@ -154,19 +156,20 @@ impl Waiting {
 
     // What became pending last is named, or comes back, where there is any.
     fn settle(&mut self, is_named: bool) -> Result<String, Trouble> {
-        let pending = self.pending.pop();
-        match pending {
-            Some(parts) if self.list.held() > 0 => {
-                if is_named {
-                    self.kept = self.kept.saturating_add(parts.1);
-                    self.list.release();
-                } else {
-                    self.list.give_back(PendingClusters::new(entry(parts)));
-                }
-                Ok(ok(self.alloc)?)
-            }
-            _ => Ok("none".to_string(self.alloc)?),
+        let Some(parts) = self.pending.pop() else {
+            return Ok("none".to_string(self.alloc)?);
+        };
+        let Some(hold) = self.list.held_room() else {
+            return Ok("none".to_string(self.alloc)?);
+        };
+        if is_named {
+            self.kept = self.kept.saturating_add(parts.1);
+            self.list.release(hold);
+        } else {
+            let clusters = PendingClusters::new(entry(parts));
+            self.list.give_back(hold, clusters);
         }
+        Ok(ok(self.alloc)?)
     }
 
     /// How many clusters were named by a line, and by no table.
@@ -174,12 +177,20 @@ impl Waiting {
         self.kept
     }
 
+    // Holds room for an entry more, which is left to the list.
+    fn hold(&mut self) -> Result<(), Trouble> {
+        let hold = self.list.hold()?;
+        hold.leave();
+        Ok(())
+    }
+
     // Gives these clusters back, for which room is held.
     fn give_back(&mut self, parts: Parts) -> Result<(), Trouble> {
-        if self.list.held() == 0 {
+        let Some(hold) = self.list.held_room() else {
             return Err(Trouble::NoCall);
-        }
-        self.list.give_back(PendingClusters::new(entry(parts)));
+        };
+        let clusters = PendingClusters::new(entry(parts));
+        self.list.give_back(hold, clusters);
         Ok(())
     }
 
@@ -229,7 +240,7 @@ impl Waiting {
             ["wait", kind, first, count] => self.push_parts(parts(kind, first, count)?),
             ["guard", kind, first, count] => self.guard(parts(kind, first, count)?),
             ["give_back", kind, first, count] => self.give_back(parts(kind, first, count)?),
-            ["hold"] => Ok(self.list.hold()?),
+            ["hold"] => self.hold(),
             ["shorten", index, count] => self.shorten(size(index)?, number(count)?),
             ["take_list"] => self.take(),
             _ => Err(Trouble::NoCall),

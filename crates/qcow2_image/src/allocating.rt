@@ -17,7 +17,9 @@ use crate::qcow2::Qcow2;
 use crate::reloading::drop_cached;
 use imago_storage::{Fault, Storage};
 use qcow2_alloc::{ImageFile, MetadataCaches};
-use qcow2_clusters::{Space, copy_table, fill, free_waiting, lengthen_l1, make_table, store_run};
+use qcow2_clusters::{
+    Space, Stored, copy_table, fill, free_waiting, lengthen_l1, make_table, store_run,
+};
 use qcow2_metadata::{L1Table, L2Mapping, Table};
 use qcow2_types::{ClusterCount, GuestCluster, HostCluster};
 use std::alloc::Global;
@@ -45,6 +47,15 @@ fn is_full(stored: &Result<HostCluster, Fault>) -> bool
     ensures { result ≡ full_by stored.now }
 {
     matches!(stored, Err(Fault::Limit(_)))
+}
+
+// The first of the clusters in which something was stored. The room for their entry is left to the list, since a prepared mapping may be
+// dropped with its image.
+fn host_of(stored: Result<Stored, Fault>) -> Result<HostCluster, Fault>
+    ensures { result ≡ stored }
+{
+    let stored = stored?;
+    Ok(stored.leave_room())
 }
 
 // What was stored in the first of so many clusters that were free.
@@ -289,7 +300,7 @@ impl<S: Storage> Qcow2<S> {
             count,
             begun,
         );
-        self.settle_change(stored, *begun)
+        host_of(self.settle_change(stored, *begun))
     }
 
     // Writes the content of a guest cluster to the host cluster that it keeps for its zeroes.

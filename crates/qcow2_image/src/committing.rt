@@ -42,8 +42,10 @@ fn let_go(to_free: &mut ClustersToFreeList, is_kept: bool)
     ensures entries { to_free.new.entries ≡ to_free.old.entries }
     ensures held { to_free.new.held ≡ held_behind is_kept to_free.old.held }
 {
-    if !is_kept && to_free.held() > 0 {
-        to_free.release();
+    if !is_kept {
+        if let Some(hold) = to_free.held_room() {
+            to_free.release(hold);
+        }
     }
 }
 
@@ -97,9 +99,9 @@ fn give_back(space: &mut Option<Space>, host: HostCluster, count: ClusterCount, 
     let Some(space) = space else {
         return;
     };
-    if space.to_free.held() > 0 {
+    if let Some(hold) = space.to_free.held_room() {
         let entry = ClustersToFreeEntry::data(host, count);
-        space.to_free.give_back(PendingClusters::new(entry));
+        space.to_free.give_back(hold, PendingClusters::new(entry));
     }
 }
 
