@@ -1,7 +1,8 @@
 -- How one cluster is given a counter, and handed out.
-use Rattle.std.specs.Prelude.{◌≡◌, ◌≢◌, ℕ, ◌/◌, ◌<◌, false, Option, Some, Result, OnOk, OnErr, IfOk, Ok, Err, length, slice_index}
+use Rattle.std.specs.Prelude.{◌≡◌, ◌≢◌, ℕ, ◌/◌, ◌<◌, Bool, false, true, Option, Some, Result, OnOk, OnErr, IfOk, Ok, Err, length, slice_index}
 use Rattle.imago_storage.specs.State.{StorageState}
 use Rattle.imago_storage.specs.declared.fault.Fault.{Fault}
+use Rattle.imago_storage.specs.declared.fault.Fault.TheVariants.{Limit}
 use Rattle.qcow2_types.specs.Counts.{counters_of_block}
 use Rattle.qcow2_types.specs.Pending.{FreeEntry}
 use Rattle.qcow2_types.specs.Words.{block_offset}
@@ -15,6 +16,11 @@ use Rattle.qcow2_alloc.specs.GrowingTables.{IsLengthenedByTable, IsTakenFor, Lea
 use Rattle.qcow2_alloc.specs.HandingOut.{handed_at, mark_past, IsBarred, IsHandedAt, IsOneAt}
 use Rattle.qcow2_alloc.specs.Quiet.{Metadata}
 use Rattle.qcow2_alloc.specs.State.{AllocatorState, ImageState, metadata, IsGuarded, WhereGuarded}
+
+-- A refusal tells of a limit.
+abbrev pub tells_limit : Fault → Bool
+tells_limit (Limit number) = true
+tells_limit fault = false
 
 -- Nothing is handed out by an answer; a refusal may have leaked something.
 abbrev pub leaked_by : {T : Type 0} → Result T Fault → (ℕ → ℕ) → ℕ → ℕ

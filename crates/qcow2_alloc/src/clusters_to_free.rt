@@ -160,8 +160,8 @@ impl ClustersToFreeList {
         }
     }
 
-    /// The clusters of `entry`, which are to be named, and room held for the entry, in case they never are. Spend both by `give_back`, which
-    /// frees the clusters after all, or the clusters by their `make_persistent` and the room by `release`.
+    /// The clusters of `entry`, which are to be named, and room held for the entry, in case they never are. Spend both by `give_back`,
+    /// which frees the clusters after all, or the clusters by their `make_persistent` and the room by `release`.
     ///
     /// Refused with `Fault::Memory` where there is no room for it, it gives the entry back, and the list is as it was.
     pub fn pending_guard(

@@ -1,11 +1,10 @@
 -- A cluster is given a counter: a word of the refcount table, and a block.
-use Rattle.std.proofs.Common.{◌≡◌, ◌≢◌, ℕ, ◌+◌, ◌*◌, ◌/◌, ◌^◌, ◌<◌, ◌≤◌, ◌++◌, refl, arith, ap, sym, subst, ◌∙◌, inl, inr, length, Bool, Result, Ok, Err}
+use Rattle.std.proofs.Common.{true, false, ◌≡◌, ◌≢◌, ℕ, ◌+◌, ◌*◌, ◌/◌, ◌^◌, ◌<◌, ◌≤◌, ◌++◌, refl, arith, ap, sym, subst, ◌∙◌, inl, inr, length, Bool, Result, Ok, Err}
 use Rattle.std.specs.Prelude.{⊤, IsTrue, OnOk, OnErr, MatchResult}
 use Rattle.std.proofs.lemmas.Bool.{cases_eq}
 use Rattle.std.proofs.lemmas.Nat.{div-add-mod'}
 use Rattle.std.proofs.Math.Nat.{mul-le-mul_right}
 use Rattle.imago_storage.specs.State.{StorageState}
-use Rattle.imago_storage.specs.Fault.{number_of}
 use Rattle.imago_storage.specs.declared.fault.Fault.{Fault}
 use Rattle.imago_storage.specs.declared.fault.Fault.TheVariants.{CacheFull, Limit}
 use Rattle.imago_storage.proofs.Composing.{keeps_on}
@@ -28,7 +27,7 @@ use Rattle.qcow2_alloc.specs.FillingBlocks.{FillsFrom}
 use Rattle.qcow2_alloc.specs.Freeing.{IsLoose}
 use Rattle.qcow2_alloc.specs.Going.{WasNotCutOff}
 use Rattle.qcow2_alloc.specs.GrowingTables.{GrowsTable, IsInRoomToGrow, IsLengthenedByTable, NoPlaceToGrow, table_run}
-use Rattle.qcow2_alloc.specs.HandingOutOne.{HandsOut, ReadiesCounter, ReadiesWord, leaked_by}
+use Rattle.qcow2_alloc.specs.HandingOutOne.{HandsOut, ReadiesCounter, ReadiesWord, leaked_by, tells_limit}
 use Rattle.qcow2_alloc.specs.Quiet.{IsSound, counted}
 use Rattle.qcow2_alloc.specs.State.{lent, metadata, IsGuarded, with_mark, AllocatorState}
 use Rattle.qcow2_alloc.proofs.Causes.{cause-weaker, cause-told}
@@ -98,13 +97,13 @@ of-cause P before after (Err fault) is same = absurd (cc is)
 pub never-limit : (sound : Type 0) (loose : Bool → Type 0) (full full' : ℕ → Type 0) (before after : ℕ) (fault : Fault) → ((number : ℕ) → fault ≢ Limit number) → HasCause (allocating_causes sound loose full before after) fault → HasCause (allocating_causes sound loose full' before after) fault
 never-limit sound loose full full' before after fault other why = cause-weaker (record { before = unchanged before; after = unchanged after; damaged = λ wrong. wrong; counter = λ wrong. wrong; full = λ none. none; limit = λ number told. absurd (other number told.0) }) fault (cause-told _ fault why)
 
--- The fault with this number is that of a limit.
-pub limit-numbered : (fault : Fault) → number_of fault ≡ 12 → (number : ℕ) × (fault ≡ Limit number)
-limit-numbered (Limit number) is = (number, refl)
-limit-numbered fault is = absurd (cc is)
+-- A fault that tells of a limit has its number, and one that doesn't is no limit's.
+pub limit-told : (fault : Fault) → tells_limit fault ≡ true → (number : ℕ) × (fault ≡ Limit number)
+limit-told (Limit number) is = (number, refl)
+limit-told fault is = absurd (cc is)
 
-pub other-numbered : (fault : Fault) → number_of fault ≢ 12 → (number : ℕ) → fault ≢ Limit number
-other-numbered fault apart number is = apart (ap (λ (f : Fault). number_of f) is)
+pub limit-untold : (fault : Fault) → tells_limit fault ≡ false → (number : ℕ) → fault ≢ Limit number
+limit-untold fault none number is = let told = sym (ap (λ (f : Fault). tells_limit f) is) ∙ none in cc told
 
 module _ {S : Type 0} (state : S → StorageState) (cluster : ℕ) (s : AllocatorState S) where
   abbrev k : ℕ

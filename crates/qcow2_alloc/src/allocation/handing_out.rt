@@ -4,13 +4,12 @@ ghost use Rattle.std.specs.Prelude.{◌≡◌, ◌<◌, ◌+◌, ◌^◌, ◌≢
 ghost use Rattle.qcow2_alloc.specs.Allocators.{mark_of, table_of};
 ghost use Rattle.qcow2_alloc.specs.ReadyingRuns.{Allocates, Spares, mark_behind};
 ghost use Rattle.qcow2_alloc.specs.State.{lent, lent_to, seen, with_mark};
-ghost use Rattle.imago_storage.specs.Fault.{number_of};
 ghost use Rattle.qcow2_types.specs.Counts.{counters_of_block};
 ghost use Rattle.qcow2_types.specs.Pending.{FreeEntry};
 ghost use Rattle.qcow2_types.specs.Words.{block_offset};
 ghost use Rattle.qcow2_metadata.specs.Places.{IsInReach};
 ghost use Rattle.qcow2_alloc.specs.HandingOut.{AllocatesClusters, AllocatesClusterAt, IsBarred, mark_past};
-ghost use Rattle.qcow2_alloc.specs.HandingOutOne.{AllocatesAt, CountsOne, ReadiesCounter, ReadiesWord};
+ghost use Rattle.qcow2_alloc.specs.HandingOutOne.{AllocatesAt, CountsOne, ReadiesCounter, ReadiesWord, tells_limit};
 
 use crate::allocation::Allocator;
 use crate::cache::MetadataCaches;
@@ -245,7 +244,7 @@ fn next_mark(mark: HostCluster, first: HostCluster, count: ClusterCount) -> Host
 
 // Whether a call was refused since there is no place left.
 fn is_limit(fault: Fault) -> bool
-    ensures { result ≡ (number_of fault == 12) }
+    ensures { result ≡ tells_limit fault }
 {
     matches!(fault, Fault::Limit(_))
 }

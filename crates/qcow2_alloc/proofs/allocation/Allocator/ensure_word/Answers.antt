@@ -1,13 +1,11 @@
 use Rattle.std.proofs.Common.{arith, ◌≡◌, ◌/◌, ℕ, sym, subst, ◌∙◌, ap, refl}
-use Rattle.std.proofs.lemmas.Bool.{eqb-true, eqb-false}
 use Rattle.imago_storage.specs.declared.fault.Fault.{Fault}
-use Rattle.imago_storage.specs.Fault.{number_of}
 use Rattle.qcow2_types.specs.Counts.{counters_of_block}
 use Rattle.qcow2_alloc.specs.GrowingTables.{GrowsTable}
 use Rattle.qcow2_alloc.specs.State.{lent_to}
 use Rattle.qcow2_alloc.proofs.Freeing.EntryFrees.{failed}
 use Rattle.qcow2_alloc.proofs.Blocks.ClusterCounts.{succeeded}
-use Rattle.qcow2_alloc.proofs.Blocks.CounterProvision.{word-stands, word-made, word-barred, word-refused, limit-numbered, other-numbered}
+use Rattle.qcow2_alloc.proofs.Blocks.CounterProvision.{word-stands, word-made, word-barred, word-refused, limit-told, limit-untold}
 use Rattle.qcow2_alloc.proofs.allocation.Allocator.ensure_word.Goals as goal
 
 pub returns-then-index-entries-clause-readies : goal.returns-then-index-entries-clause-readies
@@ -34,7 +32,7 @@ returns-then-is_limit-clause-readies g c =
     let new = c.grow_table.new in
     let s' = lent_to new.self new.caches new.file new.list in
     let at : c.rt_index-index.result ≡ c.args.cluster / counters_of_block c.args.file.now.header.fields = c.rt_index-index.ensures ∙ ap (λ n. c.args.cluster / n) c.rb_bits.ensures.entries in
-    let limit = limit-numbered c.in-Err.fault (eqb-true (number_of c.in-Err.fault) 12 (sym c.is_limit.ensures ∙ c.if-is_limit.true)) in
+    let limit = limit-told c.in-Err.fault (sym c.is_limit.ensures ∙ c.if-is_limit.true) in
     let past = c.if-index-entries.false in
     let long = c.entries.ensures.value in
     word-barred g.S.Storage.state c.args.cluster s (omega (arith, at, past, long)) (failed c.in-Err.fault) s'
@@ -51,4 +49,4 @@ returns-else-is_limit-clause-readies g c =
     let long = c.entries.ensures.value in
     word-refused g.S.Storage.state c.args.cluster s (omega (arith, at, past, long)) (failed c.in-Err.fault) s'
     (subst (λ (i : ℕ). GrowsTable g.S.Storage.state i s (failed c.in-Err.fault) s') at c.in-Err.ensures.grows)
-    c.in-Err.fault refl (other-numbered c.in-Err.fault (λ is. eqb-false (number_of c.in-Err.fault) 12 (sym c.is_limit.ensures ∙ c.if-is_limit.false) is))
+    c.in-Err.fault refl (limit-untold c.in-Err.fault (sym c.is_limit.ensures ∙ c.if-is_limit.false))
