@@ -43,10 +43,8 @@ impl L1Table {
             return Err(Fault::Limit((at as u64).saturating_add(1)));
         }
         let count = self.entries().max(at + 1);
-        match longer_content(alloc, self, count) {
-            Ok(content) => Ok(L1Table::from_data(content, header)),
-            Err(fault) => Err(fault),
-        }
+        let content = longer_content(alloc, self, count)?;
+        Ok(L1Table::from_data(content, header))
     }
 
     /// Names an L2 table, as one whose reference count is 1, at an index: so this table is modified. Its clusters, which

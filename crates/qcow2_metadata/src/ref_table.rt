@@ -89,10 +89,8 @@ impl RefTable {
         };
         // Each of its words is sound.
         let _ = self.layout();
-        match longer_content(alloc, self, count) {
-            Ok(content) => Ok(RefTable::from_data(content, header)),
-            Err(fault) => Err(fault),
-        }
+        let content = longer_content(alloc, self, count)?;
+        Ok(RefTable::from_data(content, header))
     }
 
     /// Names a refcount block at an index: so the table is modified. The block's clusters, which `pending` holds, are named

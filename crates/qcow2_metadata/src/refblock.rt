@@ -101,10 +101,8 @@ impl RefBlock {
         ensures faults { CountsFaults (S.state image.old).faults (S.state image.new).faults result }
     {
         let HostOffset(offset) = cluster.offset(header.cluster_bits());
-        match read_cluster(alloc, image, offset, header.cluster_size()) {
-            Ok(bytes) => Ok(RefBlock::of_bytes(bytes, header, Some(cluster), false)),
-            Err(fault) => Err(fault),
-        }
+        let bytes = read_cluster(alloc, image, offset, header.cluster_size())?;
+        Ok(RefBlock::of_bytes(bytes, header, Some(cluster), false))
     }
 
     /// Writes the block to its cluster, by one request. It isn't modified then.

@@ -29,7 +29,7 @@ pub fn loaded_header_is_within_limits()
     ensures limited { (writing : Bool) (f : Bytes) (h : Header) → header_of writing f ≡ Ok h → Limited h.fields }
 {}
 
-/// No word of an L1 or L2 table names a place past the greatest.
+/// No L1 word, and no L2 word that isn't compressed, names a place past the greatest.
 pub fn place_is_within_limit()
     ensures { (word : ℕ) → table_offset word ≤ MAX_OFFSET }
 {}

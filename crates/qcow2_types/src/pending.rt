@@ -84,7 +84,8 @@ impl ClustersToFreeEntry {
 
 /// Host clusters that are counted and that nothing names yet. Contracts see `FreeEntry`: what is freed if nothing ever does.
 ///
-/// It can't be dropped: `make_persistent` spends it once a table names the clusters, and `into_entry` where none will.
+/// It can't be dropped: `make_persistent` spends it once a table names the clusters, and `into_entry` where none will, or where
+/// the caller keeps the clusters as plain data until one does.
 #[derive(Debug)]
 pub struct PendingClusters {
     entry: ClustersToFreeEntry,
@@ -117,7 +118,7 @@ impl PendingClusters {
         let _parts = entry.into_parts();
     }
 
-    /// Spends the value: nothing will name the clusters, and they are to be freed.
+    /// Spends the value: the clusters are to be freed, or are plain data from here on, of which the caller takes care.
     pub fn into_entry(self) -> ClustersToFreeEntry
         ensures { result ≡ self }
     {
