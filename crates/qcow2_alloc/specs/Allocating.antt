@@ -86,28 +86,6 @@ abbrev pub CountsNamed : {S : Type 0} → (S → StorageState) → (first n : �
 CountsNamed state first n s result s' = CountsPart state (named_part s.table (counters_of_block s.file.header.fields) first)
     (λ _. ⊤) first n s result s'
 
--- A block is made, where there was none, while blocks are written before tables: at the first place from the mark on that another block
--- counts, or at the first cluster that it counts itself. Where that is cut off, the table in memory may name it already.
-pub record MakesBlock {S : Type 0} (state : S → StorageState) (index : ℕ) (s : ImageState S) (result : Result Unit Fault)
-    (s' : ImageState S) : Type 0 where
-  pub faults : WasNotCutOff result → IsFaultless (state s.file.image) (state s'.file.image)
-  pub quiet : order_of s.caches ≡ L2DependsOnRb → Quietly (WasNotCutOff result) (λ _. 0) (λ _. 0) (state s.file.image) (metadata state s)
-      (state s'.file.image) (metadata state s')
-  pub raised : WhereGuarded state s (WasNotCutOff result
-      → OnlyRaised (metadata state s) (metadata state s'))
-  pub named : OnOk result (block_offset (slice_index s'.table.words index) ≢ 0)
-  pub others : (i : ℕ) → i ≢ index → slice_index s'.table.words i ≡ slice_index s.table.words i
-  pub long : length s'.table.words ≡ length s.table.words
-  pub layout : s'.table.layout ≡ s.table.layout
-  pub placed : s'.table.cluster ≡ s.table.cluster
-  pub order : order_of s'.caches ≡ order_of s.caches
-  pub header : s'.file.header ≡ s.file.header
-  pub loose : (any : Bool) → IsLoose s.table s.caches any → IsLoose s'.table s'.caches any
-  pub room : KeepsTables s.caches s'.caches
-  pub cause : FailsFor (allocating_causes (IsGuarded state s) (IsLoose s.table s.caches)
-      (λ number. (number ≤ index * counters_of_block s.file.header.fields) × (IsInReach s.file.header.fields.cluster_bits number → ⊥))
-      (state s.file.image).faults (state s'.file.image).faults) result
-
 -- how many words of a refcount table name no block
 abbrev pub missing : TableValue → ℕ
 missing table = sum_by (λ w. if block_offset w == 0 then 1 else 0) table.words
@@ -129,6 +107,21 @@ pub record Allocating {S : Type 0} (state : S → StorageState) (ok : Type 0) (h
   pub longer : length s.table.words ≤ length s'.table.words
   pub loose : (any : Bool) → IsLoose s.table s.caches any → IsLoose s'.table s'.caches any
   pub room : KeepsTables s.caches s'.caches
+
+-- A block is made, where there was none, while blocks are written before tables: at the first place from the mark on that another block
+-- counts, or at the first cluster that it counts itself. Where that is cut off, the table in memory may name it already.
+pub record MakesBlock {S : Type 0} (state : S → StorageState) (index : ℕ) (s : ImageState S) (result : Result Unit Fault)
+    (s' : ImageState S) : Type 0 where
+  pub step : Allocating state (WasNotCutOff result) (λ _. 0) s s'
+  pub named : OnOk result (block_offset (slice_index s'.table.words index) ≢ 0)
+  pub others : (i : ℕ) → i ≢ index → slice_index s'.table.words i ≡ slice_index s.table.words i
+  pub long : length s'.table.words ≡ length s.table.words
+  pub layout : s'.table.layout ≡ s.table.layout
+  pub placed : s'.table.cluster ≡ s.table.cluster
+  pub header : s'.file.header ≡ s.file.header
+  pub cause : FailsFor (allocating_causes (IsGuarded state s) (IsLoose s.table s.caches)
+      (λ number. (number ≤ index * counters_of_block s.file.header.fields) × (IsInReach s.file.header.fields.cluster_bits number → ⊥))
+      (state s.file.image).faults (state s'.file.image).faults) result
 
 -- The blocks at these indices are made that there aren't. Words that named a block stay.
 pub record MakesBlocks {S : Type 0} (state : S → StorageState) (first end : ℕ) (s : ImageState S)

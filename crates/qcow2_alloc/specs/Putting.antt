@@ -39,11 +39,11 @@ module _ {V : Type 0} where
   MakesWay cap key es k = (k ≡ key) ⊎ ((lookup (nat_eq key) es ≡ None) × (cap ≤ length es) × (victim es ≡ Some k))
 
 -- A value that is put is what the file has, and none that is cached there is still to be written.
-pub record IsNew {S V W A B : Type 0} (kind : CachedKind S V W) (cluster : ℕ) (value : V) (c : Beside S V W A B) (file : ImageFile S) : Type 0
-  where
-    pub fits : kind.Fits (bytes_of (kind.state file.image).bytes) file.header.fields cluster value
-    pub clean : kind.writes.modified value ≡ false
-    pub free : AllByRecursion (λ e. e.0 ≡ cluster → kind.writes.modified e.1.value ≡ false) c.own.slots.entries
+pub record IsNew {S V W A B : Type 0} (kind : CachedKind S V W) (cluster : ℕ) (value : V) (c : Beside S V W A B)
+    (file : ImageFile S) : Type 0 where
+  pub fits : kind.Fits (bytes_of (kind.state file.image).bytes) file.header.fields cluster value
+  pub clean : kind.writes.modified value ≡ false
+  pub free : AllByRecursion (λ e. e.0 ≡ cluster → kind.writes.modified e.1.value ≡ false) c.own.slots.entries
 
 -- What makes way is flushed in place, behind what comes first, if that does.
 pub record MadeWay (comes_first : Type 0) (First : CachedStep) (Flushes : StorageState → StorageState → Type 0) (before : StorageState)

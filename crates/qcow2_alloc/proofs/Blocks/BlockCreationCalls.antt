@@ -28,7 +28,7 @@ use Rattle.qcow2_metadata.proofs.TableSteps.{block_named}
 use Rattle.qcow2_alloc.specs.declared.cache.CacheDependency.TheVariants.{L2DependsOnRb}
 use Rattle.qcow2_alloc.specs.declared.cache.MetadataCaches.{MetadataCaches}
 use Rattle.qcow2_alloc.specs.declared.file.ImageFile.{ImageFile}
-use Rattle.qcow2_alloc.specs.Allocating.{MakesBlock, OnlyRaised, allocating_causes}
+use Rattle.qcow2_alloc.specs.Allocating.{Allocating, MakesBlock, OnlyRaised, allocating_causes}
 use Rattle.qcow2_alloc.specs.Allocators.{metadata_of, named_block}
 use Rattle.qcow2_alloc.specs.Caches.{cached_in, order_of}
 use Rattle.qcow2_alloc.specs.Causes.{HasCause}
@@ -39,7 +39,7 @@ use Rattle.qcow2_alloc.specs.MakingRoom.{with_block}
 use Rattle.qcow2_alloc.specs.Quiet.{Metadata, in_memory, counted, IsUsed, IsSound, Quietly, named_at_all}
 use Rattle.qcow2_alloc.specs.State.{ImageState, lent, metadata, IsGuarded}
 use Rattle.qcow2_alloc.proofs.Causes.{Implies, bare-weaker, fails-weaker, storage-fails}
-use Rattle.qcow2_alloc.proofs.Handing.CountSequences.{raised-then}
+use Rattle.qcow2_alloc.proofs.Handing.CountSequences.{moved-none, raised-then, allocating-then}
 use Rattle.qcow2_alloc.proofs.Quiet.SingleRequests.{put-done}
 use Rattle.qcow2_alloc.proofs.Flushing.FaultlessCalls.{never-mild, faultless-then, put-faultless}
 use Rattle.qcow2_alloc.proofs.Caching.BlockDrops.{never-unnamed}
@@ -48,7 +48,7 @@ use Rattle.qcow2_alloc.proofs.Caching.UnpinnedCaches.{StaysLoose, loose-named, n
 use Rattle.qcow2_alloc.proofs.Memory.Patches.{place-there}
 use Rattle.qcow2_alloc.proofs.Quiet.QuietFlushes.{memory-quietly, quiet-none, quietly-weaker}
 use Rattle.qcow2_alloc.proofs.Quiet.QuietPremises.{quietly-given, quietly-then-given}
-use Rattle.qcow2_alloc.proofs.Quiet.QuietSequences.{quietly-then, quietly-otherwise, quiet-otherwise}
+use Rattle.qcow2_alloc.proofs.Quiet.QuietSequences.{quietly-otherwise, quiet-otherwise}
 use Rattle.qcow2_alloc.proofs.Caching.Pins.{pinned-there}
 
 module _ (m : Metadata) (sound : IsSound m) where
@@ -265,27 +265,31 @@ module _ {S : Type 0} (state : S → StorageState) (i : ℕ) (image : ImageState
         → (order_of image.caches ≡ L2DependsOnRb → IsTrue (state image.file.image).shape.keeps → IsSound m0 → WasNotCutOff (failed fault) → (c : ℕ) → handed c + more c ≡ 0)
         → HasCause (allocating_causes Holds (IsLoose image.table image.caches) Full (state image.file.image).faults (state fD.image).faults) fault → MakesBlock state i image (Err fault) (lent image.table D fD image.pending)
     begins-refused fault follows none why = record {
-      faults = λ whole. faultless-then begins.faults (follows.faults whole);
-      quiet = λ order.
-          let q = both-quietly (WasNotCutOff (failed fault)) follows order in
-          record {
-            shape = q.shape;
-            later = q.later;
-            passes = q.passes;
-            holds = λ keeps sound whole.
-                let all = q.holds keeps sound whole in
-                (all.0, quiet-otherwise m0 mD (λ c. handed c + more c) (λ _. 0 + 0) (λ _. 0) (λ _. 0) (λ c. let zero = none order keeps sound whole c in omega (arith, zero)) (λ c used zero. omega arith) all.1);
-          };
-      raised = λ order keeps sound whole. both-raised (WasNotCutOff (failed fault)) follows order keeps sound whole;
+      step = record {
+        faults = λ whole. faultless-then begins.faults (follows.faults whole);
+        quiet = λ order.
+            let q = both-quietly (WasNotCutOff (failed fault)) follows order in
+            record {
+              shape = q.shape;
+              later = q.later;
+              passes = q.passes;
+              holds = λ keeps sound whole.
+                  let all = q.holds keeps sound whole in
+                  (all.0, quiet-otherwise m0 mD (λ c. handed c + more c) (λ _. 0 + 0) (λ _. 0) (λ _. 0) (λ c. let zero = none order keeps sound whole c in omega (arith, zero)) (λ c used zero. omega arith) all.1);
+            };
+        raised = λ order keeps sound whole. both-raised (WasNotCutOff (failed fault)) follows order keeps sound whole;
+        order = follows.stays.order ∙ begins.order;
+        moved = moved-none image.file.header fD.header (follows.stays.header ∙ begins.header);
+        longer = omega arith;
+        loose = λ any loose. follows.stays.loose any (begins.loose any loose);
+        room = record { tables = follows.stays.room.tables ∙ begins.room.tables; blocks = follows.stays.room.blocks ∙ begins.room.blocks; entries = follows.stays.room.entries ∙ begins.room.entries };
+      };
       named = tt;
       others = λ k apart. refl;
       long = refl;
       layout = refl;
       placed = refl;
-      order = follows.stays.order ∙ begins.order;
       header = follows.stays.header ∙ begins.header;
-      loose = λ any loose. follows.stays.loose any (begins.loose any loose);
-      room = record { tables = follows.stays.room.tables ∙ begins.room.tables; blocks = follows.stays.room.blocks ∙ begins.room.blocks; entries = follows.stays.room.entries ∙ begins.room.entries };
       cause = why;
     }
 
@@ -333,26 +337,28 @@ module _ {S : Type 0} (state : S → StorageState) (i : ℕ) (image : ImageState
   pub begins-makes : (C : MetadataCaches S) (fC : ImageFile S) → Begins state image (λ _. 0) (lent image.table C fC image.pending) → (result : Result Unit Fault) (table' : TableValue) (new : MetadataCaches S) (after : ImageFile S)
       → MakesBlock state i (lent image.table C fC image.pending) result (lent table' new after image.pending) → MakesBlock state i image result (lent table' new after image.pending)
   begins-makes C fC begins result table' new after makes = record {
-    faults = λ whole. faultless-then begins.faults (makes.faults whole);
-    quiet = λ order. quietly-then ⊤ (WasNotCutOff result) (λ _. 0) (λ _. 0) (λ _. 0) (λ _. 0) (state image.file.image) m0 (state fC.image) (metadata_of state fC C image.table image.pending) (state after.image) (metadata_of state after new table' image.pending) tt (λ s c some. refl)
-        (begins.quiet order) (makes.quiet (begins.order ∙ order));
-    raised = λ order keeps sound whole. raised-then m0 (metadata_of state fC C image.table image.pending) (metadata_of state after new table' image.pending) (begins.raised order keeps sound)
-        (makes.raised (begins.order ∙ order) (on keeps) ((begins.quiet order).holds keeps sound tt).0 whole);
+    step = allocating-then state ⊤ (WasNotCutOff result) (λ _. 0) (λ _. 0) image (lent image.table C fC image.pending) (lent table' new after image.pending) tt begun makes.step;
     named = makes.named;
     others = makes.others;
     long = makes.long;
     layout = makes.layout;
     placed = makes.placed;
-    order = makes.order ∙ begins.order;
     header = makes.header ∙ begins.header;
-    loose = λ any loose. makes.loose any (begins.loose any loose);
-    room = record { tables = makes.room.tables ∙ begins.room.tables; blocks = makes.room.blocks ∙ begins.room.blocks; entries = makes.room.entries ∙ begins.room.entries };
-    cause = fails-weaker _ _ (allocating-weaker (λ holds. (on holds.0, begins.order ∙ holds.1, ((begins.quiet holds.1).holds holds.0 holds.2 tt).0)) begins.loose
+    cause = fails-weaker _ _ (allocating-weaker (λ holds. (keeps_on (state image.file.image) (state fC.image) begins.shape holds.0, begins.order ∙ holds.1, ((begins.quiet holds.1).holds holds.0 holds.2 tt).0)) begins.loose
         (λ number full. subst (λ (h : Header). (number ≤ i * counters_of_block h.fields) × (IsInReach h.fields.cluster_bits number → ⊥)) begins.header full) begins.faults.0) (λ same. same ∙ begins.faults.0) result makes.cause;
   }
     where
-      on : IsTrue (state image.file.image).shape.keeps → IsTrue (state fC.image).shape.keeps
-      on keeps = keeps_on (state image.file.image) (state fC.image) begins.shape keeps
+      begun : Allocating state ⊤ (λ _. 0) image (lent image.table C fC image.pending)
+      begun = record {
+        faults = λ done. begins.faults;
+        quiet = begins.quiet;
+        raised = λ order keeps sound done. begins.raised order keeps sound;
+        order = begins.order;
+        moved = moved-none image.file.header fC.header begins.header;
+        longer = omega arith;
+        loose = begins.loose;
+        room = begins.room;
+      }
 
   -- Begin and end.
   module _ (both : ℕ → ℕ) (ready : Type 0) (d : ℕ) (counters : List ℕ) (C : MetadataCaches S) (fC : ImageFile S) (begins : Begins state image both (lent image.table C fC image.pending))
@@ -364,26 +370,30 @@ module _ {S : Type 0} (state : S → StorageState) (i : ℕ) (image : ImageState
     pub made : block_offset (slice_index image.table.words i) ≡ 0 → (result : Result Unit Fault) (table' : TableValue) (after : ImageFile S) → after.header ≡ fC.header → Ends state i d counters (lent image.table C fC image.pending) ready both result table' (state after.image)
         → MakesBlock state i image result (lent table' C after image.pending)
     made empty result table' after header ends = record {
-      faults = λ whole. faultless-then begins.faults (ends.faults whole);
-      quiet = λ order.
-          quietly-given (WasNotCutOff result) (λ _. 0) (λ _. 0) (state image.file.image) m0 (state after.image) (metadata_of state after C table' image.pending) (ends.shape ∙ begins.shape) (later_both _ _ _ begins.later ends.later) (λ keeps sound.
-          quietly-otherwise (WasNotCutOff result) (λ c. both c + 0) (λ c. 0 + both c) (λ _. 0) (λ _. 0) (state image.file.image) m0 (state after.image) (metadata_of state after C table' image.pending) (λ s c. omega arith)
-          (λ s c used none. let no = unused order keeps s c used in omega (arith, no))
-          (there (λ m. Quietly (WasNotCutOff result) (λ c. both c + 0) (λ c. 0 + both c) (state image.file.image) m0 (state after.image) m)
-          (quietly-then-given ⊤ (WasNotCutOff result) both (λ _. 0) (λ _. 0) both (state image.file.image) m0 (state fC.image) m1 (state after.image) (ended m1.header) tt (λ s c some. refl) (begins.quiet order) ends.shape ends.later
-          (λ k s s1 quiet. ends.quiet (on keeps) (from order keeps s s1)))));
-      raised = λ order keeps sound whole.
-          let s1 = ((begins.quiet order).holds keeps sound tt).0 in
-          there (λ m. OnlyRaised m0 m) (raised-then m0 m1 (ended m1.header) (begins.raised order keeps sound) (ends.raised (on keeps) s1 (from order keeps sound s1) whole));
+      step = record {
+        faults = λ whole. faultless-then begins.faults (ends.faults whole);
+        quiet = λ order.
+            quietly-given (WasNotCutOff result) (λ _. 0) (λ _. 0) (state image.file.image) m0 (state after.image) (metadata_of state after C table' image.pending) (ends.shape ∙ begins.shape) (later_both _ _ _ begins.later ends.later) (λ keeps sound.
+            quietly-otherwise (WasNotCutOff result) (λ c. both c + 0) (λ c. 0 + both c) (λ _. 0) (λ _. 0) (state image.file.image) m0 (state after.image) (metadata_of state after C table' image.pending) (λ s c. omega arith)
+            (λ s c used none. let no = unused order keeps s c used in omega (arith, no))
+            (there (λ m. Quietly (WasNotCutOff result) (λ c. both c + 0) (λ c. 0 + both c) (state image.file.image) m0 (state after.image) m)
+            (quietly-then-given ⊤ (WasNotCutOff result) both (λ _. 0) (λ _. 0) both (state image.file.image) m0 (state fC.image) m1 (state after.image) (ended m1.header) tt (λ s c some. refl) (begins.quiet order) ends.shape ends.later
+            (λ k s s1 quiet. ends.quiet (on keeps) (from order keeps s s1)))));
+        raised = λ order keeps sound whole.
+            let s1 = ((begins.quiet order).holds keeps sound tt).0 in
+            there (λ m. OnlyRaised m0 m) (raised-then m0 m1 (ended m1.header) (begins.raised order keeps sound) (ends.raised (on keeps) s1 (from order keeps sound s1) whole));
+        order = begins.order;
+        moved = moved-none image.file.header after.header (header ∙ begins.header);
+        longer = let long = ends.named.long in omega (arith, long);
+        loose = λ any loose. loose-named image.table table' C kept any (begins.loose any loose);
+        room = begins.room;
+      };
       named = ends.named.named;
       others = ends.named.others;
       long = ends.named.long;
       layout = ends.named.layout;
       placed = ends.named.placed;
-      order = begins.order;
       header = header ∙ begins.header;
-      loose = λ any loose. loose-named image.table table' C kept any (begins.loose any loose);
-      room = begins.room;
       cause = let same = begins.faults.0 in storage-fails _ _ _ (omega (arith, same)) (omega arith) (λ still. still ∙ same) result ends.cause;
     }
       where

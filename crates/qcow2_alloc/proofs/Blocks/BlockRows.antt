@@ -29,7 +29,7 @@ use Rattle.qcow2_alloc.specs.Quiet.{IsSound}
 use Rattle.qcow2_alloc.specs.State.{lent}
 use Rattle.qcow2_alloc.proofs.Causes.{cause-weaker}
 use Rattle.qcow2_alloc.proofs.Blocks.BlockCreationCalls.{allocating-weaker}
-use Rattle.qcow2_alloc.proofs.Handing.CountSequences.{allocating-none, allocating-then, allocating-as, block-allocates}
+use Rattle.qcow2_alloc.proofs.Handing.CountSequences.{allocating-none, allocating-then}
 
 -- the answer of a call that succeeded
 abbrev pub so : Provision → Result Provision Fault
@@ -99,7 +99,7 @@ module _ {S : Type 0} (state : S → StorageState) (pending : List FreeEntry) (f
     pub blocks-then : c < length tA.words → block_offset (slice_index tB.words c) ≡ 0 → first ≤ c → (result : Result Unit Fault) (tC : TableValue) (C : MetadataCaches S) (fC : ImageFile S) → MakesBlock state c (lent tB B fB pending) result (lent tC C fC pending)
         → MakesBlocks state first (c + 1) (lent tA A fA pending) (made_by result) (lent tC C fC pending)
     blocks-then inside none above result tC C fC two = record {
-      step = step result (block-allocates state c (lent tB B fB pending) result tC C fC two);
+      step = step result two.step;
       named = named result two.named;
       kept = λ i some. kept i some;
       idle = idle result;
@@ -112,10 +112,8 @@ module _ {S : Type 0} (state : S → StorageState) (pending : List FreeEntry) (f
     }
       where
         step : (r : Result Unit Fault) → Allocating state (WasNotCutOff r) (λ _. 0) (lent tB B fB pending) (lent tC C fC pending) → Allocating state (WasNotCutOff (made_by r)) (λ _. 0) (lent tA A fA pending) (lent tC C fC pending)
-        step (Ok done) more = allocating-as state (WasNotCutOff (so Extended)) (WasNotCutOff (so Extended)) (λ d. 0 + 0) (λ _. 0) (lent tA A fA pending) (lent tC C fC pending) (λ w. w) (λ d. omega arith)
-            (allocating-then state (WasNotCutOff (so made)) (WasNotCutOff (so Extended)) (λ _. 0) (λ _. 0) (lent tA A fA pending) (lent tB B fB pending) (lent tC C fC pending) tt one.step more)
-        step (Err fault) more = allocating-as state (WasNotCutOff (made_by (Err fault))) (WasNotCutOff (made_by (Err fault))) (λ d. 0 + 0) (λ _. 0) (lent tA A fA pending) (lent tC C fC pending) (λ w. w) (λ d. omega arith)
-            (allocating-then state (WasNotCutOff (so made)) (WasNotCutOff (made_by (Err fault))) (λ _. 0) (λ _. 0) (lent tA A fA pending) (lent tB B fB pending) (lent tC C fC pending) tt one.step more)
+        step (Ok done) more = allocating-then state (WasNotCutOff (so made)) (WasNotCutOff (so Extended)) (λ _. 0) (λ _. 0) (lent tA A fA pending) (lent tB B fB pending) (lent tC C fC pending) tt one.step more
+        step (Err fault) more = allocating-then state (WasNotCutOff (so made)) (WasNotCutOff (made_by (Err fault))) (λ _. 0) (λ _. 0) (lent tA A fA pending) (lent tB B fB pending) (lent tC C fC pending) tt one.step more
 
         others : (i : ℕ) → i ≢ c → slice_index tC.words i ≡ slice_index tB.words i
         others = two.others

@@ -116,7 +116,7 @@ module _ {S : Type 0} (state : S → StorageState) (mark index : ℕ) (s : Image
 
   raised-at : (d : ℕ) → d ≢ 0 → block_offset (slice_index table'.words index) ≡ d * cluster_size s.file.header.fields → (c : ℕ) → counted New c ≡ counted Old c + one_at d c
   raised-at d some named =
-      let held = (made.quiet order).holds keeps sound tt in
+      let held = (made.step.quiet order).holds keeps sound tt in
       counted-more Old New index d sound held.0 made.header refl held.1 some (let long = sound.table.long in omega (arith, inside, long)) empty named made.others
 
   -- in a free cluster that another block counts,

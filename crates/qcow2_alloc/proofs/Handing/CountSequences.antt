@@ -1,18 +1,13 @@
 -- Calls that count clusters, one behind the other.
-use Rattle.std.proofs.Common.{◌≡◌, ℕ, ◌+◌, ◌<◌, refl, arith, ap, sym, ◌∙◌, inl, inr, Result}
+use Rattle.std.proofs.Common.{◌≡◌, ℕ, ◌+◌, ◌<◌, refl, arith, ap, sym, ◌∙◌, inl, inr}
 use Rattle.std.specs.Prelude.{⊤}
 use Rattle.imago_storage.specs.State.{StorageState}
-use Rattle.imago_storage.specs.declared.fault.Fault.{Fault}
 use Rattle.imago_storage.proofs.Composing.{keeps_on}
 use Rattle.qcow2_types.specs.Header.{Header}
 use Rattle.qcow2_types.specs.Switched.{with_refcount_table}
-use Rattle.qcow2_metadata.specs.Tables.{TableValue}
-use Rattle.qcow2_alloc.specs.declared.cache.MetadataCaches.{MetadataCaches}
-use Rattle.qcow2_alloc.specs.declared.file.ImageFile.{ImageFile}
-use Rattle.qcow2_alloc.specs.Allocating.{Allocating, MakesBlock, MovedTable, OnlyRaised}
-use Rattle.qcow2_alloc.specs.Going.{WasNotCutOff}
+use Rattle.qcow2_alloc.specs.Allocating.{Allocating, MovedTable, OnlyRaised}
 use Rattle.qcow2_alloc.specs.Quiet.{Metadata, counted}
-use Rattle.qcow2_alloc.specs.State.{ImageState, lent, metadata}
+use Rattle.qcow2_alloc.specs.State.{ImageState, metadata}
 use Rattle.qcow2_alloc.proofs.Flushing.FaultlessCalls.{faultless-then}
 use Rattle.qcow2_alloc.proofs.Quiet.QuietFlushes.{memory-quietly, quiet-none, quietly-weaker}
 use Rattle.qcow2_alloc.proofs.Quiet.QuietSequences.{quietly-then, quietly-otherwise}
@@ -85,19 +80,3 @@ module _ {S : Type 0} (state : S → StorageState) where
     loose = one.loose;
     room = one.room;
   }
-
-  -- A block is made so.
-  pub block-allocates : (index : ℕ) (s : ImageState S) (result : Result Unit Fault) (table' : TableValue) (new : MetadataCaches S) (after : ImageFile S)
-      → MakesBlock state index s result (lent table' new after s.pending) → Allocating state (WasNotCutOff result) (λ _. 0) s (lent table' new after s.pending)
-  block-allocates index s result table' new after made =
-      let long = made.long in
-      record {
-        faults = made.faults;
-        quiet = made.quiet;
-        raised = made.raised;
-        order = made.order;
-        moved = moved-none s.file.header after.header made.header;
-        longer = omega (arith, long);
-        loose = made.loose;
-        room = made.room;
-      }

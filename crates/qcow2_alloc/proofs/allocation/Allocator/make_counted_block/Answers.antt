@@ -1,4 +1,5 @@
 use Rattle.std.proofs.Common.{◌≡◌, ◌*◌, ◌<◌, ◌∙◌, arith, ap, subst}
+use Rattle.imago_storage.specs.declared.fault.Fault.TheVariants.{DamagedTable}
 use Rattle.qcow2_types.specs.Counts.{counters_of_block}
 use Rattle.qcow2_metadata.specs.Blocks.{Block}
 use Rattle.qcow2_metadata.specs.Places.{IsInReach}
@@ -13,11 +14,18 @@ use Rattle.qcow2_alloc.specs.declared.cache.MetadataCaches.{MetadataCaches}
 use Rattle.qcow2_alloc.proofs.Blocks.ClusterCounts.{succeeded}
 use Rattle.qcow2_alloc.proofs.Searching.FreeClusters.{uncounted-free}
 use Rattle.qcow2_alloc.proofs.Freeing.EntryFrees.{failed}
-use Rattle.qcow2_alloc.proofs.Blocks.BlockCreationCalls.{first-counted, namable, unmade-memory, unmade-place, unforgotten}
+use Rattle.qcow2_alloc.proofs.Blocks.BlockCreationCalls.{first-counted, namable, unmade, unmade-memory, unmade-place, unforgotten}
 use Rattle.qcow2_alloc.proofs.Blocks.OutsideBlocks.{uncounted-made, unwritten-made, taken-made-so}
 use Rattle.qcow2_alloc.proofs.Faults.{handed-on}
 use Rattle.qcow2_alloc.proofs.allocation.Allocator.make_counted_block.Goals as goal
 use Rattle.qcow2_alloc.proofs.Blocks.NewBlockPlaces.{written-on-ok}
+
+pub returns-then-place-own_place-clause-makes : goal.returns-then-place-own_place-clause-makes
+returns-then-place-own_place-clause-makes g c = λ pending first f begun free.
+    let own = c.own_place.ensures.first in
+    let past = c.if-place-own_place.true in
+    unmade g.S.Storage.state c.args.index (lent (table_of c.args.self.now) first f pending) c.args.caches.now c.args.file.now begun DamagedTable
+    (λ holds. let below = (free holds.1 holds.0 holds.2).below in omega (arith, own, past, below))
 
 pub returns-in_err-check_place-clause-makes : goal.returns-in_err-check_place-clause-makes
 returns-in_err-check_place-clause-makes g c = rw (handed-on _ _ c.from_residual.ensures.1) (λ pending first f begun free.
