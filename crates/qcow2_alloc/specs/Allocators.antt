@@ -18,8 +18,8 @@ use Rattle.qcow2_alloc.specs.declared.cache.MetadataCaches.{MetadataCaches}
 use Rattle.qcow2_alloc.specs.declared.file.ImageFile.{ImageFile}
 use Rattle.qcow2_alloc.specs.Cache.{hit}
 use Rattle.qcow2_alloc.specs.Caches.{CachedFile, cached_in, order_of}
-use Rattle.qcow2_alloc.specs.CachesLending.{with_tables, with_blocks}
-use Rattle.qcow2_alloc.specs.Finding.{TableFound, BlockFound}
+use Rattle.qcow2_alloc.specs.CachesLending.{OneCache, of_tables, of_blocks}
+use Rattle.qcow2_alloc.specs.Finding.{EntryFound}
 use Rattle.qcow2_alloc.specs.Going.{WasNotCutOff}
 use Rattle.qcow2_alloc.specs.Quiet.{Metadata, IsTableOf}
 
@@ -46,39 +46,38 @@ metadata_of state file caches table pending = record {
   pending = pending;
 }
 
--- The block in a cluster is found and used so.
-pub record BlockUsed {S T : Type 0} (state : S → StorageState) (cluster : ℕ) (does : Block → Result T Fault → Block → Type 0)
+-- The entry of a cluster is found in one of the caches and used so,
+pub record EntryUsed {S V W A B T : Type 0} (cache : OneCache S V W A B) (cluster : ℕ) (does : V → Result T Fault → V → Type 0)
     (old : CachedFile S) (result : Result T Fault) (new : CachedFile S) : Type 0 where
   pub mid : MetadataCaches S
-  pub found : BlockFound state cluster old.caches old.file (Ok tt) mid new.file
-  pub block : Block
-  pub block' : Block
-  pub there : option_map (λ s. s.value) (lookup (nat_eq cluster) (cached_in mid).blocks) ≡ Some block
-  pub used : does block result block'
-  pub left : new.caches ≡ with_blocks mid (hit (nat_eq cluster) (cached_in mid).blocks block')
-
--- It is found and used so, or the search is refused.
-abbrev pub UsesBlock : {S T : Type 0} → (S → StorageState) → ℕ → (Block → Result T Fault → Block → Type 0) → CachedFile S → Result T Fault
-    → CachedFile S → Type 0
-UsesBlock state cluster does old result new = ((fault : Fault) × (result ≡ Err fault)
-    × BlockFound state cluster old.caches old.file (Err fault) new.caches new.file) ⊎ BlockUsed state cluster does old result new
-
--- The same of the L2 table in a cluster: it is found, lent, used and put back,
-pub record TableUsed {S T : Type 0} (state : S → StorageState) (cluster : ℕ) (does : TableValue → Result T Fault → TableValue → Type 0)
-    (old : CachedFile S) (result : Result T Fault) (new : CachedFile S) : Type 0 where
-  pub mid : MetadataCaches S
-  pub found : TableFound state cluster old.caches old.file (Ok tt) mid new.file
-  pub table : TableValue
-  pub table' : TableValue
-  pub there : option_map (λ s. s.value) (lookup (nat_eq cluster) (cached_in mid).tables) ≡ Some table
-  pub used : does table result table'
-  pub left : new.caches ≡ with_tables mid (hit (nat_eq cluster) (cached_in mid).tables table')
+  pub found : EntryFound cache.kind cluster (cache.see old.caches) old.file (Ok tt) (cache.see mid) new.file
+  pub value : V
+  pub value' : V
+  pub there : option_map (λ s. s.value) (lookup (nat_eq cluster) (cache.see mid).own.slots.entries) ≡ Some value
+  pub used : does value result value'
+  pub left : new.caches ≡ cache.put mid (hit (nat_eq cluster) (cache.see mid).own.slots.entries value')
 
 -- or the search is refused.
-abbrev pub UsesTable : {S T : Type 0} → (S → StorageState) → ℕ → (TableValue → Result T Fault → TableValue → Type 0) → CachedFile S
-    → Result T Fault → CachedFile S → Type 0
-UsesTable state cluster does old result new = ((fault : Fault) × (result ≡ Err fault)
-    × TableFound state cluster old.caches old.file (Err fault) new.caches new.file) ⊎ TableUsed state cluster does old result new
+abbrev pub UsesEntry : {S V W A B T : Type 0} → OneCache S V W A B → ℕ → (V → Result T Fault → V → Type 0) → CachedFile S → Result T Fault
+    → CachedFile S → Type 0
+UsesEntry cache cluster does old result new = ((fault : Fault) × (result ≡ Err fault)
+    × EntryFound cache.kind cluster (cache.see old.caches) old.file (Err fault) (cache.see new.caches) new.file)
+    ⊎ EntryUsed cache cluster does old result new
+
+module _ {S T : Type 0} (state : S → StorageState) (cluster : ℕ) where
+  -- So is a refcount block used,
+  abbrev pub BlockUsed : (Block → Result T Fault → Block → Type 0) → CachedFile S → Result T Fault → CachedFile S → Type 0
+  BlockUsed = EntryUsed (of_blocks state) cluster
+
+  abbrev pub UsesBlock : (Block → Result T Fault → Block → Type 0) → CachedFile S → Result T Fault → CachedFile S → Type 0
+  UsesBlock = UsesEntry (of_blocks state) cluster
+
+  -- and so is an L2 table.
+  abbrev pub TableUsed : (TableValue → Result T Fault → TableValue → Type 0) → CachedFile S → Result T Fault → CachedFile S → Type 0
+  TableUsed = EntryUsed (of_tables state) cluster
+
+  abbrev pub UsesTable : (TableValue → Result T Fault → TableValue → Type 0) → CachedFile S → Result T Fault → CachedFile S → Type 0
+  UsesTable = UsesEntry (of_tables state) cluster
 
 -- How a counter of a block is lowered by 1: it is refused where there is no such counter or where it is 0.
 pub record Lowers (index : ℕ) (block : Block) (result : Result Unit Fault) (block' : Block) : Type 0 where

@@ -8,7 +8,9 @@ use Rattle.imago_storage.specs.declared.fault.Fault.{Fault}
 use Rattle.qcow2_metadata.specs.Tables.{TableValue}
 use Rattle.qcow2_metadata.specs.Blocks.{Block}
 use Rattle.qcow2_alloc.specs.declared.async_lru_cache.Slot.{Slot}
+use Rattle.qcow2_alloc.specs.declared.cache.L2CacheBackend.{L2CacheBackend}
 use Rattle.qcow2_alloc.specs.declared.cache.MetadataCaches.{MetadataCaches}
+use Rattle.qcow2_alloc.specs.declared.cache.RefBlockCacheBackend.{RefBlockCacheBackend}
 use Rattle.qcow2_alloc.specs.declared.file.ImageFile.{ImageFile}
 use Rattle.qcow2_alloc.specs.contracts.cache.MetadataCaches.{the_row}
 use Rattle.qcow2_metadata.specs.contracts.entries.L2Entry.{the_row as entry_row}
@@ -35,24 +37,35 @@ module _ {S : Type 0} where
     abbrev pub block_kind : ℕ → CacheKind ℕ Block (ImageFile S)
     block_kind cap = cache_kind nat_eq (loads_of (block_entries state)) (flushes_of (block_entries state)) cap
 
-module _ (S V : RattleType) {W A B : Type 0} (kind : CachedKind S.Denot V.Denot W)
-    (seen : MetadataCaches S.Denot → Beside S.Denot V.Denot W A B)
-    (put : MetadataCaches S.Denot → List (ℕ × Slot V.Denot) → MetadataCaches S.Denot) where
+-- One of the two caches: what its entries are, how it is seen, and what both are with other entries in it.
+pub record OneCache (S V W A B : Type 0) : Type 1 where
+  pub kind : CachedKind S V W
+  pub see : MetadataCaches S → Beside S V W A B
+  pub put : MetadataCaches S → List (ℕ × Slot V) → MetadataCaches S
+
+module _ {S : Type 0} (state : S → StorageState) where
+  abbrev pub of_tables : OneCache S TableValue Block (L2CacheBackend S) (RefBlockCacheBackend S)
+  of_tables = record { kind = table_entries state; see = by_tables; put = with_tables }
+
+  abbrev pub of_blocks : OneCache S Block TableValue (RefBlockCacheBackend S) (L2CacheBackend S)
+  of_blocks = record { kind = block_entries state; see = by_blocks; put = with_blocks }
+
+module _ (S V : RattleType) {W A B : Type 0} (cache : OneCache S.Denot V.Denot W A B) where
   -- The entry is found or loaded with the value that r shows, and goes first, with the last value written through r.
   abbrev pub lends_entry : MutBor (MetadataCaches S.Denot) → ImageFile S.Denot → ImageFile S.Denot → ℕ
       → Result (MutBor V.Denot) Fault → Fml
   lends_entry c before after cluster r = LendsSoOk (the_row S) V c r
-      (λ n w. (mid : MetadataCaches S.Denot) × EntryFound kind cluster (seen c.now) before (Ok tt) (seen mid) after
-      × IfOk r (λ v. option_map (λ s. s.value) (lookup (nat_eq cluster) (seen mid).own.slots.entries) ≡ Some v.now)
-      × (n ≡ put mid (hit (nat_eq cluster) (seen mid).own.slots.entries w)))
-      (λ n. IfErr r (λ fault. EntryFound kind cluster (seen c.now) before (Err fault) (seen n) after))
+      (λ n w. (mid : MetadataCaches S.Denot) × EntryFound cache.kind cluster (cache.see c.now) before (Ok tt) (cache.see mid) after
+      × IfOk r (λ v. option_map (λ s. s.value) (lookup (nat_eq cluster) (cache.see mid).own.slots.entries) ≡ Some v.now)
+      × (n ≡ cache.put mid (hit (nat_eq cluster) (cache.see mid).own.slots.entries w)))
+      (λ n. IfErr r (λ fault. EntryFound cache.kind cluster (cache.see c.now) before (Err fault) (cache.see n) after))
 
 module _ (S : RattleType) (state : S.Denot → StorageState) where
   -- So is a table,
   abbrev pub lends_table : MutBor (MetadataCaches S.Denot) → ImageFile S.Denot → ImageFile S.Denot → ℕ
       → Result (MutBor TableValue) Fault → Fml
-  lends_table = lends_entry S (table_row entry_row ghosts) (table_entries state) by_tables with_tables
+  lends_table = lends_entry S (table_row entry_row ghosts) (of_tables state)
 
   -- and so is a block.
   abbrev pub lends_block : MutBor (MetadataCaches S.Denot) → ImageFile S.Denot → ImageFile S.Denot → ℕ → Result (MutBor Block) Fault → Fml
-  lends_block = lends_entry S block_row (block_entries state) by_blocks with_blocks
+  lends_block = lends_entry S block_row (of_blocks state)

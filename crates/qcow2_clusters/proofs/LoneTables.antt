@@ -118,7 +118,7 @@ module _ {S : Type 0} (state : S → StorageState) (key : ℕ) (old : MetadataCa
       (after : ImageFile S) → UsesTable state key does (cached_file old before) result (cached_file new after) → AreUnpinned new
   used-unpinned does result new after (inl r) = unpinned-as new nothing_cached (refused-empty r.0 new after r.2) (tt, tt)
   used-unpinned does result new after (inr u) =
-      unpinned-as new (lone_table key u.table') (used-alone u.mid after u.table' new u.found u.left) ((refl, tt), tt)
+      unpinned-as new (lone_table key u.value') (used-alone u.mid after u.value' new u.found u.left) ((refl, tt), tt)
 
   -- No other table is cached then.
   pub used-keys : {T : Type 0} (does : TableValue → Result T Fault → TableValue → Type 0) (result : Result T Fault) (new : MetadataCaches S)
@@ -127,10 +127,10 @@ module _ {S : Type 0} (state : S → StorageState) (key : ℕ) (old : MetadataCa
   used-keys does result new after (inl r) =
       subst (λ (c : Cached). AllByRecursion (λ e. e.0 ≡ key) c.tables) (sym (refused-empty r.0 new after r.2)) tt
   used-keys does result new after (inr u) =
-      subst (λ (c : Cached). AllByRecursion (λ e. e.0 ≡ key) c.tables) (sym (used-alone u.mid after u.table' new u.found u.left)) (refl, tt)
+      subst (λ (c : Cached). AllByRecursion (λ e. e.0 ≡ key) c.tables) (sym (used-alone u.mid after u.value' new u.found u.left)) (refl, tt)
 
   -- It alone is, where it was used.
   pub used-one : {T : Type 0} (does : TableValue → Result T Fault → TableValue → Type 0) (v : T) (new : MetadataCaches S) (after : ImageFile S)
       → UsesTable state key does (cached_file old before) (Ok v) (cached_file new after) → length (cached_in new).tables ≡ 1
   used-one does v new after (inl r) = absurd (let bad : Ok v ≡ Err r.0 = r.1 in cc)
-  used-one does v new after (inr u) = ap (λ (c : Cached). length c.tables) (used-alone u.mid after u.table' new u.found u.left)
+  used-one does v new after (inr u) = ap (λ (c : Cached). length c.tables) (used-alone u.mid after u.value' new u.found u.left)

@@ -249,14 +249,14 @@ module _ {S : Type 0} (state : S → StorageState) (table guest x n : ℕ) (c c'
       bytes-same : bytes_of s1.bytes ≡ bytes_of s0.bytes
       bytes-same = ap bytes_of (only-read state table c.caches c.file rest (Ok tt) u.mid between u.found).bytes
 
-      is-read : u.table ≡ read
-      is-read = used-read state table c.caches c.file rest u.mid between u.found u.table u.there
+      is-read : u.value ≡ read
+      is-read = used-read state table c.caches c.file rest u.mid between u.found u.value u.there
 
-      is-file's : u.table ≡ table_in m0.file c.file.header.fields table (words_of_cluster c.file.header.fields)
+      is-file's : u.value ≡ table_in m0.file c.file.header.fields table (words_of_cluster c.file.header.fields)
       is-file's = is-read ∙ ap (λ (b : Bytes). table_in b c.file.header.fields table (words_of_cluster c.file.header.fields)) bytes-same
 
-      left-alone : cached_in mid ≡ lone_table table u.table'
-      left-alone = used-alone state table c.caches c.file rest u.mid between u.table' mid u.found u.left
+      left-alone : cached_in mid ≡ lone_table table u.value'
+      left-alone = used-alone state table c.caches c.file rest u.mid between u.value' mid u.found u.left
 
       room-same : HasRoomOf c.caches mid
       room-same = record {
@@ -304,13 +304,13 @@ module _ {S : Type 0} (state : S → StorageState) (table guest x n : ℕ) (c c'
       module _ (held : c'.space.to_free.held ≡ c.space.to_free.held) (some : x ≢ 0)
           (near : (d : ℕ) → d < n → IsInReach c.file.header.fields.cluster_bits (x + d))
           (fits : guest % words_of_cluster c.file.header.fields + n ≤ words_of_cluster c.file.header.fields)
-          (names : NamesWords (guest % words_of_cluster c.file.header.fields) x n (listing u.table c.space.to_free) (listing u.table' c'.space.to_free))
+          (names : NamesWords (guest % words_of_cluster c.file.header.fields) x n (listing u.value c.space.to_free) (listing u.value' c'.space.to_free))
           (allocator : c'.space.allocator ≡ c.space.allocator) (is : done ≡ Ok tt)
           (settles : Settles state done between mid result c'.file c'.caches) where
         set-reach : Ready → AreTablesInReach (cached_in mid) × AreBlocksInReach (cached_in mid)
         set-reach ready =
-            let bits : u.table'.layout.cluster_bits ≡ c.file.header.fields.cluster_bits =
-            ap (λ l. l.cluster_bits) (words-layout _ x n (listing u.table c.space.to_free) (listing u.table' c'.space.to_free) names)
+            let bits : u.value'.layout.cluster_bits ≡ c.file.header.fields.cluster_bits =
+            ap (λ l. l.cluster_bits) (words-layout _ x n (listing u.value c.space.to_free) (listing u.value' c'.space.to_free) names)
             ∙ ap (λ (t : TableValue). t.layout.cluster_bits) is-read in
             subst (λ (k : Cached). AreTablesInReach k × AreBlocksInReach k) (sym left-alone)
             (((λ modified. subst (λ b. IsInReach b table) (sym bits) (table-near m0 table (guest + 0) (x + 0) ready.0.sound (ready.1 0 any))), tt), tt)
@@ -321,17 +321,17 @@ module _ {S : Type 0} (state : S → StorageState) (table guest x n : ℕ) (c c'
 
           -- the image with such a table cached alone, and such a list
           abbrev cached-as : Listed → Metadata
-          cached-as = image m0 table guest x ready.0.sound some (order_of c.caches) u.table is-file's c.space.to_free
+          cached-as = image m0 table guest x ready.0.sound some (order_of c.caches) u.value is-file's c.space.to_free
 
           abbrev at-first : Metadata
-          at-first = cached-as (listing u.table c.space.to_free)
+          at-first = cached-as (listing u.value c.space.to_free)
 
           abbrev at-last : Metadata
-          at-last = cached-as (listing u.table' c'.space.to_free)
+          at-last = cached-as (listing u.value' c'.space.to_free)
 
           first-same : found-as u.mid ≡ at-first
           first-same =
-              let alone : cached_in u.mid ≡ lone_table table u.table =
+              let alone : cached_in u.mid ≡ lone_table table u.value =
               found-alone state table c.caches c.file rest u.mid between u.found ∙ ap (lone_table table) (sym is-read) in
               λ k. record m0 { file = bytes-same k; cached = alone k; order = order_of c.caches }
 
@@ -353,9 +353,9 @@ module _ {S : Type 0} (state : S → StorageState) (table guest x n : ℕ) (c c'
           first = subst (λ (z : Metadata). IsSound z × IsQuiet (λ _. 0) (λ _. 0) m0 z) first-same
               ((searched (Ok tt) u.mid u.found).holds ready.0.keeps ready.0.sound tt)
 
-          stood : Standing m0 table guest x ready.0.sound some (order_of c.caches) u.table is-file's c.space.to_free n n (listing u.table' c'.space.to_free)
-          stood = stands m0 table guest x ready.0.sound some (order_of c.caches) u.table is-file's c.space.to_free first.0 first.1 n ready.1 near fits n
-              (omega arith) (listing u.table' c'.space.to_free) names
+          stood : Standing m0 table guest x ready.0.sound some (order_of c.caches) u.value is-file's c.space.to_free n n (listing u.value' c'.space.to_free)
+          stood = stands m0 table guest x ready.0.sound some (order_of c.caches) u.value is-file's c.space.to_free first.0 first.1 n ready.1 near fits n
+              (omega arith) (listing u.value' c'.space.to_free) names
 
           set-sound : IsSound m1
           set-sound = subst IsSound last-same stood.step.sound
@@ -477,7 +477,7 @@ module _ {S : Type 0} (state : S → StorageState) (table guest x n : ℕ) (c c'
         | inl memory ↦ unput-begun (Err fault) u held (is ∙ ap (λ e. Err e) memory) settles
         -- The table that is found is one of this image.
         | inr damaged ↦ absurd (damaged.1 (ap (λ (t : TableValue). t.layout.cluster_bits)
-            (used-read state table c.caches c.file rest u.mid between u.found u.table u.there)))
+            (used-read state table c.caches c.file rest u.mid between u.found u.value u.there)))
       ]
 
       pub names-by : UsesTable state table Does (cached_file c.caches c.file) done (cached_file mid between) → NamesRun state table guest x n c result c'
@@ -497,7 +497,7 @@ module _ {S : Type 0} (state : S → StorageState) (table guest x n : ℕ) (c c'
       sound-so (Err fault) is (inr u) ready ok = elim u.used.err [
         | inl memory ↦ absurd (unput-never (Err fault) u held (is ∙ ap (λ e. Err e) memory) settles ok)
         | inr damaged ↦ absurd (damaged.1 (ap (λ (t : TableValue). t.layout.cluster_bits)
-            (used-read state table c.caches c.file rest u.mid between u.found u.table u.there)))
+            (used-read state table c.caches c.file rest u.mid between u.found u.value u.there)))
       ]
 
       -- So the table that stays cached then is the file's.

@@ -100,27 +100,27 @@ module _ {S : Type 0} (g : Ghosts S) (guest most table : ℕ) (old new : Tables 
         }
 
   -- A table that is found and stays.
-  module _ {T : Type 0} (does : TableValue → Result T Fault → TableValue → Type 0) (result : Result T Fault) (u : TableUsed g.state table does (cached_file old.caches old.file) result (cached_file new.caches new.file)) (same : u.table' ≡ u.table) where
-    left : new.caches ≡ with_tables u.mid (hit (nat_eq table) (cached_in u.mid).tables u.table)
+  module _ {T : Type 0} (does : TableValue → Result T Fault → TableValue → Type 0) (result : Result T Fault) (u : TableUsed g.state table does (cached_file old.caches old.file) result (cached_file new.caches new.file)) (same : u.value' ≡ u.value) where
+    left : new.caches ≡ with_tables u.mid (hit (nat_eq table) (cached_in u.mid).tables u.value)
     left = u.left ∙ ap (λ x. with_tables u.mid (hit (nat_eq table) (cached_in u.mid).tables x)) same
 
     seen-used : IsSeen g old → IsSeen g new
     seen-used seen = seen-then u.mid (Ok tt) u.found
-        (rw left (all-hit (IsOfFile (file_of g old) H.fields) table (cached_in u.mid).tables u.table u.there (tables-found u.mid (Ok tt) u.found seen)))
+        (rw left (all-hit (IsOfFile (file_of g old) H.fields) table (cached_in u.mid).tables u.value u.there (tables-found u.mid (Ok tt) u.found seen)))
         seen
 
-    of-file : IsSeen g old → (u.table.layout ≡ layout_of H.fields) × (u.table.words ≡ words_in (file_of g old) (table * cluster_size H.fields) (words_of_cluster H.fields))
+    of-file : IsSeen g old → (u.value.layout ≡ layout_of H.fields) × (u.value.words ≡ words_in (file_of g old) (table * cluster_size H.fields) (words_of_cluster H.fields))
     of-file seen =
-        let one = one-hit (IsOfFile (file_of g old) H.fields) table (cached_in u.mid).tables u.table u.there (tables-found u.mid (Ok tt) u.found seen) in
+        let one = one-hit (IsOfFile (file_of g old) H.fields) table (cached_in u.mid).tables u.value u.there (tables-found u.mid (Ok tt) u.found seen) in
         (ap (λ (t : TableValue). t.layout) (sym one.2) ∙ one.1.layout, ap (λ (t : TableValue). t.words) (sym one.2) ∙ one.1.words)
 
     -- Its words are those of the guest clusters under it.
-    words-used : IsTable l2_words u.table → guest % words_of_cluster H.fields + most ≤ words_of_cluster H.fields → IsSeen g old → (k : ℕ) → k < most → mapping_in u.table ((guest + k) % words_of_cluster H.fields) ≡ entry (file_of g old) H.fields (guest + k)
+    words-used : IsTable l2_words u.value → guest % words_of_cluster H.fields + most ≤ words_of_cluster H.fields → IsSeen g old → (k : ℕ) → k < most → mapping_in u.value ((guest + k) % words_of_cluster H.fields) ≡ entry (file_of g old) H.fields (guest + k)
     words-used fits whole seen k lt =
         let is = of-file seen in
         let row = one-row guest most (words_of_cluster H.fields) k whole lt in
         let there : place_of_table old.l1.words H.fields.cluster_bits (guest + k) ≡ Some table = ap (λ x. cluster_named H.fields.cluster_bits (slice_index old.l1.words x)) row ∙ named in
-        entry-of-file (file_of g old) H.fields old.l1 u.table (guest + k) table seen.l1 there fits is.0 is.1 (in-row guest most (words_of_cluster H.fields) k whole lt)
+        entry-of-file (file_of g old) H.fields old.l1 u.value (guest + k) table seen.l1 there fits is.0 is.1 (in-row guest most (words_of_cluster H.fields) k whole lt)
 
   looks-found : (run : L2Mapping × ℕ) → guest % words_of_cluster H.fields + most ≤ words_of_cluster H.fields → UsesTable g.state table (ReadsRun H.fields.cluster_bits guest most) (cached_file old.caches old.file) (Ok run) (cached_file new.caches new.file) → LooksAt g guest most old (Ok run) new
   looks-found run whole (inl refused) = absurd (cc refused.1)
@@ -195,8 +195,8 @@ pub clean-used : {S T : Type 0} (state : S → StorageState) (table : ℕ) (does
 clean-used state table does old before result new after stays clean (inl r) = let still = r.2.still clean.0 clean.1 in (still.1, still.2)
 clean-used state table does old before result new after stays clean (inr u) =
     let still = u.found.still clean.0 clean.1 in
-    let left : new ≡ with_tables u.mid (hit (nat_eq table) (cached_in u.mid).tables u.table) = u.left ∙ ap (λ x. with_tables u.mid (hit (nat_eq table) (cached_in u.mid).tables x)) (stays u.table u.table' result u.used) in
-    rw left (all-hit (λ e. e.1.value.modified ≡ false) table (cached_in u.mid).tables u.table u.there still.1, still.2)
+    let left : new ≡ with_tables u.mid (hit (nat_eq table) (cached_in u.mid).tables u.value) = u.left ∙ ap (λ x. with_tables u.mid (hit (nat_eq table) (cached_in u.mid).tables x)) (stays u.value u.value' result u.used) in
+    rw left (all-hit (λ e. e.1.value.modified ≡ false) table (cached_in u.mid).tables u.value u.there still.1, still.2)
 
 -- and loose.
 module _ {S : Type 0} (state : S → StorageState) (table : ℕ) (old : MetadataCaches S) (before : ImageFile S) where
@@ -212,7 +212,7 @@ module _ {S : Type 0} (state : S → StorageState) (table : ℕ) (old : Metadata
   loose-used does result new after loose (inl r) = loose-found (Err r.0) new after r.2 loose
   loose-used does result new after loose (inr u) =
       let mid = loose-found (Ok tt) u.mid after u.found loose in
-      let less = (pins-hit table (cached_in u.mid).tables u.table').among (λ _. true) in
+      let less = (pins-hit table (cached_in u.mid).tables u.value').among (λ _. true) in
       rw u.left (omega (arith, less, mid.0), mid.1, mid.2, mid.3)
 
 -- Where the L1 table names none, all that it would map is unmapped.

@@ -111,22 +111,22 @@ module _ {S : Type 0} (state : S → StorageState) (table : TableValue) (pending
         let safe : Safe f before.header mid L2DependsOnRb = subst (λ (o : CacheDependency). Safe f before.header mid o) order settled.safe in
         let flushed = flushes-count Old (state before.image).bytes (state after.image).bytes mid refl settled c in
         let place = named-there Old i key sound names in
-        let block' = with_counter u.block (c % counters_of_block before.header.fields) 1 in
+        let block' = with_counter u.value (c % counters_of_block before.header.fields) 1 in
         let cached' : Cached = record mid { blocks = hit (nat_eq key) mid.blocks block' } in
         let sets : SetsCounter f before.header.fields mid key c 1 cached' = record {
-          block = u.block;
+          block = u.value;
           caches = record { there = u.there; counts = settled.left.words.places.blocks i ∙ place.0; some = place.1 };
           blocks = refl;
           tables = refl;
         } in
         let raised = counter-raised f before.header mid cached' key c safe sets (flushed.0 ∙ zero) in
         let names-now : named f (memory f before.header.fields cached') before.header.fields c ≡ 0 = raised.0.names c ∙ raised.1 in
-        let is = done-so (c % counters_of_block before.header.fields) u.block u.block' u.used in (
+        let is = done-so (c % counters_of_block before.header.fields) u.value u.value' u.used in (
           subst (λ (h : Header). named f (memory f h.fields (cached_in new)) h.fields c ≡ 0) (sym u.found.others.1)
               (subst (λ (m : MetadataCaches S). named f (memory f before.header.fields (cached_in m)) before.header.fields c ≡ 0) (sym u.left)
               (subst (λ (b : Block). named f (memory f before.header.fields (record mid { blocks = hit (nat_eq key) mid.blocks b })) before.header.fields c ≡ 0) (sym is) names-now)),
           subst (λ (m : MetadataCaches S). lookup (nat_eq c) (cached_in m).blocks ≡ None) (sym u.left)
-              (none-in-hit c key mid.blocks u.block' (key-apart key names) (none-in-search c written_block _ key _ (cached_in old).blocks mid.blocks u.found.sought (key-apart key names) uncached)),
+              (none-in-hit c key mid.blocks u.value' (key-apart key names) (none-in-search c written_block _ key _ (cached_in old).blocks mid.blocks u.found.sought (key-apart key names) uncached)),
         )
 
     -- The count of a cluster names nothing anew, and caches no block there.

@@ -237,7 +237,7 @@ module _ {S : Type 0} (state : S → StorageState) (table : TableValue) (pending
         let stays = used-stays state table key Does old before result new after u in
         let found = search-quietly state table key pending old before succeeded u.mid after u.found in
         let named-now : named_block table (c / counters_of_block after.header.fields) ≡ Some key = subst (λ (h : Header). named_block table (c / counters_of_block h.fields) ≡ Some key) (sym stays.header) named in
-        let raises : Raises (c % counters_of_block after.header.fields) u.block result u.block' = subst (λ (h : Header). Raises (c % counters_of_block h.fields) u.block result u.block') (sym stays.header) u.used in
+        let raises : Raises (c % counters_of_block after.header.fields) u.value result u.value' = subst (λ (h : Header). Raises (c % counters_of_block h.fields) u.value result u.value') (sym stays.header) u.used in
         let order-now : order_of old ≡ L2DependsOnRb → order_of u.mid ≡ L2DependsOnRb = λ order. u.found.others.0 ∙ order in
         let mid-sound : Keeps → IsSound Old → IsSound (At u.mid after) = λ keeps sound. (found.holds keeps sound tt).0 in
         let zero : Keeps → IsSound Old → Free → counted (At u.mid after) c ≡ 0 = λ keeps sound free. found-counts key succeeded u.mid u.found keeps sound tt c ∙ here free in (
@@ -250,12 +250,12 @@ module _ {S : Type 0} (state : S → StorageState) (table : TableValue) (pending
             faults = λ whole. u.found.going.faults tt;
             quiet = λ order free. subst (λ (m : MetadataCaches S). Quietly (WasNotCutOff result) (given result) (λ _. 0) (state before.image) Old (state after.image) (At m after)) (sym u.left)
                 (quietly-otherwise (WasNotCutOff result) (λ d. 0 + given result d) (λ d. 0 + 0) (given result) (λ _. 0) (state before.image) Old (state after.image) _ (λ sound d. omega arith) (λ sound d used none. omega arith)
-                (quietly-then-given ⊤ (WasNotCutOff result) (λ _. 0) (λ _. 0) (given result) (λ _. 0) (state before.image) Old (state after.image) (At u.mid after) (state after.image) (With key u.mid after named-now u.block u.there u.block') tt (λ sound d some. refl)
+                (quietly-then-given ⊤ (WasNotCutOff result) (λ _. 0) (λ _. 0) (given result) (λ _. 0) (state before.image) Old (state after.image) (At u.mid after) (state after.image) (With key u.mid after named-now u.value u.there u.value') tt (λ sound d some. refl)
                 found refl (later_same (state after.image)) (λ keeps sound sound1 quiet.
-                memory-quietly (WasNotCutOff result) (given result) (λ _. 0) (state after.image) (At u.mid after) (With key u.mid after named-now u.block u.there u.block') (λ sound2 whole.
-                let e = ends key u.mid after named-now u.block u.there result u.block' raises (order-now order) sound2 (zero keeps sound (free sound)) in (e.0, e.1)))));
+                memory-quietly (WasNotCutOff result) (given result) (λ _. 0) (state after.image) (At u.mid after) (With key u.mid after named-now u.value u.there u.value') (λ sound2 whole.
+                let e = ends key u.mid after named-now u.value u.there result u.value' raises (order-now order) sound2 (zero keeps sound (free sound)) in (e.0, e.1)))));
             raised = λ order keeps sound free whole d.
-                let e = ends key u.mid after named-now u.block u.there result u.block' raises (order-now order) (mid-sound keeps sound) (zero keeps sound free) in
+                let e = ends key u.mid after named-now u.value u.there result u.value' raises (order-now order) (mid-sound keeps sound) (zero keeps sound free) in
                 let more : counted New d ≡ counted (At u.mid after) d + given result d = subst (λ (m : MetadataCaches S). counted (At m after) d ≡ counted (At u.mid after) d + given result d) (sym u.left) (e.2 d) in
                 let same = found-counts key succeeded u.mid u.found keeps sound tt d in
                 omega (arith, more, same);
@@ -263,12 +263,12 @@ module _ {S : Type 0} (state : S → StorageState) (table : TableValue) (pending
             header = stays.header;
             loose = stays.loose;
             room = stays.room;
-            cause = elim (cases_lt (c % counters_of_block after.header.fields) (length u.block.counters)) [
-              | inr past ↦ subst (λ (q : Result Unit Fault). Counts q) (sym (raises.out past).0) (λ holds. let inside = counter-inside key u.mid after named-now u.block u.there (mid-sound holds.0 holds.2) in omega (arith, inside, past))
-              | inl inside ↦ elim (cases_eq (slice_index u.block.counters (c % counters_of_block after.header.fields)) 0) [
+            cause = elim (cases_lt (c % counters_of_block after.header.fields) (length u.value.counters)) [
+              | inr past ↦ subst (λ (q : Result Unit Fault). Counts q) (sym (raises.out past).0) (λ holds. let inside = counter-inside key u.mid after named-now u.value u.there (mid-sound holds.0 holds.2) in omega (arith, inside, past))
+              | inl inside ↦ elim (cases_eq (slice_index u.value.counters (c % counters_of_block after.header.fields)) 0) [
                 | inl none ↦ subst (λ (q : Result Unit Fault). Counts q) (sym (raises.none inside none).0) u.found.cause
                 | inr some ↦ subst (λ (q : Result Unit Fault). Counts q) (sym (raises.some inside (omega (arith, some))).0) (λ holds.
-                    let is = counter-is key u.mid after named-now u.block u.there (mid-sound holds.0 holds.2) in
+                    let is = counter-is key u.mid after named-now u.value u.there (mid-sound holds.0 holds.2) in
                     let none = zero holds.0 holds.2 (λ d le lt. (holds.3 d le lt).0) in
                     omega (arith, some, is, none))
               ]

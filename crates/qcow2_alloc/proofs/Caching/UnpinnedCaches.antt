@@ -105,7 +105,7 @@ module _ {S : Type 0} (state : S → StorageState) where
         entries = ap (λ (m : MetadataCaches S). map written_table (cached_in m).tables) u.left ∙ mid.room.entries;
       } in
       let pins : PinsNothing (cached_in old).blocks (cached_in new).blocks = subst (λ (m : MetadataCaches S). PinsNothing (cached_in old).blocks (cached_in m).blocks) (sym u.left)
-      (pins-then (cached_in old).blocks (cached_in u.mid).blocks _ mid.pins (pins-hit key (cached_in u.mid).blocks u.block')) in
+      (pins-then (cached_in old).blocks (cached_in u.mid).blocks _ mid.pins (pins-hit key (cached_in u.mid).blocks u.value')) in
       record {
         header = mid.header;
         order = ap (λ (m : MetadataCaches S). m.order) u.left ∙ mid.order;

@@ -184,11 +184,11 @@ module _ {S : Type 0} (state : S → StorageState) (table : TableValue) where
           → Quietly Done still still (state before.image) Old (state after.image) New
       used-quietly key named u =
           let header = u.found.others.1 in
-          let lowers : Lowers (c % counters_of_block after.header.fields) u.block result u.block' = subst (λ (h : Header). Lowers (c % counters_of_block h.fields) u.block result u.block') (sym header) u.used in
+          let lowers : Lowers (c % counters_of_block after.header.fields) u.value result u.value' = subst (λ (h : Header). Lowers (c % counters_of_block h.fields) u.value result u.value') (sym header) u.used in
           subst (λ (m : MetadataCaches S). Quietly Done still still (state before.image) Old (state after.image) (At m after (left result))) (sym u.left)
           (quietly-then ⊤ Done still still still still (state before.image) Old (state after.image) (At u.mid after pending) (state after.image) _ tt (λ sound d some. refl)
           (search-quietly key pending old before (Ok tt) u.mid after u.found)
-          (lower-quietly key u.mid after (loses-still u.mid u.found.others.0) (named-still key named header) u.block u.there Done result u.block' lowers))
+          (lower-quietly key u.mid after (loses-still u.mid u.found.others.0) (named-still key named header) u.value u.there Done result u.value' lowers))
 
       uses-quietly : (key : ℕ) → named_block table (c / counters_of_block before.header.fields) ≡ Some key → UsesBlock state key (Lowers (c % counters_of_block before.header.fields)) (cached_file old before) result (cached_file new after)
           → Quietly Done still still (state before.image) Old (state after.image) New
@@ -241,12 +241,12 @@ module _ {S : Type 0} (state : S → StorageState) (table : TableValue) where
       used-caused : (key : ℕ) → named_block table (c / counters_of_block before.header.fields) ≡ Some key → BlockUsed state key (Lowers (c % counters_of_block before.header.fields)) (cached_file old before) result (cached_file new after) → 0 < listed pending c → Counts result
       used-caused key named u waits =
           let header = u.found.others.1 in
-          let lowers : Lowers (c % counters_of_block after.header.fields) u.block result u.block' = subst (λ (h : Header). Lowers (c % counters_of_block h.fields) u.block result u.block') (sym header) u.used in
-          let there : Holds → (c % counters_of_block after.header.fields < length u.block.counters) × (0 < slice_index u.block.counters (c % counters_of_block after.header.fields)) = λ holds.
-          counter-there key u.mid after (loses-still u.mid u.found.others.0) (named-still key named header) u.block u.there ((search-quietly key pending old before (Ok tt) u.mid after u.found).holds holds.0 holds.1 tt).0 waits in
-          elim (cases_lt (c % counters_of_block after.header.fields) (length u.block.counters)) [
+          let lowers : Lowers (c % counters_of_block after.header.fields) u.value result u.value' = subst (λ (h : Header). Lowers (c % counters_of_block h.fields) u.value result u.value') (sym header) u.used in
+          let there : Holds → (c % counters_of_block after.header.fields < length u.value.counters) × (0 < slice_index u.value.counters (c % counters_of_block after.header.fields)) = λ holds.
+          counter-there key u.mid after (loses-still u.mid u.found.others.0) (named-still key named header) u.value u.there ((search-quietly key pending old before (Ok tt) u.mid after u.found).holds holds.0 holds.1 tt).0 waits in
+          elim (cases_lt (c % counters_of_block after.header.fields) (length u.value.counters)) [
             | inr past ↦ subst (λ (q : Result Unit Fault). Counts q) (sym (lowers.out past).0) (λ holds. let inside = (there holds).0 in omega (arith, past, inside))
-            | inl inside ↦ elim (cases_eq (slice_index u.block.counters (c % counters_of_block after.header.fields)) 0) [
+            | inl inside ↦ elim (cases_eq (slice_index u.value.counters (c % counters_of_block after.header.fields)) 0) [
               | inl none ↦ subst (λ (q : Result Unit Fault). Counts q) (sym (lowers.none inside none).0) (λ holds. let some = (there holds).1 in omega (arith, none, some))
               | inr some ↦ subst (λ (q : Result Unit Fault). Counts q) (sym (lowers.some inside (omega (arith, some))).0) u.found.cause
             ]
@@ -278,9 +278,9 @@ module _ {S : Type 0} (state : S → StorageState) (table : TableValue) where
           by-used : (key : ℕ) → named_block table (c / counters_of_block before.header.fields) ≡ Some key → BlockUsed state key (Lowers (c % counters_of_block before.header.fields)) (cached_file old before) result (cached_file new after) → Holds → (d : ℕ) → d ≢ c → counted New d ≡ counted Old d
           by-used key named u holds d away =
               let header = u.found.others.1 in
-              let lowers : Lowers (c % counters_of_block after.header.fields) u.block result u.block' = subst (λ (h : Header). Lowers (c % counters_of_block h.fields) u.block result u.block') (sym header) u.used in
+              let lowers : Lowers (c % counters_of_block after.header.fields) u.value result u.value' = subst (λ (h : Header). Lowers (c % counters_of_block h.fields) u.value result u.value') (sym header) u.used in
               subst (λ (m : MetadataCaches S). counted (At m after (left result)) d ≡ counted Old d) (sym u.left)
-              (others-counted key u.mid after (loses-still u.mid u.found.others.0) (named-still key named header) u.block u.there ((search-quietly key pending old before (Ok tt) u.mid after u.found).holds holds.0 holds.1 tt).0 result u.block' lowers d away
+              (others-counted key u.mid after (loses-still u.mid u.found.others.0) (named-still key named header) u.value u.there ((search-quietly key pending old before (Ok tt) u.mid after u.found).holds holds.0 holds.1 tt).0 result u.value' lowers d away
               ∙ in-mid key (Ok tt) u.mid u.found holds (inl tt) d)
 
           by-uses : (key : ℕ) → named_block table (c / counters_of_block before.header.fields) ≡ Some key → UsesBlock state key (Lowers (c % counters_of_block before.header.fields)) (cached_file old before) result (cached_file new after) → Holds → Done → (d : ℕ) → d ≢ c → counted New d ≡ counted Old d

@@ -245,7 +245,7 @@ module _ {S : Type 0} (state : S → StorageState) (table : TableValue) where
     k = counters_of_block before.header.fields
 
     module _ (result : Result T Fault) (used : BlockUsed state key (Reads k P) (cached_file old before) result (cached_file new after)) where
-      same-block : new ≡ used_caches key used.mid used.block
+      same-block : new ≡ used_caches key used.mid used.value
       same-block = used.left ∙ ap (λ (b : Block). used_caches key used.mid b) used.used.same
 
       found-first : Looked state {T = Unit {0}} table (cached_file old before) (Ok tt) (cached_file used.mid after)
@@ -253,28 +253,28 @@ module _ {S : Type 0} (state : S → StorageState) (table : TableValue) where
 
       used-there : Looked state {T = Unit {0}} table (cached_file old before) (Ok tt) (cached_file new after)
       used-there = subst (λ (m : MetadataCaches S). Looked state {T = Unit {0}} table (cached_file old before) (Ok tt) (cached_file m after)) (sym same-block)
-          (looked-then old before tt used.mid after (Ok tt) (used_caches key used.mid used.block) after found-first (used-looked key used.mid after used.block used.there))
+          (looked-then old before tt used.mid after (Ok tt) (used_caches key used.mid used.value) after found-first (used-looked key used.mid after used.value used.there))
 
-      mid-long : IsSafeWith state table old before → length used.block.counters ≡ k
+      mid-long : IsSafeWith state table old before → length used.value.counters ≡ k
       mid-long sound =
-          block-long key used.mid after used.block used.there (safe-still old before tt used.mid after found-first sound)
+          block-long key used.mid after used.value used.there (safe-still old before tt used.mid after found-first sound)
           ∙ ap (λ (h : Header). counters_of_block h.fields) used.found.others.1
 
-      mid-counts : IsSafeWith state table old before → AreCounted (counts_in state old before) (i * k) used.block.counters
+      mid-counts : IsSafeWith state table old before → AreCounted (counts_in state old before) (i * k) used.value.counters
       mid-counts sound j lt =
           sym (counts-still old before tt used.mid after found-first sound (i * k + j))
-          ∙ subst (λ (h : Header). counts_in state used.mid after (i * counters_of_block h.fields + j) ≡ slice_index used.block.counters j) used.found.others.1
-          (block-counts key i named used.mid after used.block used.there (safe-still old before tt used.mid after found-first sound) j lt)
+          ∙ subst (λ (h : Header). counts_in state used.mid after (i * counters_of_block h.fields + j) ≡ slice_index used.value.counters j) used.found.others.1
+          (block-counts key i named used.mid after used.value used.there (safe-still old before tt used.mid after found-first sound) j lt)
 
-      even-looked : (r : Result T Fault) → MatchResult r (P used.block.counters) (λ fault. ⊥) → Looked state table (cached_file old before) r (cached_file new after)
+      even-looked : (r : Result T Fault) → MatchResult r (P used.value.counters) (λ fault. ⊥) → Looked state table (cached_file old before) r (cached_file new after)
       even-looked (Ok v) reads = let u = used-there in record { going = u.going; order = u.order; header = u.header; loose = u.loose; room = u.room; clean = u.clean; cause = u.cause }
       even-looked (Err fault) never = absurd never
 
-      odd-looked : length used.block.counters ≢ k → Looked state {T = T} table (cached_file old before) (Err DamagedTable) (cached_file new after)
+      odd-looked : length used.value.counters ≢ k → Looked state {T = T} table (cached_file old before) (Err DamagedTable) (cached_file new after)
       odd-looked odd = let u = used-there in record { going = u.going; order = u.order; header = u.header; loose = u.loose; room = u.room; clean = u.clean; cause = λ sound. odd (mid-long sound) }
 
       used-read : Looked state table (cached_file old before) result (cached_file new after)
-      used-read = elim (cases_eq (length used.block.counters) k) [
+      used-read = elim (cases_eq (length used.value.counters) k) [
         | inl even ↦ even-looked result (used.used.even even)
         | inr odd ↦ subst (λ (r : Result T Fault). Looked state table (cached_file old before) r (cached_file new after)) (sym (used.used.odd odd)) (odd-looked odd)
       ]
@@ -292,13 +292,13 @@ module _ {S : Type 0} (state : S → StorageState) (table : TableValue) where
 
     pub reads-known : (result : Result T Fault) → UsesBlock state key (Reads k P) (cached_file old before) result (cached_file new after) → IfOk result IsRead
     reads-known result (inl (fault, is, found)) = subst (λ (r : Result T Fault). IfOk r IsRead) (sym is) tt
-    reads-known result (inr used) = elim (cases_eq (length used.block.counters) k) [
+    reads-known result (inr used) = elim (cases_eq (length used.value.counters) k) [
       | inl even ↦ even-known result (used.used.even even) even
       | inr odd ↦ subst (λ (r : Result T Fault). IfOk r IsRead) (sym (used.used.odd odd)) tt
     ]
       where
-        even-known : (r : Result T Fault) → MatchResult r (P used.block.counters) (λ fault. ⊥) → length used.block.counters ≡ k → IfOk r IsRead
-        even-known (Ok v) reads even = record { counters = used.block.counters; long = even; reads = reads; counted = mid-counts result used }
+        even-known : (r : Result T Fault) → MatchResult r (P used.value.counters) (λ fault. ⊥) → length used.value.counters ≡ k → IfOk r IsRead
+        even-known (Ok v) reads even = record { counters = used.value.counters; long = even; reads = reads; counted = mid-counts result used }
         even-known (Err fault) never even = absurd never
 
   module _ (caches : MetadataCaches S) (file : ImageFile S) (sound : IsSafeWith state table caches file) where

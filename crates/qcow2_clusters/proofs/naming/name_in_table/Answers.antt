@@ -1,7 +1,8 @@
 use Rattle.std.proofs.Common.{sym}
 use Rattle.std.specs.Prelude.{◌%◌}
 use Rattle.qcow2_types.specs.Header.{words_of_cluster}
-use Rattle.qcow2_alloc.proofs.Caching.EntryLoans.{table-used}
+use Rattle.qcow2_alloc.specs.CachesLending.{of_tables}
+use Rattle.qcow2_alloc.proofs.Caching.EntryLoans.{entry-used}
 use Rattle.qcow2_clusters.specs.Naming.{NamesIn, listing}
 use Rattle.qcow2_clusters.proofs.naming.name_in_table.Goals as goal
 
@@ -9,7 +10,7 @@ pub returns-clause-named : goal.returns-clause-named
 returns-clause-named g c =
     let h = c.args.file.now.header.fields in
     let bits = c.cluster_bits-cluster_bits.ensures.value in
-    table-used {T = Unit} g.S.Storage.state c.args.table
+    entry-used {T = Unit} (of_tables g.S.Storage.state) c.args.table
     (λ t r t'. NamesIn h.cluster_bits (c.args.guest % words_of_cluster h) c.args.cluster c.args.count (listing t c.args.to_free.now) r
     (listing t' c.name_in.new.to_free))
     c.args.caches.now c.args.file.now _ c.l2_get_or_insert.new.file c.l2_get_or_insert.result c.in_ok-table.table c.name_in.result c.name_in.new.table
