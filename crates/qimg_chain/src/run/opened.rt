@@ -47,11 +47,11 @@ fn take_kept(
 /// if one was. The chain is dropped at the end.
 ///
 /// Where the top file is sound (a qcow2 image that `qimg_core::check` accepts, or one of another format) and its storages keep what is
-/// written, the calls of all lines read and change one flat disk, at opening the one that the files' bytes mean; and no file below changes.
-/// Of stops in a call that changes a file nothing is said: storages in memory tell none.
+/// written, the calls of all lines read and change one flat disk, at opening the one that the files' bytes mean; and no file below
+/// changes. Of stops in a call that changes a file nothing is said: storages in memory tell none.
 ///
-/// `ScriptFault::Opening` as `open_chain` refuses: then nothing is written. `ScriptFault::Running` as `run` refuses, over the chain, but that
-/// what a last `save` keeps isn't copied: it is taken out of the chain's storage.
+/// `ScriptFault::Opening` as `open_chain` refuses: then nothing is written. `ScriptFault::Running` as `run` refuses, over the chain, but
+/// that what a last `save` keeps isn't copied: it is taken out of the chain's storage.
 pub fn run_files<R: BufRead + Drop, W: Write>(
     alloc: Global,
     files: Vec<ChainFile<MemStorage>>,
