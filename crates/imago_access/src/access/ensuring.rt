@@ -13,7 +13,7 @@ ghost use Rattle.imago_access.specs.Changes.{asking};
 ghost use Rattle.imago_access.specs.RunCalls.{MarksTop};
 
 use crate::access::FormatAccess;
-use crate::access::writing::settle;
+use crate::access::mappings::settle;
 use crate::drivers::FormatDriverInstance;
 use crate::mapping::Mapping;
 use imago_storage::Fault;

@@ -1,9 +1,10 @@
-// Mappings that a caller prepares, writes to, and commits or cancels. In qemu one is a
-// `QCowL2Meta`, and its commit the linking of L2 entries.
-ghost use Rattle.std.specs.Prelude.{◌≡◌, ◌<◌, ◌+◌, ◌^◌, length, IsOk, IfOk, IfErr, OnOk, IsErr, IsErrOf, IsSome, Some, None};
-ghost use Rattle.imago_storage.specs.Steps.{prepare, write_mapped};
+// Mappings that a caller, or another call of the chain, prepares, and that are committed or given up. In qemu one is a `QCowL2Meta`, and
+// its commit the linking of L2 entries.
+ghost use Rattle.std.specs.Prelude.{⊤, ◌≡◌, ◌<◌, ◌+◌, ◌^◌, length, IsOk, IfOk, IfErr, OnOk, IsErr, IsErrOf, IsSome, Some, None};
+ghost use Rattle.imago_storage.specs.Steps.{Call, prepare, write_mapped};
 ghost use Rattle.imago_storage.specs.declared.fault.Fault.{Fault};
-ghost use Rattle.imago_access.specs.Layer.{IsFree, IsLike};
+ghost use Rattle.imago_access.specs.Layer.{loose, IsFree, IsLike};
+ghost use Rattle.imago_access.specs.Room.{Takes};
 ghost use Rattle.imago_access.specs.Files.{WasNotCutOff};
 ghost use Rattle.imago_access.specs.Mappings.{IsMappedRun};
 ghost use Rattle.imago_access.specs.Spending.{IsMine, IsForeignTo};
@@ -12,15 +13,69 @@ ghost use Rattle.imago_access.specs.Stops.{GivesNone, GivesBytes};
 ghost use Rattle.imago_access.specs.Running.{IsIntactChain, RanChain};
 ghost use Rattle.imago_access.specs.ChainCalls.{ChainStays, ChainFails, chain_refusal, AllUnchanged, CanWriteRun, ChainCancels, ChainCommitRefused, ChainCommits, ChainMappedCause, ChainPrepares, CommitStops, EndsAtOnce, IfMild, IsMappedFor, KeepsHomes, StaysIntact, WhereMine, CallRefused, IsCarriedOut};
 ghost use Rattle.imago_access.specs.Failing.{Fails};
+ghost use Rattle.imago_access.specs.RunCalls.{GivesMappingUp, SettlesMapping, SettlingRefused, SettlingStops, MarksAlone};
 ghost use Rattle.imago_access.specs.PreparingCalls.{Cancels, CommitRefused, Commits, nowhere};
 ghost use Rattle.imago_access.specs.Changes.{asking};
-ghost use Rattle.imago_access.specs.Going.{IsUnchanged, Marks, MarksOver};
+ghost use Rattle.imago_access.specs.Going.{IsUnchanged, Marks, MarksOver, KeepsSurplus, Went};
 
 use crate::access::FormatAccess;
 use crate::drivers::FormatDriverInstance;
 use crate::mapping::PreparedDataMapping;
 use imago_storage::Fault;
 use std::alloc::Global;
+
+// Gives up a mapping of this image.
+pub(crate) fn abandon<D: FormatDriverInstance>(
+    driver: &mut D,
+    mapping: PreparedDataMapping<D::State>,
+)
+    requires { IsMine D.Seen mapping.state (D.layer driver.old) }
+    ensures ok { GivesMappingUp D.Seen mapping.state driver.old driver.new }
+    ensures safe { D.safe driver.old → D.safe driver.new }
+    ensures failed { (D.layer driver.new).failed ≡ (D.layer driver.old).failed }
+    ensures room { D.safe driver.old → Takes D.Seen (λ _. ⊤) driver.old driver.new }
+    ensures lasts { D.lasts driver.old → D.lasts driver.new }
+    ensures surplus { D.safe driver.old → KeepsSurplus D.Seen driver.old driver.new }
+    ensures began { (d : D) (call : Call) → D.began d call driver.old → D.began d call driver.new }
+    ensures none { (D.image driver.new ≡ D.image driver.old) × (D.extras driver.new ≡ D.extras driver.old) }
+    ensures unchanged { mapping.state ≡ None → IsUnchanged D.Seen driver.old driver.new }
+{
+    match driver.cancel_data_mapping(mapping) {
+        Ok(()) => (),
+        Err((_, _)) => unreachable!(),
+    }
+}
+
+// Commits a mapping of this image, and gives it up where that is refused.
+pub(crate) fn settle<D: FormatDriverInstance>(
+    driver: &mut D,
+    alloc: Global,
+    mapping: PreparedDataMapping<D::State>,
+) -> Result<(), Fault>
+    requires { IsMine D.Seen mapping.state (D.layer driver.old) }
+    ensures ok { OnOk result (SettlesMapping D.Seen mapping.state driver.old driver.new) }
+    ensures err { D.safe driver.old → IfMild result (GivesMappingUp D.Seen mapping.state driver.old driver.new) }
+    ensures free { (mapping.state ≡ None → IsFree (D.layer driver.old)) → IsFree (D.layer driver.new) }
+    ensures idle { mapping.state ≡ None → barrier (D.layer driver.old) ≡ None → IsOk result }
+    ensures unchanged { mapping.state ≡ None → IsUnchanged D.Seen driver.old driver.new }
+    ensures size { (D.layer driver.new).size ≡ (D.layer driver.old).size }
+    ensures room { D.safe driver.old → WasNotCutOff result → Takes D.Seen (λ p. (D.layer driver.old).held p ≡ loose) driver.old driver.new }
+    ensures went { Went D.Seen (WasNotCutOff result) (WasNotCutOff result) driver.old driver.new }
+    ensures began { (d : D) (call : Call) → D.began d call driver.old → OnOk result (D.began d call driver.new) }
+    ensures stops { SettlingStops D.Seen driver.old driver.new }
+    ensures failed { IfErr result (Fails D.Seen driver.old driver.new) }
+    ensures marks { IfErr result (MarksAlone D.Seen driver.old driver.new) }
+    ensures cause { SettlingRefused D.Seen result driver.old driver.new }
+{
+    match driver.commit_data_mapping(alloc, mapping) {
+        Ok(()) => Ok(()),
+        Err((fault, None)) => Err(fault),
+        Err((fault, Some(given_back))) => {
+            abandon(driver, given_back);
+            Err(fault)
+        }
+    }
+}
 
 impl<D: FormatDriverInstance> FormatAccess<D> {
     /// Maps a run from the offset on so that it can be written: at least one byte, and not more than asked. Nothing may be prepared.

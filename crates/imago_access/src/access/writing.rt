@@ -1,79 +1,22 @@
 // Writes, through mappings that are prepared and committed run by run: in qemu such a mapping is a `QCowL2Meta`.
-ghost use Rattle.std.specs.Prelude.{⊤, ◌≡◌, ◌<◌, ◌≤◌, ◌+◌, List, length, IsOk, IfOk, IfErr, OnOk, IsErrOf, Some, None};
+ghost use Rattle.std.specs.Prelude.{◌≡◌, ◌<◌, ◌≤◌, ◌+◌, List, length, IsOk, IfOk, IfErr, OnOk, IsErrOf, Some, None};
 ghost use Rattle.imago_storage.specs.State.{StorageState};
-ghost use Rattle.imago_storage.specs.Steps.{Call, write};
-ghost use Rattle.imago_access.specs.Layer.{loose, IsFree, IsLike};
-ghost use Rattle.imago_access.specs.Room.{Takes};
+ghost use Rattle.imago_storage.specs.Steps.{write};
+ghost use Rattle.imago_access.specs.Layer.{IsFree, IsLike};
 ghost use Rattle.imago_access.specs.Files.{WasNotCutOff, IsMild, ImageCause};
-ghost use Rattle.imago_access.specs.Going.{IsUnchanged, KeepsSurplus, Went};
-ghost use Rattle.imago_access.specs.Spending.{IsMine};
 ghost use Rattle.imago_access.specs.Refusals.{barrier};
 ghost use Rattle.imago_access.specs.Stops.{GivesBytes};
 ghost use Rattle.imago_access.specs.Running.{RanChain, below_ghosts};
-ghost use Rattle.imago_access.specs.ChainCalls.{ChainFails, chain_refusal, EndsAtOnce, IfMild, CallRefused, IsCarriedOut, IsDoneInPart, TakesNear};
-ghost use Rattle.imago_access.specs.Failing.{Fails};
-ghost use Rattle.imago_access.specs.RunCalls.{GivesMappingUp, SettlesMapping, SettlingRefused, SettlingStops, DoesWork, RunIsUncut, ShowsAll, ShowsRun, WorkRefused, writing, MarksAlone, MarksTop};
+ghost use Rattle.imago_access.specs.ChainCalls.{ChainFails, chain_refusal, EndsAtOnce, CallRefused, IsCarriedOut, IsDoneInPart, TakesNear};
+ghost use Rattle.imago_access.specs.RunCalls.{DoesWork, RunIsUncut, ShowsAll, ShowsRun, WorkRefused, writing, MarksTop};
 
 use crate::access::FormatAccess;
+use crate::access::mappings::{abandon, settle};
 use crate::below::ReadBelow;
 use crate::drivers::FormatDriverInstance;
-use crate::mapping::PreparedDataMapping;
 use crate::ranges::check_range;
 use imago_storage::Fault;
 use std::alloc::Global;
-
-// Gives up a mapping of this image.
-pub(crate) fn abandon<D: FormatDriverInstance>(
-    driver: &mut D,
-    mapping: PreparedDataMapping<D::State>,
-)
-    requires { IsMine D.Seen mapping.state (D.layer driver.old) }
-    ensures ok { GivesMappingUp D.Seen mapping.state driver.old driver.new }
-    ensures safe { D.safe driver.old → D.safe driver.new }
-    ensures failed { (D.layer driver.new).failed ≡ (D.layer driver.old).failed }
-    ensures room { D.safe driver.old → Takes D.Seen (λ _. ⊤) driver.old driver.new }
-    ensures lasts { D.lasts driver.old → D.lasts driver.new }
-    ensures surplus { D.safe driver.old → KeepsSurplus D.Seen driver.old driver.new }
-    ensures began { (d : D) (call : Call) → D.began d call driver.old → D.began d call driver.new }
-    ensures none { (D.image driver.new ≡ D.image driver.old) × (D.extras driver.new ≡ D.extras driver.old) }
-    ensures unchanged { mapping.state ≡ None → IsUnchanged D.Seen driver.old driver.new }
-{
-    match driver.cancel_data_mapping(mapping) {
-        Ok(()) => (),
-        Err((_, _)) => unreachable!(),
-    }
-}
-
-// Commits a mapping of this image, and gives it up where that is refused.
-pub(crate) fn settle<D: FormatDriverInstance>(
-    driver: &mut D,
-    alloc: Global,
-    mapping: PreparedDataMapping<D::State>,
-) -> Result<(), Fault>
-    requires { IsMine D.Seen mapping.state (D.layer driver.old) }
-    ensures ok { OnOk result (SettlesMapping D.Seen mapping.state driver.old driver.new) }
-    ensures err { D.safe driver.old → IfMild result (GivesMappingUp D.Seen mapping.state driver.old driver.new) }
-    ensures free { (mapping.state ≡ None → IsFree (D.layer driver.old)) → IsFree (D.layer driver.new) }
-    ensures idle { mapping.state ≡ None → barrier (D.layer driver.old) ≡ None → IsOk result }
-    ensures unchanged { mapping.state ≡ None → IsUnchanged D.Seen driver.old driver.new }
-    ensures size { (D.layer driver.new).size ≡ (D.layer driver.old).size }
-    ensures room { D.safe driver.old → WasNotCutOff result → Takes D.Seen (λ p. (D.layer driver.old).held p ≡ loose) driver.old driver.new }
-    ensures went { Went D.Seen (WasNotCutOff result) (WasNotCutOff result) driver.old driver.new }
-    ensures began { (d : D) (call : Call) → D.began d call driver.old → OnOk result (D.began d call driver.new) }
-    ensures stops { SettlingStops D.Seen driver.old driver.new }
-    ensures failed { IfErr result (Fails D.Seen driver.old driver.new) }
-    ensures marks { IfErr result (MarksAlone D.Seen driver.old driver.new) }
-    ensures cause { SettlingRefused D.Seen result driver.old driver.new }
-{
-    match driver.commit_data_mapping(alloc, mapping) {
-        Ok(()) => Ok(()),
-        Err((fault, None)) => Err(fault),
-        Err((fault, Some(given_back))) => {
-            abandon(driver, given_back);
-            Err(fault)
-        }
-    }
-}
 
 // Writes the first run of a range that lies in the disk. It answers how many bytes that are.
 pub(crate) fn write_run<D: FormatDriverInstance, B: ReadBelow>(

@@ -18,7 +18,7 @@ ghost use Rattle.imago_access.specs.RunCalls.{AreZeroTo, CutsNoUnit, DoesWork, E
 
 use crate::access::FormatAccess;
 use crate::access::discarding::is_declined;
-use crate::access::writing::{abandon, settle};
+use crate::access::mappings::{abandon, settle};
 use crate::below::ReadBelow;
 use crate::drivers::FormatDriverInstance;
 use imago_storage::Fault;

@@ -4,7 +4,7 @@ use Rattle.imago_access.specs.declared.mapping.PreparedDataMapping.{PreparedData
 use Rattle.imago_access.proofs.Stopping.{passes_on}
 use Rattle.imago_access.proofs.Marking.{alone_failed, alone_mild, given_back_mild}
 use Rattle.imago_access.proofs.Untouched.{unchanged_both}
-use Rattle.imago_access.proofs.access.writing.settle.Goals as goal
+use Rattle.imago_access.proofs.access.mappings.settle.Goals as goal
 
 pub returns-in-Ok-clause-stops : goal.returns-in-Ok-clause-stops
 returns-in-Ok-clause-stops g c = λ safe below. c.in-Ok.ensures.commits.stops safe c.requires below
