@@ -108,8 +108,8 @@ pub record Allocating {S : Type 0} (state : S → StorageState) (ok : Type 0) (h
   pub loose : (any : Bool) → IsLoose s.table s.caches any → IsLoose s'.table s'.caches any
   pub room : KeepsTables s.caches s'.caches
 
--- A block is made, where there was none, while blocks are written before tables: at the first place from the mark on that another block
--- counts, or at the first cluster that it counts itself. Where that is cut off, the table in memory may name it already.
+-- A block is made, where there was none, while blocks are written before tables. How far out its cluster lies at most `IsBlockPlaced`
+-- tells. Where the making is cut off, the table in memory may name the block already.
 pub record MakesBlock {S : Type 0} (state : S → StorageState) (index : ℕ) (s : ImageState S) (result : Result Unit Fault)
     (s' : ImageState S) : Type 0 where
   pub step : Allocating state (WasNotCutOff result) (λ _. 0) s s'

@@ -1,4 +1,4 @@
--- What contracts see of an allocator, how cached blocks and L2 tables are used, and how a counter of a block is read or changed.
+-- What contracts see of an allocator, how cached blocks and L2 tables are used, and how a counter of a block is lowered.
 use Rattle.std.specs.Prelude.{◌≡◌, ◌⊎◌, ℕ, ◌-◌, ◌/◌, ◌%◌, ◌<◌, ◌≤◌, ◌^◌, Option, Some, None, Result, Ok, Err, MatchOption, IfErr, IfOk, OnOk, nat_eq, if◌then◌else◌, ◌==◌, List, slice_index, length}
 use Rattle.std.specs.Option.{option_map}
 use Rattle.std.specs.Map.{lookup}
@@ -69,13 +69,15 @@ module _ {S T : Type 0} (state : S → StorageState) (cluster : ℕ) where
   abbrev pub BlockUsed : (Block → Result T Fault → Block → Type 0) → CachedFile S → Result T Fault → CachedFile S → Type 0
   BlockUsed = EntryUsed (of_blocks state) cluster
 
+  -- or the search for it is refused,
   abbrev pub UsesBlock : (Block → Result T Fault → Block → Type 0) → CachedFile S → Result T Fault → CachedFile S → Type 0
   UsesBlock = UsesEntry (of_blocks state) cluster
 
-  -- and so is an L2 table.
+  -- and so is an L2 table,
   abbrev pub TableUsed : (TableValue → Result T Fault → TableValue → Type 0) → CachedFile S → Result T Fault → CachedFile S → Type 0
   TableUsed = EntryUsed (of_tables state) cluster
 
+  -- or the search for it is refused.
   abbrev pub UsesTable : (TableValue → Result T Fault → TableValue → Type 0) → CachedFile S → Result T Fault → CachedFile S → Type 0
   UsesTable = UsesEntry (of_tables state) cluster
 

@@ -1,5 +1,5 @@
 -- What a cache of tables does.
-use Rattle.std.specs.Prelude.{◌≡◌, ℕ, ◌==◌, ◌<◌, ◌≤◌, Bool, true, false, not, ◌&&◌, cond, List, [], ◌∷◌, ◌++◌, Option, Some, None, IsSome, ◌⊎◌, Result, Ok, Err, nat_lt, length}
+use Rattle.std.specs.Prelude.{◌≡◌, ℕ, ◌==◌, ◌<◌, ◌≤◌, Bool, true, false, not, ◌&&◌, if◌then◌else◌, List, [], ◌∷◌, ◌++◌, Option, Some, None, IsSome, ◌⊎◌, Result, Ok, Err, nat_lt, length}
 use Rattle.std.specs.Option.{option_map_or}
 use Rattle.std.specs.List.{filter}
 use Rattle.std.specs.Map.{lookup, lookup_entry, remove_entry, set_value}
@@ -15,7 +15,7 @@ module _ {K V : Type 0} where
   -- the key of the last entry that is not pinned, and else that which was found before
   abbrev pub victim_from : Option K → List (K × Slot V) → Option K
   victim_from found [] = found
-  victim_from found (e ∷ es) = victim_from (cond (e.1.pins == 0) (Some e.0) found) es
+  victim_from found (e ∷ es) = victim_from (if e.1.pins == 0 then Some e.0 else found) es
 
   -- the key of the least recently used entry that is not pinned
   abbrev pub victim : List (K × Slot V) → Option K
@@ -148,7 +148,7 @@ is_mild fault = true
 abbrev pub latest : Option Fault → Result Unit Fault → Option Fault
 latest first (Ok done) = first
 latest None (Err fault) = Some fault
-latest (Some earlier) (Err fault) = Some (cond (not (is_mild earlier) && is_mild fault) earlier fault)
+latest (Some earlier) (Err fault) = Some (if not (is_mild earlier) && is_mild fault then earlier else fault)
 
 module _ {K V D : Type 0} (flushes : D → K → V → Result Unit Fault → D → V → Type 0) where
   -- the last value was flushed in place, and its entry goes first

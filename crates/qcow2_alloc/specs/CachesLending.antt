@@ -1,4 +1,4 @@
--- What the two caches end as, once a reference into one of them has ended.
+-- Either of the two caches (`OneCache`), and what both end as once a reference into it has ended.
 use Rattle.std.specs.Prelude.{◌≡◌, ℕ, List, Some, Result, Ok, Err, IfOk, IfErr, nat_eq}
 use Rattle.std.specs.Option.{option_map}
 use Rattle.std.specs.Map.{lookup}

@@ -1,5 +1,5 @@
 -- How L2 tables and refcount blocks are found in their caches, or loaded into them.
-use Rattle.std.specs.Prelude.{◌≡◌, ◌⊎◌, ℕ, ◌<◌, ◌≤◌, ◌∷◌, ◌&&◌, Bool, true, IsSome, OnOk, OnErr, Ok, Err, Result, MatchResult, List, None, Some, cond, length, map, nat_eq, nat_lt}
+use Rattle.std.specs.Prelude.{◌≡◌, ◌⊎◌, ℕ, ◌<◌, ◌≤◌, ◌∷◌, ◌&&◌, Bool, true, IsSome, OnOk, OnErr, Ok, Err, Result, MatchResult, List, None, Some, if◌then◌else◌, length, map, nat_eq, nat_lt}
 use Rattle.std.specs.Option.{option_map_or}
 use Rattle.std.specs.List.{AllByRecursion, count_by}
 use Rattle.std.specs.Map.{lookup, remove_entry}
@@ -21,7 +21,7 @@ module _ {V : Type 0} where
   -- The entries of a cache of so many once there is room for one more: where it is full, the least recently used one that isn't pinned
   -- goes.
   abbrev pub with_room : ℕ → List (ℕ × Slot V) → List (ℕ × Slot V)
-  with_room cap es = cond (nat_lt (length es) cap) es (option_map_or (λ key. remove_entry (nat_eq key) es) (victim es) es)
+  with_room cap es = if nat_lt (length es) cap then es else option_map_or (λ key. remove_entry (nat_eq key) es) (victim es) es
 
   -- No room can be made: each entry is pinned.
   pub record IsPinnedFull (cap : ℕ) (es : List (ℕ × Slot V)) : Type 0 where
