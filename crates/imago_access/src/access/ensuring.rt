@@ -59,13 +59,9 @@ impl<D: FormatDriverInstance> FormatAccess<D> {
         ensures cause { CallRefused D.Seen (ensure offset length overwrite) result self.old self.new }
     {
         self.check_change(offset, length)?;
-        let prepared = match self
+        let prepared = self
             .driver
-            .prepare_data_mapping(alloc, &mut self.below, offset, length, overwrite)
-        {
-            Ok(prepared) => prepared,
-            Err(fault) => return Err(fault),
-        };
+            .prepare_data_mapping(alloc, &mut self.below, offset, length, overwrite)?;
         let mapping = Mapping::Raw {
             depth: 0,
             storage: prepared.storage(),
@@ -73,9 +69,7 @@ impl<D: FormatDriverInstance> FormatAccess<D> {
             writable: true,
         };
         let length = prepared.length();
-        if let Err(fault) = settle(&mut self.driver, alloc, prepared) {
-            return Err(fault);
-        }
+        settle(&mut self.driver, alloc, prepared)?;
         Ok((mapping, length))
     }
 }

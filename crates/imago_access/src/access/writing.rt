@@ -35,16 +35,7 @@ pub(crate) fn write_run<D: FormatDriverInstance, B: ReadBelow>(
     ensures does { DoesWork D.Seen B.SeenBelow (writing offset bytes.now) result (driver.old, below.old) (driver.new, below.new) }
     ensures refused { WorkRefused D.Seen B.SeenBelow (writing offset bytes.now) result (driver.old, below.old) (driver.new, below.new) }
 {
-    let mapping = match driver.prepare_data_mapping(
-        alloc,
-        below,
-        offset,
-        bytes.len() as u64,
-        true,
-    ) {
-        Ok(mapping) => mapping,
-        Err(fault) => return Err(fault),
-    };
+    let mapping = driver.prepare_data_mapping(alloc, below, offset, bytes.len() as u64, true)?;
     let n = mapping.length() as usize;
     match driver.write_mapped(alloc, offset, mapping.offset(), &bytes[..n]) {
         Ok(()) => {

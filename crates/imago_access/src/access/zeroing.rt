@@ -122,10 +122,7 @@ fn write_zero_run<D: FormatDriverInstance, B: ReadBelow>(
     ensures does { DoesWork D.Seen B.SeenBelow (writing_zeroes offset n) result (driver.old, below.old) (driver.new, below.new) }
     ensures refused { WorkRefused D.Seen B.SeenBelow (writing_zeroes offset n) result (driver.old, below.old) (driver.new, below.new) }
 {
-    let mapping = match driver.prepare_data_mapping(alloc, below, offset, n, true) {
-        Ok(mapping) => mapping,
-        Err(fault) => return Err(fault),
-    };
+    let mapping = driver.prepare_data_mapping(alloc, below, offset, n, true)?;
     let count = mapping.length();
     match write_mapped_zeroes(alloc, driver, offset, mapping.offset(), count) {
         Ok(()) => {

@@ -12,11 +12,12 @@ use Rattle.imago_access.specs.Refusals.{barrier}
 use Rattle.imago_access.specs.Spending.{claim_of}
 use Rattle.imago_access.specs.Stops.{GivesNone, GivesAnnounced}
 use Rattle.imago_access.specs.declared.mapping.PreparedDataMapping.{PreparedDataMapping}
+use Rattle.imago_access.proofs.Answers.{handed_on}
 use Rattle.imago_access.proofs.ChangeCauses.{change_cause, part_cause_alone}
 use Rattle.imago_access.proofs.Ensuring.{unbarred, stays_committed, settled_commits, settled_home, ran_ensured}
 use Rattle.imago_access.proofs.Holding.{truly_prepared, spends_more, at_alike, given_up_cell}
 use Rattle.imago_access.proofs.HoldingRuns.{ran_mapped, ran_prepared, ran_settled, ran_unsettled}
-use Rattle.imago_access.proofs.MappingCalls.{prepared_step, stateless_is, stateful_claims}
+use Rattle.imago_access.proofs.MappingCalls.{not_prepared_stays, prepared_step, stateless_is, stateful_claims}
 use Rattle.imago_access.proofs.Running.{ran_same, ran_seen, ran_gives}
 use Rattle.imago_access.proofs.Units.{layer_aligned, overflows_chain}
 use Rattle.imago_access.proofs.ImageCauses.{failed_alone}
@@ -32,8 +33,8 @@ pub returns-in_err-check_change-clause-ran : goal.returns-in_err-check_change-cl
 returns-in_err-check_change-clause-ran g c = let d = g.D.Seen in
     ran_same d (below_ghosts d) (WasNotCutOff c.from_residual.result) (GivesAnnounced c.args.overwrite c.args.offset c.args.length) c.args.self.now.0 c.args.self.now.1
 
-pub returns-in-Err-clause-ran : goal.returns-in-Err-clause-ran
-returns-in-Err-clause-ran g c = let d = g.D.Seen in
+pub returns-in_err-prepared-clause-ran : goal.returns-in_err-prepared-clause-ran
+returns-in_err-prepared-clause-ran g c = let d = g.D.Seen in
     let laws = g.met.D.FormatDriverInstance in
     let r = c.prepare_data_mapping in
     let a0 = c.self.inside.driver in
@@ -42,13 +43,13 @@ returns-in-Err-clause-ran g c = let d = g.D.Seen in
     let x1 = r.new.below in
     let under = map d.layer (layers x0) in
     let free : IsFree (d.layer a0) = subst (λ (v : _). IsFree (d.layer v.0)) (sym c.self.view_is) c.requires.free in
-    let e = c.in-Err.ensures in
-    rw (← c.self.view_is) (ran_seen layers d (below_ghosts d) (IsMild c.in-Err.fault) (GivesAnnounced c.args.overwrite c.args.offset c.args.length) a0 a1 x0 x1
-    (ran_gives d (seen_by layers (below_ghosts d)) (IsMild c.in-Err.fault) GivesNone (GivesAnnounced c.args.overwrite c.args.offset c.args.length) a0 a1 x0 x1 (λ p v none. absurd none)
-    (ran_prepared d (seen_by layers (below_ghosts d)) (Err c.in-Err.fault) a0 a1 x0 x1 c.args.offset c.args.length c.args.overwrite (laws.free_loose a0 free) e.size e.does.went e.below e.does.ok e.does.err e.does.stops)))
+    let e = c.in_err-prepared.ensures in
+    rw (← c.self.view_is, handed_on _ _ c.from_residual-in_err-prepared.ensures.1) (ran_seen layers d (below_ghosts d) (IsMild c.in_err-prepared.field-0.0) (GivesAnnounced c.args.overwrite c.args.offset c.args.length) a0 a1 x0 x1
+    (ran_gives d (seen_by layers (below_ghosts d)) (IsMild c.in_err-prepared.field-0.0) GivesNone (GivesAnnounced c.args.overwrite c.args.offset c.args.length) a0 a1 x0 x1 (λ p v none. absurd none)
+    (ran_prepared d (seen_by layers (below_ghosts d)) (Err c.in_err-prepared.field-0.0) a0 a1 x0 x1 c.args.offset c.args.length c.args.overwrite (laws.free_loose a0 free) e.size e.does.went e.below e.does.ok e.does.err e.does.stops)))
 
-pub returns-in-Err-clause-cause : goal.returns-in-Err-clause-cause
-returns-in-Err-clause-cause g c = let d = g.D.Seen in
+pub returns-in_err-prepared-clause-cause : goal.returns-in_err-prepared-clause-cause
+returns-in_err-prepared-clause-cause g c = let d = g.D.Seen in
     let laws = g.met.D.FormatDriverInstance in
     let r = c.prepare_data_mapping in
     let a0 = c.self.inside.driver in
@@ -58,11 +59,11 @@ returns-in-Err-clause-cause g c = let d = g.D.Seen in
     let under = map d.layer (layers x0) in
     let free : IsFree (d.layer a0) = subst (λ (v : _). IsFree (d.layer v.0)) (sym c.self.view_is) c.requires.free in
     let call = ensure c.args.offset c.args.length c.args.overwrite in
-    rw (← c.self.view_is) (λ intact. change_cause under (d.layer a0) call (d.own_cause a0 under call) (d.image a0 ∷ (d.extras a0 ++ files_of d (layers x0))) (d.image a1 ∷ (d.extras a1 ++ files_of d (layers x1))) (λ some. some) (overflows_chain d.layer laws.aligned a0 (layers x0) c.args.offset c.args.length) c.in-Err.fault
-    (c.in-Err.ensures.does.refused.cause intact.is_safe intact.is_seen a0 call (laws.begins a0 call) (own_part (d.layer a0) call) refl))
+    rw (← c.self.view_is, handed_on _ _ c.from_residual-in_err-prepared.ensures.1) (λ intact. change_cause under (d.layer a0) call (d.own_cause a0 under call) (d.image a0 ∷ (d.extras a0 ++ files_of d (layers x0))) (d.image a1 ∷ (d.extras a1 ++ files_of d (layers x1))) (λ some. some) (overflows_chain d.layer laws.aligned a0 (layers x0) c.args.offset c.args.length) c.in_err-prepared.field-0.0
+    (c.in_err-prepared.ensures.does.refused.cause intact.is_safe intact.is_seen a0 call (laws.begins a0 call) (own_part (d.layer a0) call) refl))
 
-pub returns-in-Err-settle-clause-ran : goal.returns-in-Err-settle-clause-ran
-returns-in-Err-settle-clause-ran g c = let d = g.D.Seen in
+pub returns-in_err-settle-clause-ran : goal.returns-in_err-settle-clause-ran
+returns-in_err-settle-clause-ran g c = let d = g.D.Seen in
     let laws = g.met.D.FormatDriverInstance in
     let r = c.prepare_data_mapping in
     let a0 = c.self.inside.driver in
@@ -71,23 +72,23 @@ returns-in-Err-settle-clause-ran g c = let d = g.D.Seen in
     let x1 = r.new.below in
     let under = map d.layer (layers x0) in
     let free : IsFree (d.layer a0) = subst (λ (v : _). IsFree (d.layer v.0)) (sym c.self.view_is) c.requires.free in
-    let m = c.in-Ok.prepared in
+    let m = c.in_ok-prepared.prepared in
     let a2 = c.settle.new.driver in
     let claim = claim_of d.claim m.state in
-    let stateless = λ (none : m.state ≡ None). laws.free_loose a1 (c.in-Ok.ensures.mine.1 none) in
-    let s = c.in-Err-settle.ensures in
-    rw (← c.self.view_is) (ran_seen layers d (below_ghosts d) (IsMild c.in-Err-settle.fault) (GivesAnnounced c.args.overwrite c.args.offset c.args.length) a0 a2 x0 x1
-    (ran_ensured d (seen_by layers (below_ghosts d)) (IsMild c.in-Err-settle.fault) a0 a1 a2 x0 x1 c.args.offset c.args.length c.args.overwrite m.storage m.offset m.length claim c.in-Ok.ensures.run.0.0 (λ i. c.in-Ok.ensures.does.ok i.is_safe i.is_seen)
-    (ran_mapped d (seen_by layers (below_ghosts d)) m.state a0 a1 x0 x1 c.args.offset c.args.length c.args.overwrite m.storage m.offset m.length (laws.free_loose a0 free) c.in-Ok.ensures.size c.in-Ok.ensures.does.went c.in-Ok.ensures.below c.in-Ok.ensures.does.ok c.in-Ok.ensures.does.stops)
-    (ran_unsettled d (seen_by layers (below_ghosts d)) m.state (IsMild c.in-Err-settle.fault) a1 a2 x1 laws.free_loose s.size s.went c.in-Ok.ensures.mine.0 (s.free c.in-Ok.ensures.mine.1) (λ mild safe. s.err safe mild) s.stops)))
+    let stateless = λ (none : m.state ≡ None). laws.free_loose a1 (c.in_ok-prepared.ensures.mine.1 none) in
+    let s = c.in_err-settle.ensures in
+    rw (← c.self.view_is, handed_on _ _ c.from_residual-in_err-settle.ensures.1) (ran_seen layers d (below_ghosts d) (IsMild c.in_err-settle.field-0.0) (GivesAnnounced c.args.overwrite c.args.offset c.args.length) a0 a2 x0 x1
+    (ran_ensured d (seen_by layers (below_ghosts d)) (IsMild c.in_err-settle.field-0.0) a0 a1 a2 x0 x1 c.args.offset c.args.length c.args.overwrite m.storage m.offset m.length claim c.in_ok-prepared.ensures.run.0.0 (λ i. c.in_ok-prepared.ensures.does.ok i.is_safe i.is_seen)
+    (ran_mapped d (seen_by layers (below_ghosts d)) m.state a0 a1 x0 x1 c.args.offset c.args.length c.args.overwrite m.storage m.offset m.length (laws.free_loose a0 free) c.in_ok-prepared.ensures.size c.in_ok-prepared.ensures.does.went c.in_ok-prepared.ensures.below c.in_ok-prepared.ensures.does.ok c.in_ok-prepared.ensures.does.stops)
+    (ran_unsettled d (seen_by layers (below_ghosts d)) m.state (IsMild c.in_err-settle.field-0.0) a1 a2 x1 laws.free_loose s.size s.went c.in_ok-prepared.ensures.mine.0 (s.free c.in_ok-prepared.ensures.mine.1) (λ mild safe. s.err safe mild) s.stops)))
 
-pub returns-in-Err-settle-clause-failed : goal.returns-in-Err-settle-clause-failed
-returns-in-Err-settle-clause-failed g c = let d = g.D.Seen in
+pub returns-in_err-settle-clause-failed : goal.returns-in_err-settle-clause-failed
+returns-in_err-settle-clause-failed g c = let d = g.D.Seen in
     let a0 = c.self.inside.driver in let a1 = c.prepare_data_mapping.new.self in let a2 = c.settle.new.driver in
-    rw (← c.self.view_is) (failed_alone (files d a0) (files d a1) (files d a2) (files_of d (layers c.self.inside.below)) (files_of d (layers c.prepare_data_mapping.new.below)) c.in-Err-settle.fault c.in-Ok.ensures.does.went.later c.in-Ok.ensures.below.later c.in-Err-settle.ensures.failed)
+    rw (← c.self.view_is, handed_on _ _ c.from_residual-in_err-settle.ensures.1) (failed_alone (files d a0) (files d a1) (files d a2) (files_of d (layers c.self.inside.below)) (files_of d (layers c.prepare_data_mapping.new.below)) c.in_err-settle.field-0.0 c.in_ok-prepared.ensures.does.went.later c.in_ok-prepared.ensures.below.later c.in_err-settle.ensures.failed)
 
-pub returns-in-Err-settle-clause-cause : goal.returns-in-Err-settle-clause-cause
-returns-in-Err-settle-clause-cause g c = let d = g.D.Seen in
+pub returns-in_err-settle-clause-cause : goal.returns-in_err-settle-clause-cause
+returns-in_err-settle-clause-cause g c = let d = g.D.Seen in
     let laws = g.met.D.FormatDriverInstance in
     let r = c.prepare_data_mapping in
     let a0 = c.self.inside.driver in
@@ -96,22 +97,22 @@ returns-in-Err-settle-clause-cause g c = let d = g.D.Seen in
     let x1 = r.new.below in
     let under = map d.layer (layers x0) in
     let free : IsFree (d.layer a0) = subst (λ (v : _). IsFree (d.layer v.0)) (sym c.self.view_is) c.requires.free in
-    let m = c.in-Ok.prepared in
+    let m = c.in_ok-prepared.prepared in
     let a2 = c.settle.new.driver in
     let claim = claim_of d.claim m.state in
-    let stateless = λ (none : m.state ≡ None). laws.free_loose a1 (c.in-Ok.ensures.mine.1 none) in
-    let s = c.in-Err-settle.ensures in
+    let stateless = λ (none : m.state ≡ None). laws.free_loose a1 (c.in_ok-prepared.ensures.mine.1 none) in
+    let s = c.in_err-settle.ensures in
     let call = ensure c.args.offset c.args.length c.args.overwrite in
-    rw (← c.self.view_is) (λ intact.
-    let safe : d.safe a1 = c.in-Ok.ensures.does.went.safely (tt, intact.is_seen) intact.is_safe in
-    change_cause under (d.layer a0) call (d.own_cause a0 under call) (d.image a0 ∷ (d.extras a0 ++ files_of d (layers x0))) (d.image a2 ∷ (d.extras a2 ++ files_of d (layers x1))) (λ some. some) (overflows_chain d.layer laws.aligned a0 (layers x0) c.args.offset c.args.length) c.in-Err-settle.fault
+    rw (← c.self.view_is, handed_on _ _ c.from_residual-in_err-settle.ensures.1) (λ intact.
+    let safe : d.safe a1 = c.in_ok-prepared.ensures.does.went.safely (tt, intact.is_seen) intact.is_safe in
+    change_cause under (d.layer a0) call (d.own_cause a0 under call) (d.image a0 ∷ (d.extras a0 ++ files_of d (layers x0))) (d.image a2 ∷ (d.extras a2 ++ files_of d (layers x1))) (λ some. some) (overflows_chain d.layer laws.aligned a0 (layers x0) c.args.offset c.args.length) c.in_err-settle.field-0.0
     (part_cause_alone under (d.layer a0) (d.layer a1) c.args.offset c.args.length c.args.offset c.args.length (files d a0) (files d a1) (files d a2) (files_of d (layers x0)) (files_of d (layers x1))
-    c.in-Ok.ensures.does.went.fixed c.in-Ok.ensures.size (laws.safe_runs a0 intact.is_safe) (laws.safe_runs a1 safe) (layer_aligned d.layer laws.aligned a0).positive (omega arith) (omega arith) c.in-Ok.ensures.does.went.later c.in-Ok.ensures.below.later
-    (d.own_cause a0 under call) (λ _. ⊥) c.in-Err-settle.fault (λ none. absurd none) (s.cause safe under c.args.offset c.args.length (elim (cases_lt 0 c.args.length) [
+    c.in_ok-prepared.ensures.does.went.fixed c.in_ok-prepared.ensures.size (laws.safe_runs a0 intact.is_safe) (laws.safe_runs a1 safe) (layer_aligned d.layer laws.aligned a0).positive (omega arith) (omega arith) c.in_ok-prepared.ensures.does.went.later c.in_ok-prepared.ensures.below.later
+    (d.own_cause a0 under call) (λ _. ⊥) c.in_err-settle.field-0.0 (λ none. absurd none) (s.cause safe under c.args.offset c.args.length (elim (cases_lt 0 c.args.length) [
       | inl some ↦ some
       | inr none ↦
           let zero : c.args.length ≡ 0 = omega (arith, none) in
-          let empty = c.in-Ok.ensures.empty zero in
+          let empty = c.in_ok-prepared.ensures.empty zero in
           let unit = unit_of_chain (map d.layer (chain c.args.self.now)) in
           let open_top : barrier (d.layer a0) ≡ None = subst (λ (v : _). barrier (d.layer v.0) ≡ None) (sym c.self.view_is) (unbarred unit (d.layer c.args.self.now.0) c.args.offset c.args.length c.in_ok-check_change.ensures.ok) in
           absurd (cc (s.idle (ap (λ (m' : PreparedDataMapping g.row.D-State.Denot). m'.state) empty.0) (ap barrier empty.1 ∙ open_top)))
@@ -127,19 +128,19 @@ returns-clause-ok g c = let d = g.D.Seen in
     let x1 = r.new.below in
     let under = map d.layer (layers x0) in
     let free : IsFree (d.layer a0) = subst (λ (v : _). IsFree (d.layer v.0)) (sym c.self.view_is) c.requires.free in
-    let m = c.in-Ok.prepared in
+    let m = c.in_ok-prepared.prepared in
     let a2 = c.settle.new.driver in
     let claim = claim_of d.claim m.state in
-    let stateless = λ (none : m.state ≡ None). laws.free_loose a1 (c.in-Ok.ensures.mine.1 none) in
-    let s = c.in_default.ensures in
+    let stateless = λ (none : m.state ≡ None). laws.free_loose a1 (c.in_ok-prepared.ensures.mine.1 none) in
+    let s = c.in_ok-settle.ensures in
     rw (← c.self.view_is) (λ intact.
-    let made = c.in-Ok.ensures.does.ok intact.is_safe intact.is_seen in
-    let same = (c.in-Ok.ensures.below.stays tt intact.is_seen).0 in
-    let safe : d.safe a1 = c.in-Ok.ensures.does.went.safely (tt, intact.is_seen) intact.is_safe in
+    let made = c.in_ok-prepared.ensures.does.ok intact.is_safe intact.is_seen in
+    let same = (c.in_ok-prepared.ensures.below.stays tt intact.is_seen).0 in
+    let safe : d.safe a1 = c.in_ok-prepared.ensures.does.went.safely (tt, intact.is_seen) intact.is_safe in
     let settles = spends_more d m.state (d.layer a1) (d.layer a2) (d.safe a1 → Committed (d.layer a1) (d.layer a2)) (Committed (d.layer a1) (d.layer a2)) (λ h. h safe) s.ok in
-    let commits = settled_commits d m.state under (map d.layer (layers x1)) (d.layer a1) (d.layer a2) same s.size (truly_prepared (at under) (d.layer a0) (d.layer a1) c.args.offset c.args.length c.args.overwrite m.storage m.offset m.length claim made) c.in-Ok.ensures.mine.0 stateless (laws.free_loose a2 (s.free c.in-Ok.ensures.mine.1)) settles in
-    let first = prepared_step under under (d.layer a0) (d.layer a1) c.args.offset c.args.length c.args.overwrite m.storage m.offset m.length claim (is_some m.state) refl (laws.free_loose a0 free) made c.in-Ok.ensures.run.0.0 c.in-Ok.ensures.run.0.1 c.in-Ok.ensures.run.0.2
-    (λ none. stateless (stateless_is m.state none)) (stateful_claims d.claim m.state) (λ zero. ap (λ (m' : PreparedDataMapping g.row.D-State.Denot). is_some m'.state) (c.in-Ok.ensures.empty zero).0) in
+    let commits = settled_commits d m.state under (map d.layer (layers x1)) (d.layer a1) (d.layer a2) same s.size (truly_prepared (at under) (d.layer a0) (d.layer a1) c.args.offset c.args.length c.args.overwrite m.storage m.offset m.length claim made) c.in_ok-prepared.ensures.mine.0 stateless (laws.free_loose a2 (s.free c.in_ok-prepared.ensures.mine.1)) settles in
+    let first = prepared_step under under (d.layer a0) (d.layer a1) c.args.offset c.args.length c.args.overwrite m.storage m.offset m.length claim (is_some m.state) refl (laws.free_loose a0 free) made c.in_ok-prepared.ensures.run.0.0 c.in_ok-prepared.ensures.run.0.1 c.in_ok-prepared.ensures.run.0.2
+    (λ none. stateless (stateless_is m.state none)) (stateful_claims d.claim m.state) (λ zero. ap (λ (m' : PreparedDataMapping g.row.D-State.Denot). is_some m'.state) (c.in_ok-prepared.ensures.empty zero).0) in
     rw c.length-length.ensures (elim first [
       | inl idle ↦ inl (idle.0, (stays_committed (disk_of under (d.layer a0)) (disk_of under (d.layer a1)) (disk_of (map d.layer (layers x1)) (d.layer a2)) (λ p low. ap hold_of (stateless (stateless_is m.state idle.1.2) p)) idle.1.0 commits, idle.1.1))
       | inr busy ↦ inr (busy.0, (disk_of under (d.layer a1), is_some m.state, busy.1, commits))
@@ -155,16 +156,16 @@ returns-clause-home g c = let d = g.D.Seen in
     let x1 = r.new.below in
     let under = map d.layer (layers x0) in
     let free : IsFree (d.layer a0) = subst (λ (v : _). IsFree (d.layer v.0)) (sym c.self.view_is) c.requires.free in
-    let m = c.in-Ok.prepared in
+    let m = c.in_ok-prepared.prepared in
     let a2 = c.settle.new.driver in
     let claim = claim_of d.claim m.state in
-    let stateless = λ (none : m.state ≡ None). laws.free_loose a1 (c.in-Ok.ensures.mine.1 none) in
-    let s = c.in_default.ensures in
+    let stateless = λ (none : m.state ≡ None). laws.free_loose a1 (c.in_ok-prepared.ensures.mine.1 none) in
+    let s = c.in_ok-settle.ensures in
     rw (← c.self.view_is) (λ intact.
-    let made = c.in-Ok.ensures.does.ok intact.is_safe intact.is_seen in
-    let safe : d.safe a1 = c.in-Ok.ensures.does.went.safely (tt, intact.is_seen) intact.is_safe in
+    let made = c.in_ok-prepared.ensures.does.ok intact.is_safe intact.is_seen in
+    let safe : d.safe a1 = c.in_ok-prepared.ensures.does.went.safely (tt, intact.is_seen) intact.is_safe in
     let settles = spends_more d m.state (d.layer a1) (d.layer a2) (d.safe a1 → Committed (d.layer a1) (d.layer a2)) (Committed (d.layer a1) (d.layer a2)) (λ h. h safe) s.ok in
-    rw (c.storage.ensures, c.offset.ensures, c.length-length.ensures) (refl, refl, λ i lt. settled_home d m.state (d.layer a1) (d.layer a2) c.in-Ok.ensures.mine.0 settles (c.args.offset + i) (m.storage, m.offset + i) (made.home i lt)))
+    rw (c.storage.ensures, c.offset.ensures, c.length-length.ensures) (refl, refl, λ i lt. settled_home d m.state (d.layer a1) (d.layer a2) c.in_ok-prepared.ensures.mine.0 settles (c.args.offset + i) (m.storage, m.offset + i) (made.home i lt)))
 
 pub returns-clause-ran : goal.returns-clause-ran
 returns-clause-ran g c = let d = g.D.Seen in
@@ -176,26 +177,35 @@ returns-clause-ran g c = let d = g.D.Seen in
     let x1 = r.new.below in
     let under = map d.layer (layers x0) in
     let free : IsFree (d.layer a0) = subst (λ (v : _). IsFree (d.layer v.0)) (sym c.self.view_is) c.requires.free in
-    let m = c.in-Ok.prepared in
+    let m = c.in_ok-prepared.prepared in
     let a2 = c.settle.new.driver in
     let claim = claim_of d.claim m.state in
-    let stateless = λ (none : m.state ≡ None). laws.free_loose a1 (c.in-Ok.ensures.mine.1 none) in
-    let s = c.in_default.ensures in
+    let stateless = λ (none : m.state ≡ None). laws.free_loose a1 (c.in_ok-prepared.ensures.mine.1 none) in
+    let s = c.in_ok-settle.ensures in
     rw (← c.self.view_is) (ran_seen layers d (below_ghosts d) ⊤ (GivesAnnounced c.args.overwrite c.args.offset c.args.length) a0 a2 x0 x1
-    (ran_ensured d (seen_by layers (below_ghosts d)) ⊤ a0 a1 a2 x0 x1 c.args.offset c.args.length c.args.overwrite m.storage m.offset m.length claim c.in-Ok.ensures.run.0.0 (λ i. c.in-Ok.ensures.does.ok i.is_safe i.is_seen)
-    (ran_mapped d (seen_by layers (below_ghosts d)) m.state a0 a1 x0 x1 c.args.offset c.args.length c.args.overwrite m.storage m.offset m.length (laws.free_loose a0 free) c.in-Ok.ensures.size c.in-Ok.ensures.does.went c.in-Ok.ensures.below c.in-Ok.ensures.does.ok c.in-Ok.ensures.does.stops)
-    (ran_settled d (seen_by layers (below_ghosts d)) m.state ⊤ a1 a2 x1 laws.free_loose s.size s.went c.in-Ok.ensures.mine.0 c.in-Ok.ensures.mine.1 (s.free c.in-Ok.ensures.mine.1) (λ w safe. spends_more d m.state (d.layer a1) (d.layer a2) (d.safe a1 → Committed (d.layer a1) (d.layer a2)) (Committed (d.layer a1) (d.layer a2)) (λ h. h safe) s.ok) s.stops)))
+    (ran_ensured d (seen_by layers (below_ghosts d)) ⊤ a0 a1 a2 x0 x1 c.args.offset c.args.length c.args.overwrite m.storage m.offset m.length claim c.in_ok-prepared.ensures.run.0.0 (λ i. c.in_ok-prepared.ensures.does.ok i.is_safe i.is_seen)
+    (ran_mapped d (seen_by layers (below_ghosts d)) m.state a0 a1 x0 x1 c.args.offset c.args.length c.args.overwrite m.storage m.offset m.length (laws.free_loose a0 free) c.in_ok-prepared.ensures.size c.in_ok-prepared.ensures.does.went c.in_ok-prepared.ensures.below c.in_ok-prepared.ensures.does.ok c.in_ok-prepared.ensures.does.stops)
+    (ran_settled d (seen_by layers (below_ghosts d)) m.state ⊤ a1 a2 x1 laws.free_loose s.size s.went c.in_ok-prepared.ensures.mine.0 c.in_ok-prepared.ensures.mine.1 (s.free c.in_ok-prepared.ensures.mine.1) (λ w safe. spends_more d m.state (d.layer a1) (d.layer a2) (d.safe a1 → Committed (d.layer a1) (d.layer a2)) (Committed (d.layer a1) (d.layer a2)) (λ h. h safe) s.ok) s.stops)))
 
 pub returns-clause-unchanged : goal.returns-clause-unchanged
 returns-clause-unchanged g c = λ how. let d = g.D.Seen in
     let calm = c.in_ok-check_change.ensures.ok in
     let empty : c.args.length ≡ 0 = elim how [ inl none ↦ none | inr some ↦ absurd (grind (arith, some, calm)) ] in
-    let state : c.in-Ok.prepared.state ≡ None = ap (λ m. m.state) (c.in-Ok.ensures.empty empty).0 in
-    let both = unchanged_both d c.self.inside.driver c.prepare_data_mapping.new.self c.settle.new.driver (c.in-Ok.ensures.at_once.unchanged (inl empty)) (c.in_default.ensures.unchanged state) in
-    rw (← c.self.view_is) (both, ap layers (c.in-Ok.ensures.unread (inl empty)))
+    let state : c.in_ok-prepared.prepared.state ≡ None = ap (λ m. m.state) (c.in_ok-prepared.ensures.empty empty).0 in
+    let both = unchanged_both d c.self.inside.driver c.prepare_data_mapping.new.self c.settle.new.driver (c.in_ok-prepared.ensures.at_once.unchanged (inl empty)) (c.in_ok-settle.ensures.unchanged state) in
+    rw (← c.self.view_is) (both, ap layers (c.in_ok-prepared.ensures.unread (inl empty)))
 
-pub returns-in-Err-settle-clause-err : goal.returns-in-Err-settle-clause-err
-returns-in-Err-settle-clause-err g c = let d = g.D.Seen in
+pub returns-in_err-prepared-clause-err : goal.returns-in_err-prepared-clause-err
+returns-in_err-prepared-clause-err g c = let d = g.D.Seen in
+    let r = c.prepare_data_mapping in
+    let a0 = c.self.inside.driver in
+    let x0 = c.self.inside.below in
+    let e = c.in_err-prepared.ensures in
+    rw (← c.self.view_is, handed_on _ _ c.from_residual-in_err-prepared.ensures.1) (λ intact mild.
+    not_prepared_stays (map d.layer (layers x0)) (map d.layer (layers r.new.below)) (d.layer a0) (d.layer r.new.self) (e.below.stays mild intact.is_seen).0 (e.does.err intact.is_safe intact.is_seen mild))
+
+pub returns-in_err-settle-clause-err : goal.returns-in_err-settle-clause-err
+returns-in_err-settle-clause-err g c = let d = g.D.Seen in
     let laws = g.met.D.FormatDriverInstance in
     let r = c.prepare_data_mapping in
     let a0 = c.self.inside.driver in
@@ -204,29 +214,29 @@ returns-in-Err-settle-clause-err g c = let d = g.D.Seen in
     let x0 = c.self.inside.below in
     let under = map d.layer (layers x0) in
     let free : IsFree (d.layer a0) = subst (λ (v : _). IsFree (d.layer v.0)) (sym c.self.view_is) c.requires.free in
-    let m = c.in-Ok.prepared in
-    let s = c.in-Err-settle.ensures in
-    rw (← c.self.view_is) (λ intact mild.
-    let made = c.in-Ok.ensures.does.ok intact.is_safe intact.is_seen in
-    let same = (c.in-Ok.ensures.below.stays tt intact.is_seen).0 in
-    let safe : d.safe a1 = c.in-Ok.ensures.does.went.safely (tt, intact.is_seen) intact.is_safe in
+    let m = c.in_ok-prepared.prepared in
+    let s = c.in_err-settle.ensures in
+    rw (← c.self.view_is, handed_on _ _ c.from_residual-in_err-settle.ensures.1) (λ intact mild.
+    let made = c.in_ok-prepared.ensures.does.ok intact.is_safe intact.is_seen in
+    let same = (c.in_ok-prepared.ensures.below.stays tt intact.is_seen).0 in
+    let safe : d.safe a1 = c.in_ok-prepared.ensures.does.went.safely (tt, intact.is_seen) intact.is_safe in
     let spends = s.err safe mild in
-    let size : (d.layer a2).size ≡ (d.layer a0).size = s.size ∙ c.in-Ok.ensures.size in
+    let size : (d.layer a2).size ≡ (d.layer a0).size = s.size ∙ c.in_ok-prepared.ensures.size in
     rw same (record {
       size = size;
-      value = λ p low. at_alike (d.layer a0) (d.layer a2) under p size (ap (λ (cell : ℕ → Cell). through (cell p) (at under p)) (given_up_cell d m.state (d.layer a1) (d.layer a2) c.in-Ok.ensures.mine.0 spends ∙ made.cell));
-      hold = λ p low. ap hold_of (laws.free_loose a2 (s.free c.in-Ok.ensures.mine.1) p ∙ sym (laws.free_loose a0 free p));
+      value = λ p low. at_alike (d.layer a0) (d.layer a2) under p size (ap (λ (cell : ℕ → Cell). through (cell p) (at under p)) (given_up_cell d m.state (d.layer a1) (d.layer a2) c.in_ok-prepared.ensures.mine.0 spends ∙ made.cell));
+      hold = λ p low. ap hold_of (laws.free_loose a2 (s.free c.in_ok-prepared.ensures.mine.1) p ∙ sym (laws.free_loose a0 free p));
     }))
 
 pub returns-in_err-check_change-clause-marks : goal.returns-in_err-check_change-clause-marks
 returns-in_err-check_change-clause-marks g c = let d = g.D.Seen in let a = c.args.self.now.0 in let ds = c.args.self.now.1 in
     passed c.from_residual.result (MarksTop d (below_ghosts d) (a, ds) (a, ds)) c.in_err-check_change.field-0.0 c.from_residual.ensures.1 (top_mild d (below_ghosts d) a a ds ds c.in_err-check_change.field-0.0 c.in_err-check_change.ensures.mild)
 
-pub returns-in-Err-clause-marks : goal.returns-in-Err-clause-marks
-returns-in-Err-clause-marks g c = let d = g.D.Seen in let r = c.prepare_data_mapping in
-    rw (← c.self.view_is) (top_over d (below_ghosts d) c.self.inside.driver r.new.self (layers c.self.inside.below) (layers r.new.below) c.in-Err.fault c.in-Err.ensures.does.refused.marks)
+pub returns-in_err-prepared-clause-marks : goal.returns-in_err-prepared-clause-marks
+returns-in_err-prepared-clause-marks g c = let d = g.D.Seen in let r = c.prepare_data_mapping in
+    rw (← c.self.view_is, handed_on _ _ c.from_residual-in_err-prepared.ensures.1) (top_over d (below_ghosts d) c.self.inside.driver r.new.self (layers c.self.inside.below) (layers r.new.below) c.in_err-prepared.field-0.0 c.in_err-prepared.ensures.does.refused.marks)
 
-pub returns-in-Err-settle-clause-marks : goal.returns-in-Err-settle-clause-marks
-returns-in-Err-settle-clause-marks g c = let d = g.D.Seen in let r = c.prepare_data_mapping in
-    rw (← c.self.view_is) (top_alone d (below_ghosts d) c.self.inside.driver r.new.self c.settle.new.driver (layers c.self.inside.below) (layers r.new.below) c.in-Err-settle.fault c.in-Ok.ensures.does.went.fixed
-    (λ i. c.in-Ok.ensures.does.went.safely (tt, i.is_seen) i.is_safe) c.in-Err-settle.ensures.marks)
+pub returns-in_err-settle-clause-marks : goal.returns-in_err-settle-clause-marks
+returns-in_err-settle-clause-marks g c = let d = g.D.Seen in let r = c.prepare_data_mapping in
+    rw (← c.self.view_is, handed_on _ _ c.from_residual-in_err-settle.ensures.1) (top_alone d (below_ghosts d) c.self.inside.driver r.new.self c.settle.new.driver (layers c.self.inside.below) (layers r.new.below) c.in_err-settle.field-0.0 c.in_ok-prepared.ensures.does.went.fixed
+    (λ i. c.in_ok-prepared.ensures.does.went.safely (tt, i.is_seen) i.is_safe) c.in_err-settle.ensures.marks)
