@@ -35,3 +35,4 @@ pub mod Conservation
 pub mod WrittenBack
 pub mod Placing
 pub mod CounterBounds
+pub mod HandingOn

@@ -247,13 +247,9 @@ impl RefBlock {
         ensures refused { IfErr result (λ fault. fault ≡ Fault.Counter) }
         ensures stays { OnErr result (self.new ≡ self.old) }
     {
-        match increment(&mut self.bytes, self.refcount_order, index) {
-            Ok(()) => {
-                self.modified = true;
-                Ok(self.get(index))
-            }
-            Err(fault) => Err(fault),
-        }
+        increment(&mut self.bytes, self.refcount_order, index)?;
+        self.modified = true;
+        Ok(self.get(index))
     }
 
     // The counter, one lower.
@@ -265,13 +261,9 @@ impl RefBlock {
         ensures refused { IfErr result (λ fault. fault ≡ Fault.Counter) }
         ensures stays { OnErr result (self.new ≡ self.old) }
     {
-        match decrement(&mut self.bytes, self.refcount_order, index) {
-            Ok(()) => {
-                self.modified = true;
-                Ok(self.get(index))
-            }
-            Err(fault) => Err(fault),
-        }
+        decrement(&mut self.bytes, self.refcount_order, index)?;
+        self.modified = true;
+        Ok(self.get(index))
     }
 }
 

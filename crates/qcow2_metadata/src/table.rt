@@ -153,10 +153,7 @@ pub trait Table: Sized {
         if entries > Self::MAX_ENTRIES {
             return Err(Fault::Limit(entries as u64));
         }
-        let content = match load_entries(alloc, image, header, cluster, entries) {
-            Ok(content) => content,
-            Err(fault) => return Err(fault),
-        };
+        let content = load_entries(alloc, image, header, cluster, entries)?;
         let mut table = Self::from_data(content, header);
         if entries > 0 {
             table.set_cluster(cluster);
@@ -399,10 +396,7 @@ fn put_table<T: Table, S: Storage>(alloc: Global, table: &T, image: &mut S) -> R
         → PutAtOnce (S.state image.old) (S.state image.new) (table_place (T.value table.now))
         (table_bytes (T.value table.now).words) result }
 {
-    let bytes = match bytes_in(alloc, table) {
-        Ok(bytes) => bytes,
-        Err(fault) => return Err(fault),
-    };
+    let bytes = bytes_in(alloc, table)?;
     let place = first_byte(table);
     image.write(alloc, &bytes, place)
 }

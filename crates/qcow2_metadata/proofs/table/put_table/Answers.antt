@@ -7,20 +7,21 @@ use Rattle.qcow2_types.specs.TableBytes.{table_bytes}
 use Rattle.qcow2_metadata.proofs.PlaceLemmas.{place-whole}
 use Rattle.qcow2_metadata.proofs.TableFacts.{table_below, bytes_long}
 use Rattle.qcow2_metadata.proofs.Untouched.{put_nothing, put_nothing_at_once}
+use Rattle.qcow2_metadata.proofs.HandingOn.{wants_memory}
 use Rattle.qcow2_metadata.proofs.table.put_table.Goals as goal
 
-pub returns-in-Err-clause-request : goal.returns-in-Err-clause-request
-returns-in-Err-clause-request g c = rw c.in-Err.ensures.refused (put_nothing _ _ _)
+pub returns-in_err-bytes-clause-request : goal.returns-in_err-bytes-clause-request
+returns-in_err-bytes-clause-request g c = rw (wants_memory _ _ c.from_residual.ensures.1 c.in_err-bytes.ensures.refused) (put_nothing _ _ _)
 
-pub returns-in-Err-clause-once : goal.returns-in-Err-clause-once
-returns-in-Err-clause-once g c = λ whole. rw c.in-Err.ensures.refused (put_nothing_at_once _ _ _)
+pub returns-in_err-bytes-clause-once : goal.returns-in_err-bytes-clause-once
+returns-in_err-bytes-clause-once g c = λ whole. rw (wants_memory _ _ c.from_residual.ensures.1 c.in_err-bytes.ensures.refused) (put_nothing_at_once _ _ _)
 
 pub returns-clause-request : goal.returns-clause-request
 returns-clause-request g c =
     let t = g.T.Table.value c.args.table.now in
     let w = c.write in
     let place = c.first_byte-place.ensures.place in
-    let bytes : c.deref.result.now ≡ table_bytes t.words = c.deref.ensures.value ∙ c.in-Ok.ensures.bytes in
+    let bytes : c.deref.result.now ≡ table_bytes t.words = c.deref.ensures.value ∙ c.in_ok-bytes.ensures.bytes in
     let long : length c.deref.result.now ≡ 8 * length t.words = ap length bytes ∙ bytes_long t.words in
     let below : table_place t + 8 * length t.words ≤ 2 ^ 63 = table_below t g.T.InternalEntry.TableEntry.kind c.first_byte-place.ensures.table c.requires in
     let low : c.first_byte-place.result + length c.deref.result.now ≤ 2 ^ 63 = omega (arith, place, long, below) in
@@ -29,15 +30,15 @@ returns-clause-request g c =
     subst (λ p. Put (g.S.Storage.state c.args.image.now) (g.S.Storage.state w.new.self) p (table_bytes t.words) w.result) place
     (subst (λ (bs : List ℕ). Put (g.S.Storage.state c.args.image.now) (g.S.Storage.state w.new.self) c.first_byte-place.result bs w.result) bytes put)
 
-pub returns-in-Err-clause-at_once : goal.returns-in-Err-clause-at_once
-returns-in-Err-clause-at_once g c = λ range. rw c.in-Err.ensures.refused (put_nothing_at_once _ _ _)
+pub returns-in_err-bytes-clause-at_once : goal.returns-in_err-bytes-clause-at_once
+returns-in_err-bytes-clause-at_once g c = λ range. rw (wants_memory _ _ c.from_residual.ensures.1 c.in_err-bytes.ensures.refused) (put_nothing_at_once _ _ _)
 
 pub returns-clause-at_once : goal.returns-clause-at_once
 returns-clause-at_once g c = λ range.
     let t = g.T.Table.value c.args.table.now in
     let w = c.write in
     let place = c.first_byte-place.ensures.place in
-    let bytes : c.deref.result.now ≡ table_bytes t.words = c.deref.ensures.value ∙ c.in-Ok.ensures.bytes in
+    let bytes : c.deref.result.now ≡ table_bytes t.words = c.deref.ensures.value ∙ c.in_ok-bytes.ensures.bytes in
     let long : length c.deref.result.now ≡ 8 * length t.words = ap length bytes ∙ bytes_long t.words in
     let below : table_place t + 8 * length t.words ≤ 2 ^ 63 = table_below t g.T.InternalEntry.TableEntry.kind c.first_byte-place.ensures.table c.requires in
     let low : c.first_byte-place.result + length c.deref.result.now ≤ 2 ^ 63 = omega (arith, place, long, below) in
@@ -52,7 +53,7 @@ returns-clause-once g c = λ full.
     let t = g.T.Table.value c.args.table.now in
     let w = c.write in
     let place = c.first_byte-place.ensures.place in
-    let bytes : c.deref.result.now ≡ table_bytes t.words = c.deref.ensures.value ∙ c.in-Ok.ensures.bytes in
+    let bytes : c.deref.result.now ≡ table_bytes t.words = c.deref.ensures.value ∙ c.in_ok-bytes.ensures.bytes in
     let long : length c.deref.result.now ≡ 8 * length t.words = ap length bytes ∙ bytes_long t.words in
     let below : table_place t + 8 * length t.words ≤ 2 ^ 63 = table_below t g.T.InternalEntry.TableEntry.kind c.first_byte-place.ensures.table c.requires in
     let low : c.first_byte-place.result + length c.deref.result.now ≤ 2 ^ 63 = omega (arith, place, long, below) in

@@ -5,6 +5,7 @@ use Rattle.qcow2_metadata.specs.Cells.{counters_of}
 use Rattle.qcow2_metadata.specs.Blocks.{Block, block_of, with_counter}
 use Rattle.std.specs.Prelude.{slice_index}
 use Rattle.qcow2_metadata.proofs.Blocks.{has_counter, seen_at, seen_bound, seen_changed}
+use Rattle.qcow2_metadata.proofs.HandingOn.{handed_on}
 use Rattle.qcow2_metadata.proofs.refblock.RefBlock.lower.Goals as goal
 
 pub decrement-requires-clause-inside : goal.decrement-requires-clause-inside
@@ -12,22 +13,22 @@ decrement-requires-clause-inside c =
     let s = c.self.inside in
     rw c.deref_mut.ensures.value (has_counter s.refcount_order c.args.index s.bytes.items (seen_bound s c.args.self.now c.args.index c.self.view_is c.requires))
 
-pub returns-in-Ok-clause-possible : goal.returns-in-Ok-clause-possible
-returns-in-Ok-clause-possible c =
+pub returns-clause-possible : goal.returns-clause-possible
+returns-clause-possible c =
     let s = c.self.inside in
     let at = seen_at s c.args.self.now c.args.index c.self.view_is c.requires in
-    let h = rw c.deref_mut.ensures.value at c.in-Ok.ensures.possible in
+    let h = rw c.deref_mut.ensures.value at c.in_ok-decrement.ensures.possible in
     rw at h
 
-pub returns-in-Err-clause-possible : goal.returns-in-Err-clause-possible
-returns-in-Err-clause-possible c =
+pub returns-in_err-decrement-clause-possible : goal.returns-in_err-decrement-clause-possible
+returns-in_err-decrement-clause-possible c =
     let s = c.self.inside in
     let at = seen_at s c.args.self.now c.args.index c.self.view_is c.requires in
-    let h = rw c.deref_mut.ensures.value at c.in-Err.ensures.possible in
-    rw at h
+    let h = rw c.deref_mut.ensures.value at c.in_err-decrement.ensures.possible in
+    rw (handed_on _ _ c.from_residual.ensures.1) (rw at h)
 
-pub returns-in-Ok-clause-lowered : goal.returns-in-Ok-clause-lowered
-returns-in-Ok-clause-lowered c =
+pub returns-clause-lowered : goal.returns-clause-lowered
+returns-clause-lowered c =
     let s = c.self.inside in
     let new = c.decrement.new.bytes in
     let n : ℕ = slice_index c.args.self.now.counters c.args.index - 1 in
@@ -37,6 +38,6 @@ returns-in-Ok-clause-lowered c =
     ap (λ (bs : List ℕ). block_of s.cluster_bits s.refcount_order (counters_of s.refcount_order bs) s.cluster true) whole
     ∙ seen_changed s c.args.self.now c.args.index c.self.view_is (λ (x : ℕ). x - 1) new c.requires
     (c.decrement.auto.bytes ∙ ap length c.deref_mut.ensures.value)
-    (omega (arith, rw c.deref_mut.ensures.value at c.in-Ok.ensures.step))
-    (rw c.deref_mut.ensures.value at c.in-Ok.ensures.others) in
+    (omega (arith, rw c.deref_mut.ensures.value at c.in_ok-decrement.ensures.step))
+    (rw c.deref_mut.ensures.value at c.in_ok-decrement.ensures.others) in
     (c.get.ensures ∙ (ap (λ (b : Block). slice_index b.counters c.args.index) is ∙ get_or-set_same c.args.self.now.counters c.args.index n 0 c.requires), is)
