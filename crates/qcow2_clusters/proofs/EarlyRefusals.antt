@@ -1,6 +1,5 @@
 -- What is left as it was where a call was refused before it had begun.
-use Rattle.std.proofs.Common.{◌≡◌, ℕ, Bool, refl, sym, subst, ◌∙◌, Result, Ok, Err}
-use Rattle.std.specs.Prelude.{OnOk}
+use Rattle.std.proofs.Common.{◌≡◌, ℕ, Bool, refl, sym, subst, ◌∙◌, Err}
 use Rattle.imago_storage.specs.State.{StorageState}
 use Rattle.imago_storage.specs.Calls.{Kept}
 use Rattle.imago_storage.specs.declared.fault.Fault.{Fault}
@@ -17,7 +16,6 @@ use Rattle.qcow2_alloc.proofs.Flushing.WriteSequences.{kept-same}
 use Rattle.qcow2_alloc.proofs.Searching.SearchSequences.{kept-then}
 use Rattle.qcow2_clusters.specs.MakingTables.{HasWordsOf}
 use Rattle.qcow2_clusters.specs.Rest.{AreEmpty, Clusters, lent, storage}
-use Rattle.qcow2_clusters.specs.Settling.{Settles}
 use Rattle.qcow2_clusters.specs.Sparing.{IsSpared, Spares, SparesUnsettled}
 
 module _ {S : Type 0} (state : S → StorageState) where
@@ -63,24 +61,6 @@ module _ {S : Type 0} (state : S → StorageState) where
         clean.tables,
         clean.blocks,
       )
-
-  -- An answer that only a refusal can be where a refusal was given is one.
-  refused-still : {T : Type 0} (e : Fault) (result : Result T Fault) → OnOk result (result ≡ Err e) → OnOk result ⊥
-  refused-still e (Ok v) is = absurd (cc is)
-  refused-still e (Err other) is = tt
-
-  -- What was refused so is settled.
-  pub settled-spared : (was now : Bool) (c : Clusters S) (e : Fault) (mid : Clusters S) (result : Result ℕ Fault) (after : ImageFile S)
-      (new : MetadataCaches S) → Settles {T = ℕ} state (Err e) mid.file mid.caches result after new
-      → SparesUnsettled {T = ℕ} state was c (Err e) now mid → Spares state was c result now (lent after new mid.space)
-  settled-spared was now c e mid result after new settles spares = λ not.
-      let s = spares not in record {
-        unbegun = s.0.unbegun;
-        refused = refused-still e result settles.ok;
-        kept = kept-then (storage state c) (storage state mid) (state after.image) s.0.kept (settles.still s.1 s.2);
-        header = settles.header ∙ s.0.header;
-        space = s.0.space;
-      }
 
 -- a table that stays
 pub words-same : (top : TableValue) → HasWordsOf top top

@@ -1,6 +1,6 @@
 -- What is cached is written, and then dropped.
 use Rattle.std.proofs.Common.{◌≡◌, ℕ, refl, arith, ap, sym, subst, ◌∙◌, false, List, [], ◌∷◌, Result, Ok, Err, inl, inr}
-use Rattle.std.specs.Prelude.{⊤, IsTrue, OnOk, length, map}
+use Rattle.std.specs.Prelude.{⊤, IsTrue, MatchResult, OnOk, length, map}
 use Rattle.std.specs.List.{AllByRecursion}
 use Rattle.std.proofs.lemmas.List.{length-map}
 use Rattle.imago_storage.specs.Calls.{IsFaultless, Kept}
@@ -245,6 +245,14 @@ module _ {S T : Type 0} (state : S → StorageState) (given : Result T Fault) (b
       ok = tt;
       answer = inr (fault, refl, counts);
     }
+
+    -- Which of the two, the answer of the flush tells.
+    pub settled-flushed : (flushed : Result Unit Fault) → Going before.header old.order Always (flushed ≡ done_so) (state before.image) (cached_in old) (state after.image) cached'
+        → FailsFor (writing_causes (AreTablesInReach (cached_in old) × AreBlocksInReach (cached_in old)) (state before.image).faults (state after.image).faults) flushed
+        → OnOk flushed (AreTablesClean cached') → OnOk flushed (AreBlocksClean cached') → (WasNotCutOff flushed → IsFaultless (state before.image) (state after.image))
+        → MatchResult flushed (λ _. Settles state given before old given after new) (λ fault. Settles state given before old (Err fault) after new)
+    settled-flushed (Ok done) going counts tables blocks faultless = settled-whole going counts tables blocks (faultless tt)
+    settled-flushed (Err fault) going counts tables blocks faultless = settled-refused fault going counts faultless
 
 module _ {S : Type 0} where
   -- Nothing is pinned once all is written,

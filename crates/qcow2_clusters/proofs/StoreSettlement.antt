@@ -199,11 +199,6 @@ module _ {S : Type 0} (state : S → StorageState) (n : ℕ) (content : List ℕ
         cause-weaker (writing-implies _ stored.quiet.later.faults (omega arith) (λ far ready. far (in-reach ready whole))) fault why));
   }
 
--- No room is held for what was refused before.
-pub held-refused : (fault : Fault) (r : Result ℕ Fault) (held : ℕ) → OnOk r (r ≡ Err fault) → held_by r held ≡ held
-held-refused fault (Ok x) held is = absurd (cc is)
-held-refused fault (Err _) held is = refl
-
 -- A run of one cluster is that one.
 pub one-stored : {S : Type 0} (state : S → StorageState) (content : List ℕ) (c : Clusters S) (result : Result ℕ Fault) (c' : Clusters S)
     → StoresRun state 1 content c result c' → Stores state content c result c'

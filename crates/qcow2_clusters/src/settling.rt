@@ -1,6 +1,6 @@
 // Ends changes at rest: what is modified is written, and then nothing is cached, or L2 tables alone. A change is cut off by what qemu tells
 // as `-ENOMEM` or `-EIO`, and imago as an error of memory or of input and output.
-ghost use Rattle.std.specs.Prelude.{MatchBool, Ok};
+ghost use Rattle.std.specs.Prelude.{MatchBool, MatchResult, Ok, Err};
 ghost use Rattle.qcow2_alloc.specs.Caches.{HasRoomOf};
 ghost use Rattle.qcow2_alloc.specs.Going.{WasNotCutOff};
 ghost use Rattle.qcow2_clusters.specs.Rest.{AreEmpty};
@@ -26,22 +26,36 @@ fn was_not_cut_off<T>(answer: &Result<T, Fault>) -> bool
     !matches!(answer, Err(Fault::Memory) | Err(Fault::Storage))
 }
 
-// Ends a change that was answered so: unless it was cut off, what is modified is written. Then nothing is cached.
-pub(crate) fn settle<S: Storage, T: Drop>(
+// Ends a change that was answered so: unless it was cut off, what is modified is written. Then nothing is cached. It answers the fault of
+// that write, where it was refused.
+pub(crate) fn end_change<S: Storage, T>(
     file: &mut ImageFile<S>,
     caches: &mut MetadataCaches<S>,
-    given: Result<T, Fault>,
-) -> Result<T, Fault>
+    given: &Result<T, Fault>,
+) -> Result<(), Fault>
     requires loose { AreUnpinned caches.old }
-    ensures { Settles S.state given file.old caches.old result file.new caches.new }
+    ensures { MatchResult result (λ _. Settles S.state given.now file.old caches.old given.now file.new caches.new)
+        (λ fault. Settles S.state given.now file.old caches.old (Err fault) file.new caches.new) }
 {
-    if !was_not_cut_off(&given) {
+    if !was_not_cut_off(given) {
         drop_cached(caches);
-        return given;
+        return Ok(());
     }
     let flushed = caches.flush_all(file);
     drop_cached(caches);
-    flushed?;
+    flushed
+}
+
+// Ends a change as `end_change` does, and answers what refused that, or else what the change was answered.
+pub(crate) fn settle<S: Storage>(
+    file: &mut ImageFile<S>,
+    caches: &mut MetadataCaches<S>,
+    given: Result<(), Fault>,
+) -> Result<(), Fault>
+    requires loose { AreUnpinned caches.old }
+    ensures { Settles S.state given file.old caches.old result file.new caches.new }
+{
+    end_change(file, caches, &given)?;
     given
 }
 

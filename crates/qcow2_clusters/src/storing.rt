@@ -10,7 +10,7 @@ ghost use Rattle.qcow2_clusters.specs.Settling.{AreUnpinned};
 ghost use Rattle.qcow2_clusters.specs.Sparing.{Spares, SparesUnsettled};
 ghost use Rattle.qcow2_clusters.specs.Storing.{ReachesEnd, ReachesRun, Stores, StoresRun, StoresRunUnsettled};
 
-use crate::settling::settle;
+use crate::settling::end_change;
 use crate::space::Space;
 use imago_storage::{Fault, Storage, StorageExt, WriteFault};
 use qcow2_alloc::{HeldRoom, ImageFile, MetadataCaches, PendingAllocation};
@@ -129,20 +129,14 @@ pub(crate) fn settle_stored<S: Storage>(
     ensures spares { (was now : Bool) (c : Clusters S) → SparesUnsettled S.state was c stored now (lent file.old caches.old space.old)
         → Spares S.state was c result now (lent file.new caches.new space.new) }
 {
-    match stored {
-        Ok(stored) => {
-            let Stored { cluster, hold } = stored;
-            match settle(file, caches, Ok(cluster)) {
-                Ok(cluster) => Ok(Stored { cluster, hold }),
-                Err(fault) => {
-                    space.to_free.release(hold);
-                    Err(fault)
-                }
+    match end_change(file, caches, &stored) {
+        Ok(()) => stored,
+        Err(fault) => match stored {
+            Ok(Stored { cluster: _, hold }) => {
+                space.to_free.release(hold);
+                Err(fault)
             }
-        }
-        Err(fault) => match settle::<S, HostCluster>(file, caches, Err(fault)) {
-            Ok(_cluster) => unreachable!(),
-            Err(fault) => Err(fault),
+            Err(_) => Err(fault),
         },
     }
 }
