@@ -265,10 +265,7 @@ impl<S: Storage> FormatDriverInstance for Qcow2<S> {
         if length == 0 {
             return Ok(PreparedDataMapping::existing(0, 0, 0));
         }
-        match self.check_change(offset, length) {
-            Ok(()) => {}
-            Err(fault) => return Err(fault),
-        }
+        self.check_change(offset, length)?;
         match self.home_run(offset, length)? {
             Some((place, count)) => Ok(PreparedDataMapping::existing(0, place, count)),
             None => self.prepare_fresh(alloc, below, offset, length, overwrite),

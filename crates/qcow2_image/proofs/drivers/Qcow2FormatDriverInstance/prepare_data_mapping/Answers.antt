@@ -1,7 +1,12 @@
-use Rattle.std.proofs.Common.{◌≡◌, ℕ, ◌∙◌, Option, None, Ok, Err, arith}
+use Rattle.std.proofs.Common.{◌≡◌, ℕ, ◌∙◌, Option, Some, None, Ok, Err, List, arith, rules}
 use Rattle.std.specs.Prelude.{⊤}
+use Rattle.imago_storage.specs.State.{StorageState}
+use Rattle.imago_storage.specs.declared.fault.Fault.{Fault}
 use Rattle.imago_access.specs.Changes.{asking}
 use Rattle.imago_access.specs.Files.{IsMild}
+use Rattle.imago_access.specs.Layer.{Layer}
+use Rattle.imago_access.specs.Parts.{PartCause}
+use Rattle.imago_access.specs.Refusals.{own_refusal}
 use Rattle.imago_access.proofs.Looking.{looked_under_same}
 use Rattle.qcow2_image.specs.Looking.{IsWholeRunIn}
 use Rattle.qcow2_image.specs.Seen.{layer_of}
@@ -12,24 +17,33 @@ use Rattle.qcow2_alloc.proofs.Faults.{handed-on}
 use Rattle.qcow2_image.proofs.drivers.Qcow2FormatDriverInstance.prepare_data_mapping.Goals as goal
 use Rattle.qcow2_image.proofs.LeaksByFile.{leaks-kept}
 
+-- a change that is refused at once is refused for a cause
+own-refused : (below : List Layer) (layer : Layer) (offset n : ℕ) (causes : Fault → Type 0) (olds news : List StorageState)
+    → (e : Fault) → own_refusal layer offset n ≡ Some e → PartCause below layer offset n causes olds news e
+own-refused below layer offset n causes olds news e h = search rules
+
 pub returns-then-self-clause-below : goal.returns-then-self-clause-below
 returns-then-self-clause-below g c = looked_under_same g.B.SeenBelow ⊤ c.args.below.now
 
 pub returns-then-length-eq0-clause-below : goal.returns-then-length-eq0-clause-below
 returns-then-length-eq0-clause-below g c = looked_under_same g.B.SeenBelow ⊤ c.args.below.now
 
-pub returns-in-Err-clause-below : goal.returns-in-Err-clause-below
-returns-in-Err-clause-below g c = looked_under_same g.B.SeenBelow (IsMild c.in-Err.fault) c.args.below.now
+pub returns-in_err-check_change-clause-does : goal.returns-in_err-check_change-clause-does
+returns-in_err-check_change-clause-does g c = rw (handed-on _ _ c.from_residual.ensures.1) (search (rules, own-refused))
+
+pub returns-in_err-check_change-clause-below : goal.returns-in_err-check_change-clause-below
+returns-in_err-check_change-clause-below g c = rw (handed-on _ _ c.from_residual.ensures.1)
+    (looked_under_same g.B.SeenBelow (IsMild c.in_err-check_change.field-0.0) c.args.below.now)
 
 pub returns-in_err-place-clause-below : goal.returns-in_err-place-clause-below
-returns-in_err-place-clause-below g c = rw (handed-on _ _ c.from_residual.ensures.1)
+returns-in_err-place-clause-below g c = rw (handed-on _ _ c.from_residual-in_err-place.ensures.1)
     (looked_under_same g.B.SeenBelow (IsMild c.in_err-place.field-0.0) c.args.below.now)
 
 pub returns-in-Some-clause-below : goal.returns-in-Some-clause-below
 returns-in-Some-clause-below g c = looked_under_same g.B.SeenBelow ⊤ c.args.below.now
 
 pub returns-in_err-place-clause-does : goal.returns-in_err-place-clause-does
-returns-in_err-place-clause-does g c = rw (handed-on _ _ c.from_residual.ensures.1) (
+returns-in_err-place-clause-does g c = rw (handed-on _ _ c.from_residual-in_err-place.ensures.1) (
     let st = g.S.Storage in
     let asked = asking c.args.offset c.args.length c.args.overwrite in
     let e = c.in_err-place.field-0.0 in
@@ -47,7 +61,7 @@ returns-in-Some-clause-does g c =
     let all = c.in_ok-place.ensures in
     rw c.existing-in-Some.ensures (prepares-mapped g.row.S st g.S.Storage-dict g.S.Destruct-dict c.args.self.now c.home_run.new.self
     g.B.SeenBelow c.args.below.now asked
-    c.in-Some.place c.in-Some.count (rw is at all.keeps) c.requires.free c.in-Ok.ensures.inside
+    c.in-Some.place c.in-Some.count (rw is at all.keeps) c.requires.free c.in_ok-check_change.ensures.inside
     (omega (arith, c.if-length-eq0.false)) (rw is at all.run) (λ seen. rw is at (all.home seen))
     (λ seen. rw is at (all.whole c.requires.free seen)))
 
@@ -65,7 +79,7 @@ returns-in-None-clause-run g c =
     let looked = rw c.in-None.is at c.in_ok-place.ensures.keeps in
     let fresh = prepared-behind st {T = Option (ℕ × ℕ)} u asked c.args.self.now c.home_run.new.self x None looked c.prepare_fresh.result c.prepare_fresh.new.self y c.prepare_fresh.ensures in
     fresh-run g.row.S st g.S.Storage-dict g.S.Destruct-dict u asked c.args.self.now c.prepare_fresh.new.self x y c.prepare_fresh.result
-    (omega (arith, c.if-length-eq0.false)) c.in-Ok.ensures.inside fresh
+    (omega (arith, c.if-length-eq0.false)) c.in_ok-check_change.ensures.inside fresh
 
 pub returns-in-None-clause-mine : goal.returns-in-None-clause-mine
 returns-in-None-clause-mine g c =
@@ -110,7 +124,7 @@ returns-in-None-clause-does g c =
     let looked = rw c.in-None.is at c.in_ok-place.ensures.keeps in
     let fresh = prepared-behind st {T = Option (ℕ × ℕ)} u asked c.args.self.now c.home_run.new.self x None looked c.prepare_fresh.result c.prepare_fresh.new.self y c.prepare_fresh.ensures in
     prepares-fresh g.row.S st g.S.Storage-dict g.S.Destruct-dict u asked c.args.self.now c.prepare_fresh.new.self x y c.prepare_fresh.result c.requires.free (omega (arith, c.if-length-eq0.false))
-    (λ seen. c.in_ok-place.ensures.none seen c.in-None.is) c.in-Ok.ensures.inside c.in-Ok.ensures.writable fresh
+    (λ seen. c.in_ok-place.ensures.none seen c.in-None.is) c.in_ok-check_change.ensures.inside c.in_ok-check_change.ensures.writable fresh
 
 pub returns-in-None-clause-below : goal.returns-in-None-clause-below
 returns-in-None-clause-below g c = c.prepare_fresh.ensures.prepares.below
@@ -165,7 +179,7 @@ returns-in-None-clause-full g c =
     λ safe under. fresh-lacks st u asked fresh.n c.args.self.now c.prepare_fresh.new.self x y c.prepare_fresh.result fresh.prepares safe under
 
 pub returns-in_err-place-clause-leaks : goal.returns-in_err-place-clause-leaks
-returns-in_err-place-clause-leaks g c = rw (handed-on _ _ c.from_residual.ensures.1)
+returns-in_err-place-clause-leaks g c = rw (handed-on _ _ c.from_residual-in_err-place.ensures.1)
     (λ safe whole. leaks-kept g.S.Storage {T = Option (ℕ × ℕ)} c.args.self.now c.home_run.new.self
     (Err c.in_err-place.field-0.0) c.in_err-place.ensures.keeps)
 
