@@ -107,14 +107,8 @@ fn read_quoted(sectors: u64, text: &[u8]) -> Result<Source<&str>, Fault>
     if end == text.len() {
         return Err(Fault::DamagedDescriptor);
     }
-    let name = match text_of(&text[..end]) {
-        Ok(name) => name,
-        Err(fault) => return Err(fault),
-    };
-    let sector = match read_sector(&text[end + 1..]) {
-        Ok(sector) => sector,
-        Err(fault) => return Err(fault),
-    };
+    let name = text_of(&text[..end])?;
+    let sector = read_sector(&text[end + 1..])?;
     in_file(name, sectors, sector)
 }
 
