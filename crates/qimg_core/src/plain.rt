@@ -96,14 +96,8 @@ fn read_image<S: Storage>(
     ensures kept { Kept (S.state image.old) (S.state image.new) }
     ensures faults { OnOk result ((S.state image.new).faults ≡ (S.state image.old).faults) }
 {
-    let header = match Header::load(alloc, image, false) {
-        Ok(header) => header,
-        Err(fault) => return Err(fault),
-    };
-    let l1 = match load_l1(image, alloc, &header) {
-        Ok(l1) => l1,
-        Err(fault) => return Err(fault),
-    };
+    let header = Header::load(alloc, image, false)?;
+    let l1 = load_l1(image, alloc, &header)?;
     check_alone(&header)?;
     if offset.checked_add(buf.len() as u64).is_none() {
         return Err(Fault::RangeOverflow);

@@ -105,10 +105,8 @@ fn read_clusters<S: Storage>(
         let mapping = table.get_mapping(GuestOffset(place).cluster(bits));
         let n = in_cluster(place, buf.len() - done, bits);
         let piece = &mut buf[done..done + n];
-        match read_mapping(image, alloc, mapping, bits, piece, place) {
-            Ok(()) => done += n,
-            Err(fault) => return Err(fault),
-        }
+        read_mapping(image, alloc, mapping, bits, piece, place)?;
+        done += n;
     }
     Ok(())
 }
@@ -142,10 +140,8 @@ fn read_table<S: Storage>(
         return Ok(());
     };
     let cluster = place.cluster(bits);
-    match L2Table::load(alloc, image, header, cluster, header.l2_entries()) {
-        Ok(table) => read_clusters(image, alloc, &table, buf, at),
-        Err(fault) => Err(fault),
-    }
+    let table = L2Table::load(alloc, image, header, cluster, header.l2_entries())?;
+    read_clusters(image, alloc, &table, buf, at)
 }
 
 /// Reads places of an image, one L2 table after the other.
@@ -174,10 +170,8 @@ pub fn read_tables<S: Storage>(
         let place = at + done as u64;
         let n = in_table(place, buf.len() - done, bits);
         let piece = &mut buf[done..done + n];
-        match read_table(image, alloc, header, l1, piece, place) {
-            Ok(()) => done += n,
-            Err(fault) => return Err(fault),
-        }
+        read_table(image, alloc, header, l1, piece, place)?;
+        done += n;
     }
     Ok(())
 }

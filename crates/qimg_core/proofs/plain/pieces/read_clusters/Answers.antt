@@ -3,6 +3,7 @@ use Rattle.qcow2_types.specs.Bytes.{Bytes}
 use Rattle.qcow2_types.specs.Entries.{l2_entries}
 use Rattle.qcow2_types.specs.Words.{Mapping, mapping_of}
 use Rattle.std.specs.Prelude.{slice_index}
+use Rattle.imago_access.proofs.Answers.{handed_on}
 use Rattle.qcow2_metadata.specs.MappingView.{mapping_seen}
 use Rattle.qcow2_metadata.specs.Tables.{TableValue}
 use Rattle.qcow2_metadata.specs.Loading.{file}
@@ -42,10 +43,10 @@ loop-done-preserved g c =
     let most : c.loop-done.done + c.in_cluster-n.result ≤ length c.loop-done.buf = omega (arith, c.in_cluster-n.ensures.most) in
     shown-more (table_value (file old) c.args.table.now) (mapped_value (file now) bits mapping) old now new c.args.at c.loop-done.done c.in_cluster-n.result place _ c.loop-done.buf c.read_mapping.new.buf c.loop-done.invariant n long most refl
     (one-mapping (file old) (file now) c.args.table.now mapping bits place c.in_cluster-n.result (kept-file old now c.loop-done.invariant.kept) c.cluster_bits-bits.ensures.value means c.in_cluster-n.ensures.one_cluster)
-    c.in-Ok.ensures.ok c.read_mapping.ensures.kept c.in-Ok.ensures.faults
+    c.in_ok-read_mapping.ensures.ok c.read_mapping.ensures.kept c.in_ok-read_mapping.ensures.faults
 
-pub returns-in-Err-clause-err : goal.returns-in-Err-clause-err
-returns-in-Err-clause-err g c =
+pub returns-in_err-read_mapping-clause-err : goal.returns-in_err-read_mapping-clause-err
+returns-in_err-read_mapping-clause-err g c =
     let old = g.S.Storage.state c.args.image.now in
     let now = g.S.Storage.state c.loop-done.image in
     let new = g.S.Storage.state c.read_mapping.new.image in
@@ -57,6 +58,6 @@ returns-in-Err-clause-err g c =
     let most : c.loop-done.done + c.in_cluster-n.result ≤ length c.args.buf.now = omega (arith, c.in_cluster-n.ensures.most, c.loop-done.auto.buf) in
     let long : length (take (c.loop-done.done + c.in_cluster-n.result - c.loop-done.done) (drop c.loop-done.done c.loop-done.buf)) ≡ c.in_cluster-n.result =
     omega (arith, length-take (c.loop-done.done + c.in_cluster-n.result - c.loop-done.done) (drop c.loop-done.done c.loop-done.buf), length-drop c.loop-done.done c.loop-done.buf, c.in_cluster-n.ensures.most) in
-    shown-short (table_value (file old) c.args.table.now) (mapped_value (file now) bits mapping) old now new c.args.at c.loop-done.done c.in_cluster-n.result place (length c.args.buf.now) c.loop-done.buf c.in-Err.fault c.loop-done.invariant most refl
+    rw (handed_on _ _ c.from_residual.ensures.1) (shown-short (table_value (file old) c.args.table.now) (mapped_value (file now) bits mapping) old now new c.args.at c.loop-done.done c.in_cluster-n.result place (length c.args.buf.now) c.loop-done.buf c.in_err-read_mapping.field-0.0 c.loop-done.invariant most refl
     (one-mapping (file old) (file now) c.args.table.now mapping bits place c.in_cluster-n.result (kept-file old now c.loop-done.invariant.kept) c.cluster_bits-bits.ensures.value means c.in_cluster-n.ensures.one_cluster)
-    (subst (λ k. NotShown (mapped_value (file now) bits mapping) now new place k c.in-Err.fault) long c.in-Err.ensures.err)
+    (subst (λ k. NotShown (mapped_value (file now) bits mapping) now new place k c.in_err-read_mapping.field-0.0) long c.in_err-read_mapping.ensures.err))

@@ -1,5 +1,6 @@
 use Rattle.std.proofs.Common.{◌≡◌, ℕ, ◌*◌, ◌/◌, ◌^◌, length, List, sym, ap, ◌∙◌, arith}
 use Rattle.std.specs.Prelude.{Option, slice_index}
+use Rattle.imago_access.proofs.Answers.{handed_on}
 use Rattle.qcow2_types.specs.Words.{table_offset}
 use Rattle.qcow2_types.specs.Entries.{l2_entries}
 use Rattle.qcow2_metadata.specs.Tables.{place_or_none}
@@ -41,44 +42,44 @@ load-requires-clause-reach g c =
     let same : c.cluster-cluster.result * 2 ^ h.cluster_bits ≡ c.in-Some.place = ap (λ n. n * 2 ^ h.cluster_bits) cluster ∙ whole.0 in
     omega (arith, same, whole.1)
 
-pub returns-in-Ok-clause-ok : goal.returns-in-Ok-clause-ok
-returns-in-Ok-clause-ok g c =
+pub returns-clause-ok : goal.returns-clause-ok
+returns-clause-ok g c =
     let old = g.S.Storage.state c.args.image.now in
     let now = g.S.Storage.state c.load.new.image in
     let h = c.args.header.now.fields in
     let bits = c.cluster_bits-bits.ensures.value in
     let found = its-place c.l2_offset.result c.get.result c.l1_index.result c.args.l1.now.words c.l2_offset.ensures c.get.ensures in
-    shown-as c.read_clusters.result (image_value (file old) h) (table_value (file now) c.in-Ok.table) c.args.at c.read_clusters.new.buf
+    shown-as c.read_clusters.result (image_value (file old) h) (table_value (file now) c.in_ok-table.table) c.args.at c.read_clusters.new.buf
     (λ i lt. loaded-values (file old) h c.requires.sound c.requires.data_inside c.args.l1.now.words c.requires.words c.args.at (length c.args.buf.now) c.l1_index.result
     (its-index c.l1_index.result c.args.at c.cluster_bits-bits.result h.cluster_bits c.l1_index.ensures bits) c.requires.one_table c.in-Some.place c.cluster-cluster.result (sym c.in-Some.is ∙ found)
     (its-cluster c.cluster-cluster.result c.in-Some.place c.cluster_bits-bits.result h.cluster_bits c.cluster-cluster.ensures bits)
-    c.cluster_bits-bits.ensures.shaped.low (file now) c.in-Ok.table (kept-file old now c.load.ensures.kept) (rw c.l2_entries.ensures at c.in-Ok.ensures.ok) (rw c.l2_entries.ensures at c.in-Ok.ensures.sound)
+    c.cluster_bits-bits.ensures.shaped.low (file now) c.in_ok-table.table (kept-file old now c.load.ensures.kept) (rw c.l2_entries.ensures at c.in_ok-table.ensures.ok) (rw c.l2_entries.ensures at c.in_ok-table.ensures.sound)
     i (omega (arith, c.read_clusters.auto.buf)))
     c.read_clusters.ensures.ok
 
-pub returns-in-Ok-clause-err : goal.returns-in-Ok-clause-err
-returns-in-Ok-clause-err g c =
+pub returns-clause-err : goal.returns-clause-err
+returns-clause-err g c =
     let old = g.S.Storage.state c.args.image.now in
     let now = g.S.Storage.state c.load.new.image in
     let new = g.S.Storage.state c.read_clusters.new.image in
     let h = c.args.header.now.fields in
     let bits = c.cluster_bits-bits.ensures.value in
     let found = its-place c.l2_offset.result c.get.result c.l1_index.result c.args.l1.now.words c.l2_offset.ensures c.get.ensures in
-    unshown-as c.read_clusters.result (image_value (file old) h) (table_value (file now) c.in-Ok.table) old now new c.args.at (length c.args.buf.now) c.load.ensures.kept c.in-Ok.ensures.faults
+    unshown-as c.read_clusters.result (image_value (file old) h) (table_value (file now) c.in_ok-table.table) old now new c.args.at (length c.args.buf.now) c.load.ensures.kept c.in_ok-table.ensures.faults
     (λ i lt. loaded-values (file old) h c.requires.sound c.requires.data_inside c.args.l1.now.words c.requires.words c.args.at (length c.args.buf.now) c.l1_index.result
     (its-index c.l1_index.result c.args.at c.cluster_bits-bits.result h.cluster_bits c.l1_index.ensures bits) c.requires.one_table c.in-Some.place c.cluster-cluster.result (sym c.in-Some.is ∙ found)
     (its-cluster c.cluster-cluster.result c.in-Some.place c.cluster_bits-bits.result h.cluster_bits c.cluster-cluster.ensures bits)
-    c.cluster_bits-bits.ensures.shaped.low (file now) c.in-Ok.table (kept-file old now c.load.ensures.kept) (rw c.l2_entries.ensures at c.in-Ok.ensures.ok) (rw c.l2_entries.ensures at c.in-Ok.ensures.sound) i lt)
+    c.cluster_bits-bits.ensures.shaped.low (file now) c.in_ok-table.table (kept-file old now c.load.ensures.kept) (rw c.l2_entries.ensures at c.in_ok-table.ensures.ok) (rw c.l2_entries.ensures at c.in_ok-table.ensures.sound) i lt)
     c.read_clusters.ensures.err
 
-pub returns-in-Err-clause-err : goal.returns-in-Err-clause-err
-returns-in-Err-clause-err g c =
+pub returns-in_err-table-clause-err : goal.returns-in_err-table-clause-err
+returns-in_err-table-clause-err g c =
     let old = g.S.Storage.state c.args.image.now in
     let new = g.S.Storage.state c.load.new.image in
     let h = c.args.header.now.fields in
     let bits = c.cluster_bits-bits.ensures.value in
     let found = its-place c.l2_offset.result c.get.result c.l1_index.result c.args.l1.now.words c.l2_offset.ensures c.get.ensures in
-    table-refused (file old) h c.requires.sound c.requires.data_inside c.args.l1.now.words c.requires.words c.args.at (length c.args.buf.now) c.l1_index.result
+    rw (handed_on _ _ c.from_residual.ensures.1) (table-refused (file old) h c.requires.sound c.requires.data_inside c.args.l1.now.words c.requires.words c.args.at (length c.args.buf.now) c.l1_index.result
     (its-index c.l1_index.result c.args.at c.cluster_bits-bits.result h.cluster_bits c.l1_index.ensures bits) c.requires.one_table c.in-Some.place c.cluster-cluster.result (sym c.in-Some.is ∙ found)
     (its-cluster c.cluster-cluster.result c.in-Some.place c.cluster_bits-bits.result h.cluster_bits c.cluster-cluster.ensures bits)
-    old new c.cluster_bits-bits.ensures.shaped.high c.requires.some c.in-Err.fault (rw c.l2_entries.ensures at c.in-Err.ensures.err)
+    old new c.cluster_bits-bits.ensures.shaped.high c.requires.some c.in_err-table.field-0.0 (rw c.l2_entries.ensures at c.in_err-table.ensures.err))
