@@ -54,10 +54,8 @@ pub fn drive<D: FormatDriverInstance>(
     };
     let (outcome, kept) = make_all(alloc, chain, calls, &mut answers);
     give_up(chain, kept);
-    match outcome {
-        Ok(()) => Ok(answers),
-        Err(fault) => Err(fault),
-    }
+    outcome?;
+    Ok(answers)
 }
 
 /// Gives up the mapping that is kept, if one is.

@@ -31,10 +31,8 @@ fn copy_piece<S: FormatDriverInstance, T: FormatDriverInstance>(
     ensures cause { PieceRefused S.Seen T.Seen offset (length buf.old) result (source.old, target.old) (source.new, target.new) }
     ensures part { PieceStops S.Seen T.Seen offset (length buf.old) result (source.old, target.old) target.new }
 {
-    match source.read(alloc, buf, offset) {
-        Ok(()) => target.write(alloc, buf, offset),
-        Err(fault) => Err(fault),
-    }
+    source.read(alloc, buf, offset)?;
+    target.write(alloc, buf, offset)
 }
 
 // Copies all of the source's disk, which is as large as the target's, piece by piece: at least one, so that a chain that can't be used
@@ -56,10 +54,8 @@ fn copy_all<S: FormatDriverInstance, T: FormatDriverInstance>(
     let mut done = 0;
     loop {
         let n = PIECE.min(size - done);
-        match copy_piece(alloc, source, target, &mut buf[..n as usize], done) {
-            Ok(()) => done += n,
-            Err(fault) => return Err(fault),
-        }
+        copy_piece(alloc, source, target, &mut buf[..n as usize], done)?;
+        done += n;
         if done == size {
             return Ok(());
         }

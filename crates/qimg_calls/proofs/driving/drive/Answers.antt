@@ -1,6 +1,7 @@
 use Rattle.std.specs.Prelude.{[], None, length, take}
 use Rattle.std.proofs.Common.{◌≡◌, ℕ, ◌<◌, zero, suc, refl, arith}
 use Rattle.imago_access.specs.Files.{files_of}
+use Rattle.imago_access.proofs.Answers.{handed_on}
 use Rattle.imago_access.proofs.FilePairs.{kept_all_same}
 use Rattle.qimg_calls.specs.Held.{holding}
 use Rattle.qimg_calls.specs.Making.{MadeAll}
@@ -29,53 +30,56 @@ returns-in-Err-clause-cut_short g c =
 pub returns-in-Err-clause-below : goal.returns-in-Err-clause-below
 returns-in-Err-clause-below g c still = (kept_all_same (files_of g.D.Seen c.args.chain.now.1), still)
 
-pub returns-in-Ok-outcome-clause-made : goal.returns-in-Ok-outcome-clause-made
-returns-in-Ok-outcome-clause-made g c = let r = c.make_all-outcome in (holding r.new.chain r.result.1, rw (c.in-Ok-outcome.is) at r.ensures.ok, c.give_up.ensures)
+pub returns-clause-made : goal.returns-clause-made
+returns-clause-made g c = let r = c.make_all-outcome in (holding r.new.chain r.result.1, rw (c.in_ok-outcome.was) at r.ensures.ok, c.give_up.ensures)
 
-pub returns-in-Ok-outcome-clause-headline : goal.returns-in-Ok-outcome-clause-headline
-returns-in-Ok-outcome-clause-headline g c since ready stands = let m = g.met.D.FormatDriverInstance in
-    driven-made g.D.Seen m.safe_sees m.safe_sound c.args.calls.now c.make_all-outcome.new.answers.items c.args.chain.now c.give_up.new.chain since (returns-in-Ok-outcome-clause-made g c) c.requires.free ready stands
+pub returns-clause-headline : goal.returns-clause-headline
+returns-clause-headline g c since ready stands = let m = g.met.D.FormatDriverInstance in
+    driven-made g.D.Seen m.safe_sees m.safe_sound c.args.calls.now c.make_all-outcome.new.answers.items c.args.chain.now c.give_up.new.chain since (returns-clause-made g c) c.requires.free ready stands
 
-pub returns-in-Ok-outcome-clause-free : goal.returns-in-Ok-outcome-clause-free
-returns-in-Ok-outcome-clause-free g c = none-kept g.D.Seen c.args.chain.now c.give_up.new.chain c.requires.free
-    (going-made-all g.D.Seen c.args.calls.now c.make_all-outcome.new.answers.items c.args.chain.now c.give_up.new.chain (returns-in-Ok-outcome-clause-made g c))
+pub returns-clause-free : goal.returns-clause-free
+returns-clause-free g c = none-kept g.D.Seen c.args.chain.now c.give_up.new.chain c.requires.free
+    (going-made-all g.D.Seen c.args.calls.now c.make_all-outcome.new.answers.items c.args.chain.now c.give_up.new.chain (returns-clause-made g c))
 
-pub returns-in-Ok-outcome-clause-fixed : goal.returns-in-Ok-outcome-clause-fixed
-returns-in-Ok-outcome-clause-fixed g c =
-    (going-made-all g.D.Seen c.args.calls.now c.make_all-outcome.new.answers.items c.args.chain.now c.give_up.new.chain (returns-in-Ok-outcome-clause-made g c)).fixed
+pub returns-clause-fixed : goal.returns-clause-fixed
+returns-clause-fixed g c =
+    (going-made-all g.D.Seen c.args.calls.now c.make_all-outcome.new.answers.items c.args.chain.now c.give_up.new.chain (returns-clause-made g c)).fixed
 
-pub returns-in-Ok-outcome-clause-below : goal.returns-in-Ok-outcome-clause-below
-returns-in-Ok-outcome-clause-below g c =
-    (going-made-all g.D.Seen c.args.calls.now c.make_all-outcome.new.answers.items c.args.chain.now c.give_up.new.chain (returns-in-Ok-outcome-clause-made g c)).under
+pub returns-clause-below : goal.returns-clause-below
+returns-clause-below g c =
+    (going-made-all g.D.Seen c.args.calls.now c.make_all-outcome.new.answers.items c.args.chain.now c.give_up.new.chain (returns-clause-made g c)).under
 
-pub returns-in-Ok-outcome-clause-each : goal.returns-in-Ok-outcome-clause-each
-returns-in-Ok-outcome-clause-each g c = let r = c.make_all-outcome in
-    as-many g.D.Seen c.args.calls.now r.new.answers.items (holding c.args.chain.now None) (holding r.new.chain r.result.1) (rw (c.in-Ok-outcome.is) at r.ensures.ok)
+pub returns-clause-each : goal.returns-clause-each
+returns-clause-each g c = let r = c.make_all-outcome in
+    as-many g.D.Seen c.args.calls.now r.new.answers.items (holding c.args.chain.now None) (holding r.new.chain r.result.1) (rw (c.in_ok-outcome.was) at r.ensures.ok)
 
-pub returns-in-Err-outcome-clause-cut_short : goal.returns-in-Err-outcome-clause-cut_short
-returns-in-Err-outcome-clause-cut_short g c =
+pub returns-in_err-outcome-clause-cut_short : goal.returns-in_err-outcome-clause-cut_short
+returns-in_err-outcome-clause-cut_short g c = rw (handed_on _ _ c.from_residual.ensures.1) (
     let r = c.make_all-outcome in
     let m = g.met.D.FormatDriverInstance in
     let old = c.args.chain.now in
     let new = c.give_up.new.chain in
     let n = length r.new.answers.items in
-    let made : MadeAll g.D.Seen (take n c.args.calls.now) r.new.answers.items old new = (holding r.new.chain r.result.1, rw (c.in-Err-outcome.is) at r.ensures.err, c.give_up.ensures) in
+    let made : MadeAll g.D.Seen (take n c.args.calls.now) r.new.answers.items old new = (holding r.new.chain r.result.1, rw (c.in_err-outcome.was) at r.ensures.err, c.give_up.ensures) in
     record {
       count = n;
-      fewer = rw (c.in-Err-outcome.is) at r.ensures.fewer;
+      fewer = rw (c.in_err-outcome.was) at r.ensures.fewer;
       answers = r.new.answers.items;
       made = made;
       driven = λ since ready stands. driven-made g.D.Seen m.safe_sees m.safe_sound (take n c.args.calls.now) r.new.answers.items old new since made c.requires.free ready stands;
-    }
+    })
 
-pub returns-in-Err-outcome-clause-free : goal.returns-in-Err-outcome-clause-free
-returns-in-Err-outcome-clause-free g c = let short = returns-in-Err-outcome-clause-cut_short g c in
-    none-kept g.D.Seen c.args.chain.now c.give_up.new.chain c.requires.free (going-made-all g.D.Seen (take short.count c.args.calls.now) short.answers c.args.chain.now c.give_up.new.chain short.made)
+pub returns-in_err-outcome-clause-free : goal.returns-in_err-outcome-clause-free
+returns-in_err-outcome-clause-free g c = let r = c.make_all-outcome in
+    none-kept g.D.Seen c.args.chain.now c.give_up.new.chain c.requires.free (going-made-all g.D.Seen (take (length r.new.answers.items) c.args.calls.now) r.new.answers.items c.args.chain.now c.give_up.new.chain
+    (holding r.new.chain r.result.1, rw (c.in_err-outcome.was) at r.ensures.err, c.give_up.ensures))
 
-pub returns-in-Err-outcome-clause-fixed : goal.returns-in-Err-outcome-clause-fixed
-returns-in-Err-outcome-clause-fixed g c = let short = returns-in-Err-outcome-clause-cut_short g c in
-    (going-made-all g.D.Seen (take short.count c.args.calls.now) short.answers c.args.chain.now c.give_up.new.chain short.made).fixed
+pub returns-in_err-outcome-clause-fixed : goal.returns-in_err-outcome-clause-fixed
+returns-in_err-outcome-clause-fixed g c = let r = c.make_all-outcome in
+    (going-made-all g.D.Seen (take (length r.new.answers.items) c.args.calls.now) r.new.answers.items c.args.chain.now c.give_up.new.chain
+    (holding r.new.chain r.result.1, rw (c.in_err-outcome.was) at r.ensures.err, c.give_up.ensures)).fixed
 
-pub returns-in-Err-outcome-clause-below : goal.returns-in-Err-outcome-clause-below
-returns-in-Err-outcome-clause-below g c = let short = returns-in-Err-outcome-clause-cut_short g c in
-    (going-made-all g.D.Seen (take short.count c.args.calls.now) short.answers c.args.chain.now c.give_up.new.chain short.made).under
+pub returns-in_err-outcome-clause-below : goal.returns-in_err-outcome-clause-below
+returns-in_err-outcome-clause-below g c = let r = c.make_all-outcome in
+    (going-made-all g.D.Seen (take (length r.new.answers.items) c.args.calls.now) r.new.answers.items c.args.chain.now c.give_up.new.chain
+    (holding r.new.chain r.result.1, rw (c.in_err-outcome.was) at r.ensures.err, c.give_up.ensures)).under
