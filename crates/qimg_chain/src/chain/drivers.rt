@@ -247,16 +247,12 @@ impl<S: Storage> FormatDriverInstance for ImageDriver<S> {
     ) -> Result<PreparedDataMapping<PreparedMappingState>, Fault> {
         match self {
             ImageDriver::Raw(raw) => {
-                match raw.prepare_data_mapping(alloc, below, offset, length, overwrite) {
-                    Ok(mapping) => Ok(stateless(mapping)),
-                    Err(fault) => Err(fault),
-                }
+                let mapping = raw.prepare_data_mapping(alloc, below, offset, length, overwrite)?;
+                Ok(stateless(mapping))
             }
             ImageDriver::Vmdk(vmdk) => {
-                match vmdk.prepare_data_mapping(alloc, below, offset, length, overwrite) {
-                    Ok(mapping) => Ok(stateless(mapping)),
-                    Err(fault) => Err(fault),
-                }
+                let mapping = vmdk.prepare_data_mapping(alloc, below, offset, length, overwrite)?;
+                Ok(stateless(mapping))
             }
             ImageDriver::Qcow2(qcow2) => {
                 qcow2.prepare_data_mapping(alloc, below, offset, length, overwrite)
