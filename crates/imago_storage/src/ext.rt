@@ -151,6 +151,9 @@ pub fn larger_alignment(a: usize, b: usize) -> usize
 /// A range is padded to whole units of the storage, where the unit is the larger of `req_align` and `mem_align`. Buffers
 /// that this takes are taken before anything is asked of the storage, and what is read for it is read before anything changes.
 /// So a write or a zeroing that is refused where the storage refused no change has changed nothing.
+///
+/// An empty range is never refused, and makes no request. Each file that a stop in a write, a zeroing or a discard leaves is at least as
+/// long as the file was.
 pub trait StorageExt: Storage {
     /// Fills the buffer with the bytes from the offset on. Past the end it reads zeroes. A range of whole units takes no
     /// buffer of its own; an empty one asks nothing of the storage.

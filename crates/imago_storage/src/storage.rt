@@ -30,6 +30,8 @@ pub enum PreallocateMode {
 ///
 /// Contracts see a storage as a `StorageState`: its bytes, what never changes of it, its counts of faults and of
 /// refused changes and, where it tells its stops, the files that a stop of the machine leaves.
+///
+/// This crate implements it for `MemStorage`, `MemoryView`, `Null`, `FuseStorage` and `LogStorage`.
 pub trait Storage: Drop {
     /// What contracts see of it.
     ghost state: { Self → StorageState };
