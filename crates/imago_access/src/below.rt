@@ -13,7 +13,7 @@ use std::alloc::Global;
 
 /// The layers below one, as its driver reads them: it is lent them by the chain.
 ///
-/// Contracts see the layers, the highest first, and the states of their storages.
+/// Contracts see the layers, the highest first, and the states of their storages. The chain below a layer implements it, and `NoBelow`.
 pub trait ReadBelow: SeenBelow {
     /// Whether there is a layer.
     fn present(&self) -> bool
@@ -21,7 +21,7 @@ pub trait ReadBelow: SeenBelow {
 
     /// Fills the buffer with what the layers show from the offset in bytes on, and with zeroes past the end of the highest.
     ///
-    /// It refuses as a read of a chain does, and with `Fault::RangeOverflow` never where the range ends below 2^63 and a little more. A
+    /// It refuses as a read of a chain does. It never refuses with `Fault::RangeOverflow` a range that ends at most 2^22 bytes past 2^63. A
     /// refusal leaves the buffer open.
     fn read(&mut self, alloc: Global, buf: &mut [u8], offset: u64) -> Result<(), Fault>
         ensures shown { OnOk result (Self.sees_under self.old → Shows (at (Self.under self.old)) offset buf.new) }

@@ -168,6 +168,7 @@ impl<S> FormatCreateBuilderBase<S> {
 /// Opens an image of a format, option by option.
 ///
 /// Contracts see the image file, whether it is opened for writing, the options, and which drivers it may open.
+/// `imago_formats::RawOpenBuilder`, `imago_formats::VmdkOpenBuilder` and `qcow2_image::Qcow2OpenBuilder` implement it.
 pub trait FormatDriverBuilder<S: Storage> {
     /// The driver that it opens.
     type Format: FormatDriverInstance<Storage = S>;

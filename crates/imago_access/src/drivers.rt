@@ -41,6 +41,8 @@ use std::alloc::Global;
 /// An image of a format that marks failures, as qcow2 does, has failed after a call that a storage of its own refused with
 /// `Fault::Storage`. After one that a storage of the layers below refused, or that was refused with `Fault::Memory`, it has failed, or all
 /// of it but counts of faults is as it was.
+///
+/// `imago_formats::Raw`, `imago_formats::Vmdk`, `qcow2_image::Qcow2` and `qimg_chain::chain::ImageDriver` implement it.
 pub trait FormatDriverInstance: Seen {
     /// What its files are.
     type Storage: Storage;
@@ -94,7 +96,8 @@ pub trait FormatDriverInstance: Seen {
         ensures { result ≡ is_some (Self.layer self.now).unspent };
 
     /// One run of places from the offset on, not longer than asked, and where they lie: at or past the size the end, of no length, and
-    /// else at least one byte where one is asked for. It is an explicit zero exactly of places that the layer states to be 0.
+    /// else at least one byte where one is asked for. It is an explicit zero exactly of places that the layer states to be 0. It names only
+    /// storages that the driver has.
     ///
     /// It refuses with `Fault::DamagedTable` where the image's tables say nothing of a place of the range, with `Fault::Memory` and with
     /// `Fault::Storage`.

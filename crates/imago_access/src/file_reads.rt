@@ -10,6 +10,8 @@ use std::alloc::Global;
 /// A driver whose files can be read as they stand, by whoever copies them or looks into them.
 ///
 /// That is no call of the disk: an image that has failed, or lacks a file, answers it too, and a storage's fault marks none as failed.
+///
+/// `imago_formats::Raw`, `imago_formats::Vmdk`, `qcow2_image::Qcow2` and `qimg_chain::chain::ImageDriver` implement it.
 pub trait ReadFiles: FormatDriverInstance {
     /// Fills the buffer with the bytes of a file from an offset in bytes on. The image file has the number 0, and the further files follow.
     /// Past a file's end it reads zeroes, and so does a number that no file has. What waits in memory to be written isn't in the files.

@@ -12,6 +12,7 @@ use imago_storage::{Fault, padded_end};
 /// offset and length are in bytes.
 ///
 /// This is the order of refusals that the calls of `FormatDriverInstance` which change a range ask for, behind that of `ready`.
+/// The calls of `FormatAccess` that change a range refuse in the same order, by the unit of the whole chain.
 pub fn check_range(
     writable: bool,
     unit: u64,

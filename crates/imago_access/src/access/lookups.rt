@@ -59,7 +59,8 @@ impl<D: FormatDriverInstance> FormatAccess<D> {
     ///
     /// A place is answered as one that can be written only where each layer on the way says so, and wherever they do while nothing is
     /// prepared in the last of them. A zero is explicit exactly where the top layer states it itself, in place of having nothing there.
-    /// If it shows a layer below, each zero of its own is explicit.
+    /// If it shows a layer below, each zero of its own is explicit. The depth that it names is one of the chain's, and the storage one of
+    /// the layer at that depth.
     ///
     /// It refuses with `Fault::DamagedTable` where a layer's tables say nothing of a place of the range, with `Fault::Memory` and
     /// `Fault::Storage`, and where a layer that it asks can't be used. With `Fault::Storage` the layer whose storage it was has failed, if

@@ -22,6 +22,9 @@ use std::alloc::Global;
 impl<D: FormatDriverInstance> FormatAccess<D> {
     /// Fills the buffer with the disk's bytes from the offset on, and with zeroes past its end.
     ///
+    /// Each byte is the top layer's. Where a layer leaves a byte to the layer below, that layer gives it. Past the end of a lower layer,
+    /// and below the last layer, the byte is 0. An empty range succeeds if the top image can be used.
+    ///
     /// It refuses with `Fault::RangeOverflow` where the end of the range, rounded up to the chain's alignment, passes `u64`, with
     /// `Fault::Barred` and `Fault::DamagedTable` where a place of the range has no byte, with `Fault::Memory` and `Fault::Storage`, and
     /// where a layer can't be used. A refusal leaves the buffer open, and for another cause than `Memory` and `Storage` the disk as it was.

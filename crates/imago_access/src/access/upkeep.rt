@@ -21,7 +21,7 @@ use std::alloc::Global;
 
 impl<D: FormatDriverInstance> FormatAccess<D> {
     /// Hands all that waits in memory to the files of the top layer, and flushes these. While nothing is prepared, the top's files alone
-    /// then mean what its layer shows; the layers below it are only read.
+    /// then mean what its layer shows, and leak what each cluster is counted beyond what names it. The layers below it are only read.
     ///
     /// It refuses with `Fault::Memory` and `Fault::Storage`, and where the image can't be used.
     pub fn flush(&mut self, alloc: Global) -> Result<(), Fault>
@@ -50,7 +50,7 @@ impl<D: FormatDriverInstance> FormatAccess<D> {
         self.driver.flush(alloc)
     }
 
-    /// Makes what was handed to the files of the top layer durable.
+    /// Makes what was handed to the files of the top layer durable. Lookups in it that were true stay true, also if the call fails.
     ///
     /// It refuses with `Fault::Memory` and `Fault::Storage`, and where the image can't be used.
     pub fn sync(&mut self) -> Result<(), Fault>
