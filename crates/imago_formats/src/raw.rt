@@ -42,7 +42,7 @@ pub enum NoState {}
 /// A raw image: each byte of the disk is the byte of its storage at the same place.
 ///
 /// Its size, in bytes, is that of the storage when it was opened, or of the last resize since. It never passes the storage's length,
-/// which padding of writes may make greater. Its one storage has the number 0.
+/// which padding of writes may make greater. Its one storage has the number 0. Its lookups never answer an explicit zero.
 ///
 /// As a driver it is never failed, lacks no file and shows no layer below: `discard_to_backing` zeroes. All but a resize is done whole.
 /// `resize_grow` grows the storage in the mode `None`, `Zero`, `Zero`, `Allocate` or `WriteData` for the five modes in their order; both
