@@ -82,7 +82,8 @@ fn write_new<S: Storage>(image: &mut S, alloc: Global, size: u64) -> Result<(), 
 
 /// Makes a new image of this size, in bytes, in the storage, whose old bytes are cut.
 ///
-/// It has version 3, clusters of 512 bytes and counters (refcounts) of 16 bits, counts just its own clusters, and shows zeroes. It
+/// It has version 3, clusters of 512 bytes and counters (refcounts) of 16 bits, counts just its own clusters, and shows zeroes. Its header
+/// names no backing file. So in memory it is a chain by itself, also for writing: `qimg_chain::laws::a_consistent_image_may_be_written`. It
 /// refuses with `Fault::Limit(size)` where the size is above 65,536, before it asks anything of the storage; with
 /// `Fault::Unsupported` where the storage can't be cut; and with `Fault::Memory` and `Fault::Storage`. A refusal drops the
 /// storage.
