@@ -40,7 +40,8 @@ pub record NamesOneThere {D St : Type 0} (g : Ghosts D St) (offset asked : ℕ) 
 -- Which places an answer names: of storages that there are, what their bytes are and where the run can be written, and by the top layer
 -- none of those that it has no room for. A lookup's zero is explicit exactly where the top layer states it. A look, a flush and a sync
 -- leave the top as it was. A flush with nothing prepared is done where the top's file by itself means the disk, and leaks what each cluster
--- is counted beyond what names it, and a sync writes nothing.
+-- is counted beyond what names it, and a sync writes nothing. An empty range that is ensured has no length, and is at the start of the
+-- storage 0.
 abbrev pub Names : {D St : Type 0} → Ghosts D St → Call → Answer → D × List D → D × List D → Type 0
 Names g (calls.Read offset n) answer old new = TopStays g old new
 Names g (calls.GetMapping offset asked) (told.Mapped mapping n) old new =
@@ -72,7 +73,7 @@ pub record IsTold {St : Type 0} (m : PreparedDataMapping St) (storage place n : 
   pub state_is : is_some m.state ≡ state
 
 -- What becomes of the mapping that is kept: one that is prepared is kept, with its places writable where it says, one that is committed or
--- cancelled is spent, and else it stays.
+-- cancelled is spent, and else it stays. The mapping of an empty range has no length and no state, and is at the start of the storage 0.
 abbrev pub KeepsMapping : {D St : Type 0} → Ghosts D St → Call → Answer → Holding D St → Holding D St → Type 0
 KeepsMapping {D} {St} g (calls.PrepareDataMapping offset asked overwrite) (told.Prepared storage place n state) old new =
     (m : PreparedDataMapping St)

@@ -52,13 +52,15 @@ pub record Made {D St : Type 0} (g : Ghosts D St) (call : Call) (answer : Answer
   pub at_once : (f : Fault) → refusal_at_once g call old.now ≡ Some f → answer ≡ told.Refused f
   pub idle : IsIdle g call old.now → WasDone answer
   pub moves : Moves g call answer old.now new.now
-  -- what it takes and gives up of the room that is allocated
+  -- What it takes and gives up of the room that is allocated. `units` says nothing of a raw top, where each byte counts as vacant and
+  -- zeroed, nor of a qcow2 top, whose driver may decline each call.
   pub room : GoesOn answer → LeavesRoomFor g call old.now.drivers.0 new.now.drivers.0
   pub units : WontDecline g (disk_call g old.now call) old.now.drivers → WasDone answer
       → SettlesUnits g call old.now.drivers.0 new.now.drivers.0
   -- which image has failed where it is refused
   pub marks : IfRefused answer (MarksRefused g call old.now.drivers new.now.drivers)
-  -- what a stop in it leaves, and what one behind it may show
+  -- What a stop in it leaves, and what one behind it may show. `stops` is only of a top whose file states the size of its disk, in a
+  -- storage that tells its stops and keeps what is written. So it says nothing of a raw top, nor of a top in a `MemStorage`.
   pub stops : StatesSize g old.now.drivers → Passes (IsLeftBy g call old) (g.image old.now.drivers.0) (g.image new.now.drivers.0)
   pub later : IsLater (g.image old.now.drivers.0) (g.image new.now.drivers.0)
   pub since : new.since ≡ since_behind g call answer old new.now
