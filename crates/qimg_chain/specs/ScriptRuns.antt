@@ -129,4 +129,5 @@ pub record Scripted {D St : Type 0} (g : Ghosts D St) (names : D → ℕ → Lis
   pub count : IsAnswerCount result (length replies)
   pub lines : IfSome input (λ bytes. AreAnswered result bytes (map (λ (r : Reply). r.text) replies))
   pub written : AreWritten result before after replies
+  -- where the script is run to its end, the bytes that the last `save` kept are handed on, if one was done
   pub kept : OnOk result (result ≡ Ok saved)

@@ -27,7 +27,7 @@ fn buffer(alloc: Global, count: u64) -> Result<Vec<u8>, Fault>
 
 /// What the checker says of the top file as it stands. The file is read where it lies.
 ///
-/// `Fault::Unsupported` where the top isn't a qcow2 image.
+/// `Fault::Unsupported` where the top isn't a qcow2 image. That is the only answer for such a top, also if memory runs out.
 pub fn check_top<D: FormatDriverInstance<Storage = MemStorage>>(
     alloc: Global,
     chain: &FormatAccess<D>,
