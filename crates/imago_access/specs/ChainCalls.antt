@@ -86,7 +86,8 @@ IsDoneInPart g call result old new = IsIntactChain g old → IfMild result (Chai
 abbrev pub CallRefused : {D St T : Type 0} → Ghosts D St → Call → Result T Fault → D × List D → D × List D → Type 0
 CallRefused g call result old new = IsIntactChain g old → IfErr result (OwnCause g call old new)
 
--- Each whole unit of the range of the call is given up, or zeroed, where the top driver doesn't decline that.
+-- Each whole unit of the range of the call is given up, or zeroed, where the top driver doesn't decline that. This says nothing of a raw
+-- or VMDK top, where each byte counts as vacant and zeroed. Nor does it of a qcow2 top, whose driver may decline each such call.
 abbrev pub GivesUnitsUp : {D St : Type 0} → Ghosts D St → Call → Result Unit Fault → D × List D → D × List D → Type 0
 GivesUnitsUp g call result old new = IsIntactChain g old → WontDecline g call old
     → OnOk result (IsGivenUp (g.vacant new.0) (g.layer old.0).fixed.unit (g.layer old.0).size (offset_of call) (length_of call))
