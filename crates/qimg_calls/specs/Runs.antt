@@ -52,8 +52,8 @@ pub record Made {D St : Type 0} (g : Ghosts D St) (call : Call) (answer : Answer
   pub at_once : (f : Fault) → refusal_at_once g call old.now ≡ Some f → answer ≡ told.Refused f
   pub idle : IsIdle g call old.now → WasDone answer
   pub moves : Moves g call answer old.now new.now
-  -- What it takes and gives up of the room that is allocated. `units` says nothing of a raw top, where each byte counts as vacant and
-  -- zeroed, nor of a qcow2 top, whose driver may decline each call.
+  -- What it takes and gives up of the room that is allocated. `units` says nothing of a raw or VMDK top, where each byte counts as vacant
+  -- and zeroed. Nor does it of a qcow2 top, whose driver may decline each such call.
   pub room : GoesOn answer → LeavesRoomFor g call old.now.drivers.0 new.now.drivers.0
   pub units : WontDecline g (disk_call g old.now call) old.now.drivers → WasDone answer
       → SettlesUnits g call old.now.drivers.0 new.now.drivers.0
