@@ -73,7 +73,8 @@ pub fn mapping_a_free_cluster()
 {}
 
 /// A word of an L2 table can be any other that has a meaning, if then each cluster that is named is counted, and each that the
-/// structure or a copied word names is named once. What the old word named it names no more.
+/// structure or a copied word names is named once. What the old word named it names no more. The references of each cluster change only by
+/// what the old and the new word name.
 pub fn rewriting_a_word()
     ensures written { (f : Bytes) (h : Header) → IsConsistent f h → (i j : ℕ) → Live (l2_table f h.fields) h.fields i j
         → (w : ℕ) → w < 2 ^ 64 → IsFalse (is_damaged (mapping_of (layout_of h.fields) w))
