@@ -86,7 +86,7 @@ mapping_in table i = mapping_of table.layout (slice_index table.words i)
 abbrev pub AreSound : Kind → Layout → List ℕ → Type 0
 AreSound kind layout words = (i : ℕ) → i < length words → IsTrue (word_sound kind layout (slice_index words i))
 
--- what holds of each table of a kind
+-- What holds of each table of a kind: each word has 64 bits and a meaning, and the table isn't longer than its kind may be.
 pub record IsTable (kind : Kind) (table : TableValue) : Type 0 where
   pub low : 9 ≤ table.layout.cluster_bits
   pub high : table.layout.cluster_bits ≤ 21

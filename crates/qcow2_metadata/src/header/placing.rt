@@ -22,7 +22,8 @@ fn clusters_taken(reftable: &RefTable) -> u32
 
 impl Header {
     /// Takes over the place of an L1 table of the image, and its number of words. The table's clusters, which `pending`
-    /// holds, are named then. The file is not written: `write_l1_table_pointer` does that.
+    /// holds, are named then. The file is not written: `write_l1_table_pointer` does that. A header that keeps the rules on sizes and
+    /// offsets still keeps them after the call.
     pub fn set_l1_table(&mut self, l1_table: &L1Table, pending: Option<PendingClusters>)
         requires bits { l1_table.now.layout.cluster_bits ≡ self.old.fields.cluster_bits }
         requires placed { IsPlacedTable l1_table.now }
@@ -39,7 +40,8 @@ impl Header {
 
     /// Takes over the place of a refcount table of the image, and the number of clusters that its words take, of which the last
     /// may be filled in part: the words behind the table's, up to the end of that cluster, are those of the file. The file is not
-    /// written: `write_reftable_pointer` does that.
+    /// written: `write_reftable_pointer` does that. A header that keeps the rules on sizes and offsets still keeps them after the call.
+    /// If the table fills its clusters, the header's table has as many entries as the given one.
     pub fn set_reftable(&mut self, reftable: &RefTable)
         requires bits { reftable.now.layout.cluster_bits ≡ self.old.fields.cluster_bits }
         requires placed { IsPlacedTable reftable.now }
