@@ -109,7 +109,7 @@ pub record Allocating {S : Type 0} (state : S → StorageState) (ok : Type 0) (h
   pub room : KeepsTables s.caches s'.caches
 
 -- A block is made, where there was none, while blocks are written before tables. How far out its cluster lies at most `IsBlockPlaced`
--- tells. Where the making is cut off, the table in memory may name the block already.
+-- tells. Where the making is cut off, the table in memory may name the block already. Nothing is handed out.
 pub record MakesBlock {S : Type 0} (state : S → StorageState) (index : ℕ) (s : ImageState S) (result : Result Unit Fault)
     (s' : ImageState S) : Type 0 where
   pub step : Allocating state (WasNotCutOff result) (λ _. 0) s s'

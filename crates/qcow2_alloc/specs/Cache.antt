@@ -96,6 +96,7 @@ module _ {K V D : Type 0} (kind : CacheKind K V D) where
 
   pub record Readied (may_flush : Bool) (key : K) (before : D) (es : List (K × Slot V)) (result : Result Admission Fault) (after : D)
       (es' : List (K × Slot V)) : Type 0 where
+    -- If the entry is already cached, the device isn't used.
     pub found : IsSome (lookup (kind.eq key) es) → (result ≡ Ok Granted) × (after ≡ before) × (es' ≡ es)
     pub missed : lookup (kind.eq key) es ≡ None → Missed may_flush key before es result after es'
     -- the entry is there where it says so

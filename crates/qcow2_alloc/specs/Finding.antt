@@ -89,7 +89,7 @@ pub record EntryFound {S V W A B : Type 0} (kind : CachedKind S V W) (cluster : 
   pub behind : lookup (nat_eq cluster) old.own.slots.entries ≡ None → old.own.slots.cap ≤ length old.own.slots.entries
       → Behind (old.order ≡ kind.first) (WritesOther kind) (LetsEntryIn kind) (kind.state before.image) (cached_of kind old) result
       (kind.state after.image) (cached_of kind new)
-  -- and where nothing is modified nothing is written.
+  -- and where nothing is modified nothing is written, and nothing is modified after the search.
   pub still : AreClean kind.writes old.own.slots.entries → AreClean kind.other_writes old.other.slots.entries
       → Kept (kind.state before.image) (kind.state after.image) × AreClean kind.writes new.own.slots.entries
       × AreClean kind.other_writes new.other.slots.entries

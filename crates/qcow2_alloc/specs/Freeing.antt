@@ -64,6 +64,7 @@ IsWholeOrCalm result old new = WasNotCutOff result ⊎ IsCalm old new
 pub record Frees {S : Type 0} (state : S → StorageState) (s : AllocatorState S) (result : Result Unit Fault)
     (s' : AllocatorState S) : Type 0 where
   pub faults : WasNotCutOff result → IsFaultless (state s.file.image) (state s'.file.image)
+  -- In a sound image, each cluster's refcount minus its references and its entries on the list stays the same.
   pub quiet : Quietly (IsWholeOrCalm result (state s.file.image) (state s'.file.image)) (λ _. 0) (λ _. 0) (state s.file.image)
       (metadata state s.image) (state s'.file.image) (metadata state s'.image)
   pub marked : WhereKept state s.image

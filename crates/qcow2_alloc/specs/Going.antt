@@ -37,8 +37,11 @@ pub record Going (H : Header) (order : CacheDependency) (Ready : Cached → Type
   pub later : Later old new
   pub faults : ok → IsFaultless old new
   pub ready : Ready cached → Ready cached'
+  -- If the image was safe, each crash image of the call is as `IsLeft` says, whether the call succeeds or not.
   pub passes : IsTrue old.shape.keeps → Safe (bytes_of old.bytes) H cached order → Ready cached
       → Passes (λ x. IsLeft (bytes_of old.bytes) (memory (bytes_of old.bytes) H.fields cached) H (bytes_of x)) old new
+  -- A safe image stays safe, and what is in memory stays the same. That holds if `ok` does, or if the storage exposes its crash images and
+  -- refused no change.
   pub holds : IsTrue old.shape.keeps → Safe (bytes_of old.bytes) H cached order → Ready cached → ok ⊎ IsCalm old new
       → IsSettled H order old.bytes cached new.bytes cached'
 

@@ -112,6 +112,7 @@ pub record AllocatesClusters {S : Type 0} (state : S → StorageState) (n : ℕ)
   pub marked : WhereKept state s.image (WasNotCutOff result
       → IsMarked (metadata state s.image) s.mark → IsMarked (metadata state s'.image) s'.mark)
   pub further : IfOk result (λ entry. s'.mark ≡ mark_behind mid.mark n entry.first)
+  -- If the call fails, the mark stays where the freeing left it.
   pub stays : OnErr result (s'.mark ≡ mid.mark)
   pub order : OnOk result (order_of s'.caches ≡ L2DependsOnRb)
   pub shape : StaysInShape s.image s'.image

@@ -34,6 +34,7 @@ written_table e = (e.0, record e.1 { value = record e.1.value { cluster = Some e
 abbrev pub written_block : ℕ × Slot Block → ℕ × Slot Block
 written_block e = (e.0, record e.1 { value = record e.1.value { cluster = Some e.0; modified = false } })
 
--- All that is cached, as it is once written: what a write leaves of it, whether it succeeded or not.
+-- All that is cached, as it is once written: what a write leaves of it, whether it succeeded or not. If this is the same before and after a
+-- call, so are the cached entries, their order of use and their pins. Only the modified marks may differ.
 abbrev pub written : Cached → Cached
 written c = record { tables = map written_table c.tables; blocks = map written_block c.blocks }

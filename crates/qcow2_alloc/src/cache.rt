@@ -167,7 +167,7 @@ impl<S: Storage> MetadataCaches<S> {
     ghost use Rattle.std.specs.Option.{option_map};
     ghost use Rattle.std.specs.Prelude.{nat_eq, length, None, Some, false, IsSome, IsSomeAnd, IfSome, IsErr, IfErr};
 
-    /// Empty caches of at most so many L2 tables and refcount blocks, with no order announced.
+    /// Empty caches of at most so many L2 tables and refcount blocks, with no order announced. They are safe over every consistent image.
     ///
     /// It refuses with `Fault::Memory`.
     pub fn new(alloc: Global, l2_entries: usize, rb_entries: usize) -> Result<Self, Fault>

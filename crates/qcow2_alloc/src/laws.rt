@@ -197,7 +197,7 @@ pub fn what_is_left_shows_the_same()
 {}
 
 /// What is in memory may stay, be used, be written in another order that is safe, or be flushed: the image stays sound, and is to the
-/// disk as it was.
+/// disk as it was. Nothing is handed out or taken back.
 pub fn what_stays_is_quiet()
     ensures none { (m : Metadata) → IsSound m → IsQuiet (λ _. 0) (λ _. 0) m m }
     ensures used { (m : Metadata) (cached' : Cached) → IsSound m → StaysAsItIs m.file m.header m.cached m.order cached'
@@ -286,7 +286,7 @@ pub fn freeing_a_cluster()
         × IsQuiet (λ _. 0) (λ _. 0) m (record m { cached = cached'; pending = pending' }) }
 {}
 
-/// A counter of a cached block that is 0 may be raised while blocks are written before tables: its cluster is handed out.
+/// A counter of a cached block that is 0 may be raised while blocks are written before tables: its cluster is handed out. Nothing names it.
 pub fn handing_out_a_cluster()
     ensures { (m : Metadata) (key c : ℕ) (cached' : Cached) → IsSound m → m.order ≡ L2DependsOnRb
         → SetsCounter m.file m.header.fields m.cached key c 1 cached' → counted m c ≡ 0

@@ -39,7 +39,8 @@ impl Allocator {
         lacking
     }
 
-    // The first room, from a cluster on, for so many clusters and the blocks that are lacking for them: see `IsFirstRoom`.
+    // The first room, from a cluster on, for so many clusters and the blocks that are lacking for them: see `IsFirstRoom`. The search
+    // always ends.
     pub(super) fn find_room<S: Storage>(
         &self,
         file: &mut ImageFile<S>,
