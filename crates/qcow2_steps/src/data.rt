@@ -39,7 +39,8 @@ pub fn what_is_copied_is_one_guest_clusters()
 {}
 
 /// Where each of the clusters is named at most for its own guest cluster, and these lie in a row as they do, each place shows what it did,
-/// in the file and in memory, or the byte that was written for it. So does each file that a stop leaves in the write.
+/// in the file and in memory, or the byte that was written for it. So does each file that a stop leaves in the write. A byte of a data
+/// cluster then reads as the file's new byte at its offset.
 pub fn what_is_written_shows_at_its_places()
     ensures memory { (m : Metadata) (first c k at n : ℕ) (x : Bytes) → IsSound m → WritesBeside m c k at n x → AreNamedFor m first c k
         → (p : ℕ) → (memory_value (record m { file = x }) p ≡ memory_value m p)
