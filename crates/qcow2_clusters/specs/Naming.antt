@@ -118,7 +118,8 @@ naming_run m guest x zero = handing (λ _. 0) (λ _. 0)
 naming_run m guest x (suc n) = both (naming_run m guest x n) (naming m (guest + n) (x + n))
 
 -- Each of n guest clusters in a row comes to name its own of n clusters in a row as its data, as copied. Their bytes stay what they were,
--- and so do those of each cluster that was used, what comes to wait too. Whatever is answered, the file gets no shorter.
+-- and so do those of each cluster that was used, what comes to wait too. No other word changes. Whatever is answered, the file gets no
+-- shorter.
 pub record NamesRun {S : Type 0} (state : S → StorageState) (table guest x n : ℕ) (c : Clusters S) (result : Result Unit Fault)
     (c' : Clusters S) : Type 0 where
   pub progress : AreNameable n (resting state c) table guest x → Progresses (result ≡ Ok tt)

@@ -14,7 +14,8 @@ use qcow2_types::HostCluster;
 use std::alloc::Global;
 
 /// Writes the content of a guest cluster to the host cluster that it keeps for its zeroes, as copied. It reads as zeroes still, until it
-/// comes to name the cluster as its data. Nothing is allocated, and no table is read or written. Nothing may be cached of the image.
+/// comes to name the cluster as its data. Nothing is allocated, and no table is read or written. Nothing may be cached of the image. After
+/// success the file reaches at least the end of the host cluster.
 ///
 /// It refuses with `Fault::Memory` and `Fault::Storage`: a part may be written then, which no place shows. Before that it sets `begun`:
 /// refused without that, it leaves all as it was.
