@@ -128,7 +128,8 @@ was_safe g d safe = record {
   writable = safe.writable;
 }
 
--- What is in memory is what its file says, and stays so when what waits is freed.
+-- What is in memory is what its file says, and stays so when what waits is freed. A just opened image has
+-- this. The driver's calls keep it until they change an image that isn't safe, or until the image fails.
 pub record Sees {S : Type 0} (g : Ghosts S) (d : Qcow2 S g) : Type 0 where
   pub seen : IsSeen g d.tables
   pub sure : IsUntouched g d ⊎ WasSafe g d

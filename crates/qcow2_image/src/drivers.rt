@@ -234,6 +234,7 @@ impl<S: Storage> FormatDriverInstance for Qcow2<S> {
             length ≡ 0 → IfOk result (λ m. (m ≡ nowhere) × (d.layer self.new ≡ d.layer self.old)) }
         ensures size { let d = ⟦<Qcow2<S> as Seen>⟧ in (d.layer self.new).size ≡ (d.layer self.old).size }
         ensures free { IsErr result → IsFree (⟦<Qcow2<S> as Seen>⟧.layer self.new) }
+        // A crash during the preparation of a safe image leaves a consistent file that shows the disk as before.
         ensures does { let d = ⟦<Qcow2<S> as Seen>⟧ in
             Prepares d B.SeenBelow (asking offset length overwrite) result (self.old, below.old) (self.new, below.new) }
         ensures below { LookedUnder B.SeenBelow (WasNotCutOff result) below.old below.new }
@@ -277,6 +278,9 @@ impl<S: Storage> FormatDriverInstance for Qcow2<S> {
         _alloc: Global,
         mapping: PreparedDataMapping<PreparedMappingState>,
     ) -> Result<(), (Fault, Option<PreparedDataMapping<PreparedMappingState>>)>
+        // After success in a safe image each byte of the run reads as what was written there, or as before. The rest of the disk reads as
+        // before. A byte that was announced to be overwritten, and wasn't, may read as any byte. A crash leaves a consistent file, in which
+        // each byte reads as before or as the commit makes it read.
         ensures commits { Commits ⟦<Qcow2<S> as Seen>⟧ mapping.state result self.old self.new }
         ensures refused { CommitRefused ⟦<Qcow2<S> as Seen>⟧ mapping result self.old self.new }
         // It leaks nothing: what it comes to name isn't pending any more, and what was named before is.
@@ -340,6 +344,8 @@ impl<S: Storage> FormatDriverInstance for Qcow2<S> {
         place: u64,
         bytes: &[u8],
     ) -> Result<(), Fault>
+        // After a write into data of a safe image the disk has these bytes. The image stays safe, so its file is consistent. A write into
+        // the prepared run changes no byte of the disk before the commit. A crash leaves a consistent file that shows old or written bytes.
         ensures writes { WritesMapped ⟦<Qcow2<S> as Seen>⟧ guest place bytes.now result self.old self.new }
         ensures at_once { RangeAtOnce ⟦<Qcow2<S> as Seen>⟧ guest (length bytes.now) result self.old self.new }
         ensures refused { WritingRefused ⟦<Qcow2<S> as Seen>⟧ guest place (length bytes.now) result self.old self.new }
@@ -438,11 +444,13 @@ impl<S: Storage> FormatDriverInstance for Qcow2<S> {
     }
 
     fn flush(&mut self, _alloc: Global) -> Result<(), Fault>
+        // After success the disk reads as before.
         ensures sees { let d = ⟦<Qcow2<S> as Seen>⟧ in
             d.sees self.old → OnOk result ((d.layer self.new ≡ d.layer self.old) × d.sees self.new) }
         ensures still { OnOk result (⟦<Qcow2<S> as Seen>⟧.still self.new) }
         ensures written { let d = ⟦<Qcow2<S> as Seen>⟧ in d.safe self.old → IsFree (d.layer self.old) → OnOk result (IsWritten d self.new) }
         ensures counted { let d = ⟦<Qcow2<S> as Seen>⟧ in d.safe self.old → IsFree (d.layer self.old) → OnOk result (IsCounted d self.new) }
+        // A crash during the flush of a safe image leaves a consistent file, also while clusters wait to be freed.
         ensures stops { let d = ⟦<Qcow2<S> as Seen>⟧ in
             d.safe self.old → (below : List Layer) → KeepsStops d below GivesNone self.old self.new }
         ensures at_once { let d = ⟦<Qcow2<S> as Seen>⟧ in AtOnce d (barrier (d.layer self.old)) ⊥ result self.old self.new }
