@@ -9,7 +9,7 @@ use std::alloc::{AllocError, AllocFailed};
 use std::{fmt, io};
 
 /// Why the program fails.
-#[derive(Clone, Copy, Debug, Drop)]
+#[derive(Debug, Drop)]
 pub enum Failure {
     /// The chain doesn't open.
     Opening(Fault),
@@ -17,6 +17,8 @@ pub enum Failure {
     Arguments,
     /// A file or a stream failed, memory was wanting, or the script is too long.
     InputOutput,
+    /// A save can't create its new file, since one is at this path already: an earlier run was stopped and left it.
+    LeftOver(String),
 }
 
 impl fmt::Display for Failure {
@@ -24,7 +26,7 @@ impl fmt::Display for Failure {
         match self {
             Failure::Opening(fault) => write!(f, "{fault}"),
             Failure::Arguments => write!(f, "bad arguments"),
-            Failure::InputOutput => write!(f, "input or output failed"),
+            Failure::InputOutput | Failure::LeftOver(_) => write!(f, "input or output failed"),
         }
     }
 }
@@ -73,11 +75,13 @@ pub fn status(outcome: &Result<(), Failure>) -> u8
     ensures opening { (fault : Fault) → outcome.now ≡ Err (Failure.Opening fault) → result ≡ 1 }
     ensures arguments { outcome.now ≡ Err Failure.Arguments → result ≡ 2 }
     ensures io { outcome.now ≡ Err Failure.InputOutput → result ≡ 3 }
+    ensures left_over { (path : String Global) → outcome.now ≡ Err (Failure.LeftOver path) → result ≡ 3 }
 {
     match outcome {
         Ok(()) => 0,
         Err(Failure::Opening(_)) => 1,
         Err(Failure::Arguments) => 2,
         Err(Failure::InputOutput) => 3,
+        Err(Failure::LeftOver(_)) => 3,
     }
 }

@@ -121,6 +121,9 @@ fn main(rt: HostRuntime) -> ExitCode {
     let outcome = serve(&rt);
     if let Err(failure) = &outcome {
         let _ = eprintln!(rt; "qimg: {failure}");
+        if let Failure::LeftOver(path) = failure {
+            let _ = eprintln!(rt; "qimg: {path} is left over from an earlier run; remove it");
+        }
     }
     ExitCode::from(status(&outcome))
 }

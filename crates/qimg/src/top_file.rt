@@ -3,8 +3,8 @@
 use crate::failure::Failure;
 use std::alloc::Global;
 use std::fs::{self, File, Files, Metadata, OpenFile, OpenOptions};
-use std::io::Write;
-use std::os::unix::fs::{MetadataExt, lchown};
+use std::io::{self, ErrorKind, Write};
+use std::os::unix::fs::{MetadataExt, OpenOptionsExt, lchown};
 use std::path::PathBuf;
 
 /// Which file a path names, and what is known of when it changed.
@@ -24,6 +24,13 @@ fn version_of(metadata: &Metadata) -> Version {
         size: metadata.size(),
         modified: (metadata.mtime(), metadata.mtime_nsec()),
     }
+}
+
+/// Creates a file that only its owner may open, and fails if the path is taken.
+fn create_private<R: Files>(rt: &R, path: &str) -> io::Result<R::File> {
+    let mut how = OpenOptions::new();
+    how.write(true).create_new(true).mode(0o600);
+    how.open(rt, path)
 }
 
 /// A regular file that other bytes may take the place of, as it stood at first.
@@ -61,7 +68,10 @@ impl TopFile {
         Ok(())
     }
 
-    /// Fills a new file with bytes, gives it the permissions of this one, and its owner where that is allowed, and has it take its name.
+    /// Fills the new file at the path `beside` with bytes, and renames it to the path of this file.
+    ///
+    /// First the new file gets the owner of this one, where the system allows that, and then its permissions. Until then only the user
+    /// who runs the program may open the new file.
     fn take_place<R: Files + AllocGlobal>(
         &self,
         rt: &R,
@@ -87,13 +97,28 @@ impl TopFile {
         }
     }
 
-    /// Puts bytes in the place of the file: they are written to a new file beside it, which takes its name then, and both are synced. So
-    /// the path names the old bytes or the new ones all the time. Where that fails before, or the file has changed, the new one is
-    /// removed. Where the folder can't be synced behind it, the path names the new bytes.
+    /// Replaces the bytes of the file, in a way that its path names the old bytes or the new ones all the time.
+    ///
+    /// The bytes are written to a new file beside it, `PATH.qimg-new`, which is synced and then renamed. Last the folder is synced.
+    ///
+    /// # Errors
+    ///
+    /// - `Failure::LeftOver` if the new file's path is taken. Nothing has changed.
+    /// - `Failure::InputOutput`, also if the file has changed since `at`.
+    ///
+    /// # On error
+    ///
+    /// The new file is removed, and the path names the old bytes. Only if the folder can't be synced, the path names the new ones.
     pub fn replace<R: Files + AllocGlobal>(&self, rt: &R, bytes: &[u8]) -> Result<(), Failure> {
         let beside = format!(in rt.alloc(); "{}.qimg-new", self.path.as_str())?;
         let folder = self.folder(rt)?;
-        let file = File::create_new(rt, beside.as_str())?;
+        let file = match create_private(rt, beside.as_str()) {
+            Ok(file) => file,
+            Err(error) if error.kind() == ErrorKind::AlreadyExists => {
+                return Err(Failure::LeftOver(beside));
+            }
+            Err(error) => return Err(Failure::from(error)),
+        };
         let taken = self.take_place(rt, file, beside.as_str(), bytes);
         if taken.is_err() {
             let _ = fs::remove_file(rt, beside.as_str());
