@@ -17,7 +17,7 @@ pub enum Failure {
     Arguments,
     /// A file or a stream failed, memory was wanting, or the script is too long.
     InputOutput,
-    /// A save can't create its new file, since one is at this path already: an earlier run was stopped and left it.
+    /// The path of a save's new file is taken, as an earlier run was stopped and left its own there. Holds that path.
     LeftOver(String),
 }
 

@@ -14,6 +14,8 @@
 //! | 3 | `qimg: input or output failed` | a file or a stream failed, memory was wanting for it, or the script is too long |
 //!
 //! The status is 3, too, where the top is opened for writing and is no regular file, may not be written, or has changed by the end.
+//! It is also 3 if a save finds the new file of an earlier run, `PATH.qimg-new`. Then a second line on standard error names that file
+//! and asks the user to remove it.
 #![tactic(auto)]
 
 mod failure;

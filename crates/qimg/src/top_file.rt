@@ -26,7 +26,7 @@ fn version_of(metadata: &Metadata) -> Version {
     }
 }
 
-/// Creates a file that only its owner may open, and fails if the path is taken.
+/// Creates a file with mode 0600, so that nobody else can open it before its permissions are set. Fails if the path is taken.
 fn create_private<R: Files>(rt: &R, path: &str) -> io::Result<R::File> {
     let mut how = OpenOptions::new();
     how.write(true).create_new(true).mode(0o600);
@@ -70,8 +70,8 @@ impl TopFile {
 
     /// Fills the new file at the path `beside` with bytes, and renames it to the path of this file.
     ///
-    /// First the new file gets the owner of this one, where the system allows that, and then its permissions. Until then only the user
-    /// who runs the program may open the new file.
+    /// Before any byte is written, the new file gets the owner of this one and then its permissions. If the system doesn't allow the
+    /// owner, the new file keeps the owner that it has.
     fn take_place<R: Files + AllocGlobal>(
         &self,
         rt: &R,
@@ -97,18 +97,24 @@ impl TopFile {
         }
     }
 
-    /// Replaces the bytes of the file, in a way that its path names the old bytes or the new ones all the time.
+    /// Replaces the bytes of the file. At every moment its path leads to all of the old bytes or to all of the new ones.
     ///
-    /// The bytes are written to a new file beside it, `PATH.qimg-new`, which is synced and then renamed. Last the folder is synced.
+    /// The bytes are written to a new file next to it, `PATH.qimg-new`. The new file is synced and renamed to `PATH`. Then the folder is
+    /// synced.
     ///
     /// # Errors
     ///
     /// - `Failure::LeftOver` if the new file's path is taken. Nothing has changed.
-    /// - `Failure::InputOutput`, also if the file has changed since `at`.
+    /// - `Failure::InputOutput` if a call of the system failed, memory ran out, or the file has changed since `TopFile::at`.
     ///
     /// # On error
     ///
-    /// The new file is removed, and the path names the old bytes. Only if the folder can't be synced, the path names the new ones.
+    /// The file is unchanged, and a new file that this call created is removed. If only the last sync of the folder fails, the file has
+    /// the new bytes.
+    ///
+    /// # Crash safety
+    ///
+    /// If the program is stopped during the call, the new file may be left. Until it gets its permissions, it has mode 0600 and no bytes.
     pub fn replace<R: Files + AllocGlobal>(&self, rt: &R, bytes: &[u8]) -> Result<(), Failure> {
         let beside = format!(in rt.alloc(); "{}.qimg-new", self.path.as_str())?;
         let folder = self.folder(rt)?;
