@@ -1,4 +1,4 @@
-// README's example of the library.
+// An example of the library: a raw image in memory is written and read.
 use imago_access::FormatAccess;
 use imago_formats::Raw;
 use imago_storage::{Fault, MemStorage};
