@@ -19,3 +19,5 @@ pub mod Laying
 pub mod Untouched
 pub mod GivingUp
 pub mod Failing
+pub mod Fused
+pub mod Logging
