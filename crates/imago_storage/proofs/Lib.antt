@@ -21,3 +21,4 @@ pub mod GivingUp
 pub mod Failing
 pub mod Fused
 pub mod Logging
+pub mod Handing
