@@ -1,5 +1,6 @@
 // Why the program fails, and the status that says so.
-ghost use Rattle.std.specs.Prelude.{◌≡◌, Result, Ok, Err};
+ghost use Rattle.std.specs.Prelude.{◌≡◌, Result, Ok, Err, String};
+ghost use Rattle.std.specs.declared.alloc.Global.{Global};
 ghost use Rattle.qimg.specs.declared.failure.Failure.TheVariants as failures;
 ghost use Rattle.qimg_chain.specs.declared.run.opened.ScriptFault.TheVariants as script_faults;
 
@@ -17,7 +18,7 @@ pub enum Failure {
     Arguments,
     /// A file or a stream failed, memory was wanting, or the script is too long.
     InputOutput,
-    /// The path of a save's new file is taken, as an earlier run was stopped and left its own there. Holds that path.
+    /// The path of a save's new file is taken, as by an earlier run that was stopped. Holds that path.
     LeftOver(String),
 }
 

@@ -14,8 +14,8 @@
 //! | 3 | `qimg: input or output failed` | a file or a stream failed, memory was wanting for it, or the script is too long |
 //!
 //! The status is 3, too, where the top is opened for writing and is no regular file, may not be written, or has changed by the end.
-//! It is also 3 if a save finds the new file of an earlier run, `PATH.qimg-new`. Then a second line on standard error names that file
-//! and asks the user to remove it.
+//! It is also 3 if `PATH.qimg-new` exists when the new bytes are to be written, as after a run that was stopped. Then a second line on
+//! standard error names that file and asks the user to remove it.
 #![tactic(auto)]
 
 mod failure;
@@ -124,7 +124,7 @@ fn main(rt: HostRuntime) -> ExitCode {
     if let Err(failure) = &outcome {
         let _ = eprintln!(rt; "qimg: {failure}");
         if let Failure::LeftOver(path) = failure {
-            let _ = eprintln!(rt; "qimg: {path} is left over from an earlier run; remove it");
+            let _ = eprintln!(rt; "qimg: {path} exists; remove it if no other run is saving");
         }
     }
     ExitCode::from(status(&outcome))

@@ -2,9 +2,9 @@
 
 use crate::failure::Failure;
 use std::alloc::Global;
-use std::fs::{self, File, Files, Metadata, OpenFile, OpenOptions};
+use std::fs::{self, File, Files, Metadata, OpenFile, OpenOptions, Permissions};
 use std::io::{self, ErrorKind, Write};
-use std::os::unix::fs::{MetadataExt, OpenOptionsExt, lchown};
+use std::os::unix::fs::{MetadataExt, OpenOptionsExt, PermissionsExt, lchown};
 use std::path::PathBuf;
 
 /// Which file a path names, and what is known of when it changed.
@@ -31,6 +31,21 @@ fn create_private<R: Files>(rt: &R, path: &str) -> io::Result<R::File> {
     let mut how = OpenOptions::new();
     how.write(true).create_new(true).mode(0o600);
     how.open(rt, path)
+}
+
+/// Gives the new file at `path` the owner and the group of the old one, and returns the mode that it may have.
+///
+/// If the system doesn't allow the owner, only the group is set. If it doesn't allow the group either, the new file's group may do no more
+/// than everybody else. The set-user-ID and set-group-ID bits are only kept with the owner.
+fn hand_over<R: Files>(rt: &R, path: &str, old: &Metadata) -> u32 {
+    let mode = old.mode() & 0o7777;
+    if lchown(rt, path, Some(old.uid()), Some(old.gid())).is_ok() {
+        return mode;
+    }
+    if lchown(rt, path, None, Some(old.gid())).is_ok() {
+        return mode & 0o1777;
+    }
+    mode & 0o1707 | mode & 0o070 & (mode & 0o007) << 3
 }
 
 /// A regular file that other bytes may take the place of, as it stood at first.
@@ -70,8 +85,8 @@ impl TopFile {
 
     /// Fills the new file at the path `beside` with bytes, and renames it to the path of this file.
     ///
-    /// Before any byte is written, the new file gets the owner of this one and then its permissions. If the system doesn't allow the
-    /// owner, the new file keeps the owner that it has.
+    /// Before any byte is written, the new file gets the owner and the group of this one, as far as the system allows, and then its
+    /// permissions. See `hand_over`.
     fn take_place<R: Files + AllocGlobal>(
         &self,
         rt: &R,
@@ -80,8 +95,8 @@ impl TopFile {
         bytes: &[u8],
     ) -> Result<(), Failure> {
         let old = fs::metadata(rt, self.path.as_str())?;
-        let _ = lchown(rt, beside, Some(old.uid()), Some(old.gid()));
-        file.set_permissions(old.permissions())?;
+        let mode = hand_over(rt, beside, &old);
+        file.set_permissions(Permissions::from_mode(mode))?;
         file.write_all(bytes)?;
         file.sync_all()?;
         self.check_unchanged(rt)?;
