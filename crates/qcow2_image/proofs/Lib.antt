@@ -9,6 +9,7 @@ pub mod LookupAnswers
 pub mod Ends
 pub mod PlaceContents
 pub mod Anew
+pub mod CallsWithoutChanges
 pub mod RequestsWithoutChanges
 pub mod ImageFlushes
 pub mod ImageLoans

@@ -1,0 +1,146 @@
+-- Calls of a driver that leave all as it was: it has failed, they have nothing to do, or it declines them.
+use Rattle.std.proofs.Common.{◌≡◌, ℕ, ◌<◌, ◌≤◌, Bool, true, false, List, Result, Ok, Err, Option, Some, None, refl, sym, ◌∙◌, inl, arith}
+use Rattle.std.specs.Prelude.{⊤, max, IsFalse, if◌then◌else◌}
+use Rattle.imago_storage.specs.Disk.{Value}
+use Rattle.imago_storage.specs.Steps.{shrink}
+use Rattle.imago_storage.specs.declared.fault.Fault.{Fault}
+use Rattle.imago_storage.specs.declared.fault.Fault.TheVariants.{Failed, ReadOnly, Unsupported}
+use Rattle.imago_access.specs.declared.seen.Seen.{Ghosts}
+use Rattle.imago_access.specs.declared.seen.SeenBelow.{Ghosts as GhostsBelow}
+use Rattle.imago_access.specs.declared.format.PreallocateMode.{PreallocateMode}
+use Rattle.imago_access.specs.Layer.{Layer, IsFree, IsLike}
+use Rattle.imago_access.specs.Files.{IsMild}
+use Rattle.imago_access.specs.Going.{AtOnce}
+use Rattle.imago_access.specs.Refusals.{barrier, own_refusal}
+use Rattle.imago_access.specs.ResizeCalls.{Grows, GrowthRefused, Resizes, ShrinkRefused, Shrinks}
+use Rattle.imago_access.specs.Stops.{Left, KeepsStopsTo, GivesPast, GivesBelowPast}
+use Rattle.imago_access.proofs.Running.{went_same}
+use Rattle.imago_access.proofs.Stopping.{passes_none}
+use Rattle.imago_access.proofs.Untouched.{unchanged_same}
+
+-- a layer that has failed refuses each call
+pub failed-barrier : (layer : Layer) → layer.failed ≡ true → barrier layer ≡ Some Failed
+failed-barrier layer failed = rw failed refl
+
+pub failed-refusal : (layer : Layer) (offset n : ℕ) → layer.failed ≡ true → own_refusal layer offset n ≡ Some Failed
+failed-refusal layer offset n failed = rw failed refl
+
+-- one that runs, with its layers, does not
+pub runs-barrier : (layer : Layer) → layer.failed ≡ false → layer.fixed.missing ≡ false → barrier layer ≡ None
+runs-barrier layer runs there = rw (runs, there) refl
+
+module _ {D St : Type 0} (g : Ghosts D St) where
+  like-same : (d : D) → IsLike (g.layer d) (g.layer d)
+  like-same d = record { fixed = refl; size = refl; unspent = refl; failed = λ f. f }
+
+  stops-same : (below : List Layer) (least most : ℕ) (gives : ℕ → Value → Type 0) (d : D) → KeepsStopsTo g below least most gives d d
+  stops-same below least most gives d =
+      passes_none (Left below (g.layer d) (g.image d).bytes g.sound least most gives) (g.image d) (g.image d) refl (refl, refl, refl, refl)
+
+  -- What a call does at once: of a driver that has failed, and where it has nothing to do.
+  pub failed-at_once : {T : Type 0} (refusal : Option Fault) (nothing : Type 0) (d : D) → barrier (g.layer d) ≡ Some Failed → refusal ≡ Some Failed
+      → AtOnce {T = T} g refusal nothing (Err Failed) d d
+  failed-at_once refusal nothing d barred is = record {
+    refused = λ f told. let same : Some Failed ≡ Some f = sym is ∙ told in cc same;
+    idle = λ none runs. absurd (cc (runs, barred));
+    unchanged = λ h. unchanged_same g d;
+  }
+
+  pub idle-at_once : {T : Type 0} (refusal : Option Fault) (nothing : Type 0) (v : T) (d : D) → refusal ≡ None → AtOnce g refusal nothing (Ok v) d d
+  idle-at_once refusal nothing v d is = record {
+    refused = λ f told. absurd (cc (told, is));
+    idle = λ none runs. refl;
+    unchanged = λ h. unchanged_same g d;
+  }
+
+  -- What a resize does at once.
+  pub resizes-failed : (first second : ℕ) (d : D) → IsFree (g.layer d) → barrier (g.layer d) ≡ Some Failed → Resizes g first second (Err Failed) d d
+  resizes-failed first second d free barred = record {
+    nothing = λ le. tt;
+    free = free;
+    at_once = failed-at_once (barrier (g.layer d)) (first ≤ second) d barred barred;
+    read_only = λ runs lt closed. absurd (cc (runs, barred));
+  }
+
+  pub resizes-idle : (first second : ℕ) (d : D) → IsFree (g.layer d) → barrier (g.layer d) ≡ None → first ≤ second → Resizes g first second (Ok tt) d d
+  resizes-idle first second d free runs le = record {
+    nothing = λ _. refl;
+    free = free;
+    at_once = idle-at_once (barrier (g.layer d)) (first ≤ second) tt d runs;
+    read_only = λ _ lt closed. absurd (omega (arith, le, lt));
+  }
+
+  pub resizes-declined : (first second : ℕ) (e : Fault) (d : D) → IsFree (g.layer d) → barrier (g.layer d) ≡ None → second < first
+      → (IsFalse (g.layer d).fixed.writable → e ≡ ReadOnly) → Resizes g first second (Err e) d d
+  resizes-declined first second e d free runs lt why = record {
+    nothing = λ le. tt;
+    free = free;
+    at_once = record {
+      refused = λ f is. absurd (cc (runs, is));
+      idle = λ le _. absurd (omega (arith, le, lt));
+      unchanged = λ h. unchanged_same g d;
+    };
+    read_only = λ _ _ closed. (rw (why closed) refl, unchanged_same g d);
+  }
+
+  -- What a shrink does.
+  pub shrinks-idle : (size : ℕ) (d : D) → (g.layer d).size ≤ size → Shrinks g size (Ok tt) d d
+  shrinks-idle size d high = record {
+    ok = λ safe low. absurd (omega (arith, low, high));
+    err = λ safe. tt;
+    stops = λ safe below backed. stops-same below size (g.layer d).size (GivesBelowPast below size) d;
+    went = went_same g ⊤ ⊤ d;
+  }
+
+  pub shrinks-refused : (size : ℕ) (e : Fault) (d : D) → Shrinks g size (Err e) d d
+  shrinks-refused size e d = record {
+    ok = λ safe low. tt;
+    err = λ safe mild. record { like = like-same d; kept = λ p low. refl };
+    stops = λ safe below backed. stops-same below size (g.layer d).size (GivesBelowPast below size) d;
+    went = went_same g (IsMild e) (IsMild e) d;
+  }
+
+  -- Why it is refused.
+  pub shrink-failed : (size : ℕ) (d : D) → barrier (g.layer d) ≡ Some Failed → ShrinkRefused g size (Err Failed) d d
+  shrink-failed size d barred = record { failed = tt; marks = tt; cause = λ safe below. inl barred }
+
+  pub shrink-idle : (size : ℕ) (d : D) → ShrinkRefused g size (Ok tt) d d
+  shrink-idle size d = record { failed = tt; marks = tt; cause = λ safe below. tt }
+
+  pub shrink-declined : (size : ℕ) (writable : Bool) (d : D) → (g.layer d).fixed.writable ≡ writable → size < (g.layer d).size
+      → ((below : List Layer) → g.own_cause d below (shrink size) Unsupported)
+      → ShrinkRefused g size (Err (if writable then Unsupported else ReadOnly)) d d
+  shrink-declined size true d is lt own = record { failed = tt; marks = tt; cause = λ safe below. own below }
+  shrink-declined size false d is lt own = record { failed = tt; marks = tt; cause = λ safe below. (lt, is) }
+
+module _ {D St B : Type 0} (g : Ghosts D St) (u : GhostsBelow B) where
+  -- What a growth does.
+  pub grows-idle : (size : ℕ) (mode : PreallocateMode) (d : D) (b : B) → size ≤ (g.layer d).size → Grows g u size mode (Ok tt) (d, b) (d, b)
+  grows-idle size mode d b low = record {
+    ok = λ safe see high. absurd (omega (arith, low, high));
+    err = λ safe see. tt;
+    stops = λ safe see. stops-same g (u.under b) (g.layer d).size (max (g.layer d).size size) (GivesPast (g.layer d).size) d;
+    went = went_same g ⊤ (⊤ × u.sees_under b) d;
+  }
+
+  pub grows-refused : (size : ℕ) (mode : PreallocateMode) (e : Fault) (d : D) (b : B) → Grows g u size mode (Err e) (d, b) (d, b)
+  grows-refused size mode e d b = record {
+    ok = λ safe see high. tt;
+    err = λ safe see mild. record { like = like-same g d; kept = λ p low. refl };
+    stops = λ safe see. stops-same g (u.under b) (g.layer d).size (max (g.layer d).size size) (GivesPast (g.layer d).size) d;
+    went = went_same g (IsMild e) (IsMild e × u.sees_under b) d;
+  }
+
+  -- Why it is refused.
+  pub growth-failed : (size : ℕ) (mode : PreallocateMode) (d : D) (b : B) → barrier (g.layer d) ≡ Some Failed
+      → GrowthRefused g u size mode (Err Failed) (d, b) (d, b)
+  growth-failed size mode d b barred = record { failed = tt; marks = tt; cause = λ safe see. inl barred }
+
+  pub growth-idle : (size : ℕ) (mode : PreallocateMode) (d : D) (b : B) → GrowthRefused g u size mode (Ok tt) (d, b) (d, b)
+  growth-idle size mode d b = record { failed = tt; marks = tt; cause = λ safe see. tt }
+
+  pub growth-declined : (size : ℕ) (mode : PreallocateMode) (writable : Bool) (d : D) (b : B) → (g.layer d).fixed.writable ≡ writable
+      → (g.layer d).size < size → g.growth_cause d (u.under b) size mode Unsupported
+      → GrowthRefused g u size mode (Err (if writable then Unsupported else ReadOnly)) (d, b) (d, b)
+  growth-declined size mode true d b is lt own = record { failed = tt; marks = tt; cause = λ safe see. own }
+  growth-declined size mode false d b is lt own = record { failed = tt; marks = tt; cause = λ safe see. (lt, is) }
