@@ -1,5 +1,5 @@
 -- Calls of a driver that leave all as it was: it has failed, they have nothing to do, or it declines them.
-use Rattle.std.proofs.Common.{◌≡◌, ℕ, ◌<◌, ◌≤◌, Bool, true, false, List, Result, Ok, Err, Option, Some, None, refl, sym, ◌∙◌, inl, arith}
+use Rattle.std.proofs.Common.{◌≡◌, ℕ, ◌+◌, ◌<◌, ◌≤◌, Bool, true, false, List, Result, Ok, Err, Option, Some, None, refl, sym, ◌∙◌, inl, inr, arith}
 use Rattle.std.specs.Prelude.{⊤, max, IsFalse, if◌then◌else◌}
 use Rattle.imago_storage.specs.Disk.{Value}
 use Rattle.imago_storage.specs.Steps.{shrink}
@@ -29,6 +29,22 @@ failed-refusal layer offset n failed = rw failed refl
 pub runs-barrier : (layer : Layer) → layer.failed ≡ false → layer.fixed.missing ≡ false → barrier layer ≡ None
 runs-barrier layer runs there = rw (runs, there) refl
 
+pub failed-runs : (layer : Layer) → layer.failed ≡ true → barrier layer ≡ None → ⊥
+failed-runs layer failed runs = absurd (cc (runs, failed-barrier layer failed))
+
+-- Facts of a range that has nothing to do.
+pub not-inside : {a b : ℕ} → a < b → b ≤ a → ⊥
+not-inside inside past = omega (arith, inside, past)
+
+pub not-some : {n : ℕ} → 0 < n → n ≡ 0 → ⊥
+not-some some none = omega (arith, some, none)
+
+pub none-below : {i : ℕ} → i < 0 → ⊥
+none-below low = omega (arith, low)
+
+pub empty-run : (offset size asked : ℕ) → offset < size → asked ≡ 0 → (offset < size) × (0 ≤ asked) × (offset + 0 ≤ size) × (0 < asked → 0 < 0)
+empty-run offset size asked inside none = (inside, omega (arith), omega (arith, inside), λ some. absurd (not-some some none))
+
 module _ {D St : Type 0} (g : Ghosts D St) where
   like-same : (d : D) → IsLike (g.layer d) (g.layer d)
   like-same d = record { fixed = refl; size = refl; unspent = refl; failed = λ f. f }
@@ -51,6 +67,23 @@ module _ {D St : Type 0} (g : Ghosts D St) where
     refused = λ f told. absurd (cc (told, is));
     idle = λ none runs. refl;
     unchanged = λ h. unchanged_same g d;
+  }
+
+  pub refused-at_once : {T : Type 0} (refusal : Option Fault) (nothing : Type 0) (e : Fault) (d : D) → refusal ≡ Some e → (nothing → ⊥)
+      → AtOnce {T = T} g refusal nothing (Err e) d d
+  refused-at_once refusal nothing e d is busy = record {
+    refused = λ f told. let same : Some e ≡ Some f = sym is ∙ told in cc same;
+    idle = λ none runs. absurd (busy none);
+    unchanged = λ h. unchanged_same g d;
+  }
+
+  -- a call that isn't refused at once and has something to do may do anything
+  pub busy-at_once : {T : Type 0} (refusal : Option Fault) (nothing : Type 0) (r : Result T Fault) (old new : D) → refusal ≡ None → (nothing → ⊥)
+      → AtOnce g refusal nothing r old new
+  busy-at_once refusal nothing r old new is busy = record {
+    refused = λ f told. absurd (cc (told, is));
+    idle = λ none runs. absurd (busy none);
+    unchanged = λ h. elim h [ inl none ↦ absurd (busy none) | inr some ↦ absurd (cc (some, is)) ];
   }
 
   -- What a resize does at once.

@@ -1,4 +1,9 @@
-use Rattle.std.proofs.Common.{ℕ}
+use Rattle.std.proofs.Common.{ℕ, ◌<◌, ◌≤◌, [], ◌∷◌, refl, subst}
+use Rattle.std.specs.Prelude.{⊤}
+use Rattle.imago_access.proofs.FilePairs.{kept_all_same}
+use Rattle.imago_access.proofs.Looking.{looked_same}
+use Rattle.qcow2_image.specs.Seen.{layer_of}
+use Rattle.qcow2_image.proofs.CallsWithoutChanges.{failed-barrier, runs-barrier, failed-at_once, idle-at_once, busy-at_once, not-inside, not-some, none-below, empty-run}
 use Rattle.imago_access.specs.declared.mapping.ShallowMapping.{ShallowMapping}
 use Rattle.qcow2_image.proofs.RequestsWithoutChanges.{ok-whole}
 use Rattle.qcow2_image.proofs.drivers.Qcow2FormatDriverInstance.get_mapping.Goals as goal
@@ -28,3 +33,166 @@ returns-clause-entry g c = λ some inside sees. c.run_from.ensures.entry sees.se
 pub returns-clause-leaks : goal.returns-clause-leaks
 returns-clause-leaks g c =
     leaks-kept g.S.Storage {T = ShallowMapping × ℕ} c.args.self.now c.run_from.new.self c.run_from.result c.run_from.ensures.keeps
+
+pub returns-then-self-clause-run : goal.returns-then-self-clause-run
+returns-then-self-clause-run g c = tt
+
+pub returns-then-self-clause-looks : goal.returns-then-self-clause-looks
+returns-then-self-clause-looks g c = λ _. tt
+
+pub returns-then-self-clause-room : goal.returns-then-self-clause-room
+returns-then-self-clause-room g c = λ _. tt
+
+pub returns-then-self-clause-stated : goal.returns-then-self-clause-stated
+returns-then-self-clause-stated g c = λ _. tt
+
+pub returns-then-self-clause-there : goal.returns-then-self-clause-there
+returns-then-self-clause-there g c = tt
+
+pub returns-then-self-clause-at_once : goal.returns-then-self-clause-at_once
+returns-then-self-clause-at_once g c = failed-at_once _ _ _ c.args.self.now (failed-barrier (layer_of g.S.Storage c.args.self.now) c.if-self.true) (failed-barrier (layer_of g.S.Storage c.args.self.now) c.if-self.true)
+
+pub returns-then-self-clause-looked : goal.returns-then-self-clause-looked
+returns-then-self-clause-looked g c = looked_same _ ⊤ c.args.self.now
+
+pub returns-then-self-clause-began : goal.returns-then-self-clause-began
+returns-then-self-clause-began g c = tt
+
+pub returns-then-self-clause-failed : goal.returns-then-self-clause-failed
+returns-then-self-clause-failed g c = tt
+
+pub returns-then-self-clause-marks : goal.returns-then-self-clause-marks
+returns-then-self-clause-marks g c = tt
+
+pub returns-then-self-clause-cause : goal.returns-then-self-clause-cause
+returns-then-self-clause-cause g c = λ _. failed-barrier (layer_of g.S.Storage c.args.self.now) c.if-self.true
+
+pub returns-then-self-clause-marked : goal.returns-then-self-clause-marked
+returns-then-self-clause-marked g c = refl
+
+pub returns-then-self-clause-reads : goal.returns-then-self-clause-reads
+returns-then-self-clause-reads g c = kept_all_same (g.S.Storage.state c.args.self.now.tables.file.image ∷ [])
+
+pub returns-then-self-clause-entry : goal.returns-then-self-clause-entry
+returns-then-self-clause-entry g c = λ _ _ _. tt
+
+pub returns-then-self-clause-whole : goal.returns-then-self-clause-whole
+returns-then-self-clause-whole g c = λ _. tt
+
+pub returns-then-self-clause-leaks : goal.returns-then-self-clause-leaks
+returns-then-self-clause-leaks g c = λ _. refl
+
+pub returns-then-offset-size-clause-run : goal.returns-then-offset-size-clause-run
+returns-then-offset-size-clause-run g c = (refl, subst (λ (n : ℕ). n ≤ c.args.offset) c.size-size.ensures c.if-offset-size.true)
+
+pub returns-then-offset-size-clause-room : goal.returns-then-offset-size-clause-room
+returns-then-offset-size-clause-room g c = λ _. tt
+
+pub returns-then-offset-size-clause-stated : goal.returns-then-offset-size-clause-stated
+returns-then-offset-size-clause-stated g c = λ _ i low _. none-below low
+
+pub returns-then-offset-size-clause-there : goal.returns-then-offset-size-clause-there
+returns-then-offset-size-clause-there g c = tt
+
+pub returns-then-offset-size-clause-at_once : goal.returns-then-offset-size-clause-at_once
+returns-then-offset-size-clause-at_once g c = idle-at_once _ _ _ _ c.args.self.now (runs-barrier (layer_of g.S.Storage c.args.self.now) c.if-self.false refl)
+
+pub returns-then-offset-size-clause-looked : goal.returns-then-offset-size-clause-looked
+returns-then-offset-size-clause-looked g c = looked_same _ ⊤ c.args.self.now
+
+pub returns-then-offset-size-clause-began : goal.returns-then-offset-size-clause-began
+returns-then-offset-size-clause-began g c = λ e call begun. begun
+
+pub returns-then-offset-size-clause-failed : goal.returns-then-offset-size-clause-failed
+returns-then-offset-size-clause-failed g c = tt
+
+pub returns-then-offset-size-clause-marks : goal.returns-then-offset-size-clause-marks
+returns-then-offset-size-clause-marks g c = tt
+
+pub returns-then-offset-size-clause-cause : goal.returns-then-offset-size-clause-cause
+returns-then-offset-size-clause-cause g c = λ _. tt
+
+pub returns-then-offset-size-clause-marked : goal.returns-then-offset-size-clause-marked
+returns-then-offset-size-clause-marked g c = refl
+
+pub returns-then-offset-size-clause-reads : goal.returns-then-offset-size-clause-reads
+returns-then-offset-size-clause-reads g c = kept_all_same (g.S.Storage.state c.args.self.now.tables.file.image ∷ [])
+
+pub returns-then-offset-size-clause-entry : goal.returns-then-offset-size-clause-entry
+returns-then-offset-size-clause-entry g c = λ _ inside _. absurd (not-inside inside (subst (λ (n : ℕ). n ≤ c.args.offset) c.size-size.ensures c.if-offset-size.true))
+
+pub returns-then-offset-size-clause-leaks : goal.returns-then-offset-size-clause-leaks
+returns-then-offset-size-clause-leaks g c = λ _. refl
+
+pub returns-then-max_length-eq0-clause-run : goal.returns-then-max_length-eq0-clause-run
+returns-then-max_length-eq0-clause-run g c = empty-run _ _ _ (subst (λ (n : ℕ). c.args.offset < n) c.size-size.ensures c.if-offset-size.false) c.if-max_length-eq0.true
+
+pub returns-then-max_length-eq0-clause-looks : goal.returns-then-max_length-eq0-clause-looks
+returns-then-max_length-eq0-clause-looks g c = λ _. record {
+  names = (λ i low. absurd (none-below low), λ e. absurd cc);
+  reach = tt;
+  home = λ free some storage place is. absurd (not-some some c.if-max_length-eq0.true);
+}
+
+pub returns-then-max_length-eq0-clause-room : goal.returns-then-max_length-eq0-clause-room
+returns-then-max_length-eq0-clause-room g c = λ _. tt
+
+pub returns-then-max_length-eq0-clause-stated : goal.returns-then-max_length-eq0-clause-stated
+returns-then-max_length-eq0-clause-stated g c = λ _ i low. absurd (none-below low)
+
+pub returns-then-max_length-eq0-clause-there : goal.returns-then-max_length-eq0-clause-there
+returns-then-max_length-eq0-clause-there g c = tt
+
+pub returns-then-max_length-eq0-clause-at_once : goal.returns-then-max_length-eq0-clause-at_once
+returns-then-max_length-eq0-clause-at_once g c = idle-at_once _ _ _ _ c.args.self.now (runs-barrier (layer_of g.S.Storage c.args.self.now) c.if-self.false refl)
+
+pub returns-then-max_length-eq0-clause-looked : goal.returns-then-max_length-eq0-clause-looked
+returns-then-max_length-eq0-clause-looked g c = looked_same _ ⊤ c.args.self.now
+
+pub returns-then-max_length-eq0-clause-began : goal.returns-then-max_length-eq0-clause-began
+returns-then-max_length-eq0-clause-began g c = λ e call begun. begun
+
+pub returns-then-max_length-eq0-clause-failed : goal.returns-then-max_length-eq0-clause-failed
+returns-then-max_length-eq0-clause-failed g c = tt
+
+pub returns-then-max_length-eq0-clause-marks : goal.returns-then-max_length-eq0-clause-marks
+returns-then-max_length-eq0-clause-marks g c = tt
+
+pub returns-then-max_length-eq0-clause-cause : goal.returns-then-max_length-eq0-clause-cause
+returns-then-max_length-eq0-clause-cause g c = λ _. tt
+
+pub returns-then-max_length-eq0-clause-marked : goal.returns-then-max_length-eq0-clause-marked
+returns-then-max_length-eq0-clause-marked g c = refl
+
+pub returns-then-max_length-eq0-clause-reads : goal.returns-then-max_length-eq0-clause-reads
+returns-then-max_length-eq0-clause-reads g c = kept_all_same (g.S.Storage.state c.args.self.now.tables.file.image ∷ [])
+
+pub returns-then-max_length-eq0-clause-entry : goal.returns-then-max_length-eq0-clause-entry
+returns-then-max_length-eq0-clause-entry g c = λ some _ _. absurd (not-some some c.if-max_length-eq0.true)
+
+pub returns-then-max_length-eq0-clause-leaks : goal.returns-then-max_length-eq0-clause-leaks
+returns-then-max_length-eq0-clause-leaks g c = λ _. refl
+
+pub returns-clause-run : goal.returns-clause-run
+returns-clause-run g c = c.run_from.ensures.run
+
+pub returns-clause-there : goal.returns-clause-there
+returns-clause-there g c = c.run_from.ensures.there
+
+pub returns-clause-looked : goal.returns-clause-looked
+returns-clause-looked g c = c.run_from.ensures.looked
+
+pub returns-clause-failed : goal.returns-clause-failed
+returns-clause-failed g c = c.run_from.ensures.failed
+
+pub returns-clause-marks : goal.returns-clause-marks
+returns-clause-marks g c = c.run_from.ensures.marks
+
+pub returns-clause-marked : goal.returns-clause-marked
+returns-clause-marked g c = c.run_from.ensures.marked
+
+pub returns-clause-reads : goal.returns-clause-reads
+returns-clause-reads g c = let t = c.run_from.ensures.keeps.tables in ((t.kept, t.later.faults), tt)
+
+pub returns-clause-at_once : goal.returns-clause-at_once
+returns-clause-at_once g c = busy-at_once _ _ _ _ c.args.self.now _ (runs-barrier (layer_of g.S.Storage c.args.self.now) c.if-self.false refl) c.if-max_length-eq0.false
