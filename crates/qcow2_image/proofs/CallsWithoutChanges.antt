@@ -1,22 +1,27 @@
 -- Calls of a driver that leave all as it was: it has failed, they have nothing to do, or it declines them.
 use Rattle.std.proofs.Common.{◌≡◌, ℕ, ◌+◌, ◌<◌, ◌≤◌, Bool, true, false, List, Result, Ok, Err, Option, Some, None, refl, sym, ◌∙◌, inl, inr, arith}
-use Rattle.std.specs.Prelude.{⊤, max, IsFalse, if◌then◌else◌}
+use Rattle.std.specs.Prelude.{⊤, ◌⊎◌, IsSome, eqb, zero, suc, length, max, IsFalse, if◌then◌else◌}
 use Rattle.imago_storage.specs.Disk.{Value}
 use Rattle.imago_storage.specs.Steps.{shrink}
 use Rattle.imago_storage.specs.declared.fault.Fault.{Fault}
-use Rattle.imago_storage.specs.declared.fault.Fault.TheVariants.{Failed, ReadOnly, Unsupported}
+use Rattle.imago_storage.specs.declared.fault.Fault.TheVariants.{Failed, Outdated, ReadOnly, Unsupported}
 use Rattle.imago_access.specs.declared.seen.Seen.{Ghosts}
 use Rattle.imago_access.specs.declared.seen.SeenBelow.{Ghosts as GhostsBelow}
 use Rattle.imago_access.specs.declared.format.PreallocateMode.{PreallocateMode}
 use Rattle.imago_access.specs.Layer.{Layer, IsFree, IsLike}
+use Rattle.imago_access.specs.Changes.{Asked}
 use Rattle.imago_access.specs.Files.{IsMild}
 use Rattle.imago_access.specs.Going.{AtOnce}
+use Rattle.imago_access.specs.Parts.{IsMappedAt}
+use Rattle.imago_access.specs.PreparingCalls.{Prepares, WritesMapped, WritingRefused}
 use Rattle.imago_access.specs.Refusals.{barrier, own_refusal}
 use Rattle.imago_access.specs.ResizeCalls.{Grows, GrowthRefused, Resizes, ShrinkRefused, Shrinks}
-use Rattle.imago_access.specs.Stops.{Left, KeepsStopsTo, GivesPast, GivesBelowPast}
+use Rattle.imago_access.specs.Stops.{Left, KeepsStopsTo, GivesBytes, GivesNone, GivesPast, GivesBelowPast}
+use Rattle.imago_access.proofs.Room.{room_same}
 use Rattle.imago_access.proofs.Running.{went_same}
 use Rattle.imago_access.proofs.Stopping.{passes_none}
 use Rattle.imago_access.proofs.Untouched.{unchanged_same}
+use borrow.Author.Tests.{ne_eqb}
 
 -- a layer that has failed refuses each call
 pub failed-barrier : (layer : Layer) → layer.failed ≡ true → barrier layer ≡ Some Failed
@@ -25,9 +30,12 @@ failed-barrier layer failed = rw failed refl
 pub failed-refusal : (layer : Layer) (offset n : ℕ) → layer.failed ≡ true → own_refusal layer offset n ≡ Some Failed
 failed-refusal layer offset n failed = rw failed refl
 
--- one that runs, with its layers, does not
+-- one that runs, and has its storages, refuses none for itself, nor an empty range
 pub runs-barrier : (layer : Layer) → layer.failed ≡ false → layer.fixed.missing ≡ false → barrier layer ≡ None
 runs-barrier layer runs there = rw (runs, there) refl
+
+pub empty-refusal : (layer : Layer) (offset n : ℕ) → layer.failed ≡ false → layer.fixed.missing ≡ false → n ≡ 0 → own_refusal layer offset n ≡ None
+empty-refusal layer offset n runs there none = rw (runs, there, none) refl
 
 pub failed-runs : (layer : Layer) → layer.failed ≡ true → barrier layer ≡ None → ⊥
 failed-runs layer failed runs = absurd (cc (runs, failed-barrier layer failed))
@@ -41,6 +49,21 @@ not-some some none = omega (arith, some, none)
 
 pub none-below : {i : ℕ} → i < 0 → ⊥
 none-below low = omega (arith, low)
+
+pub below-empty : {i n : ℕ} → i < n → n ≡ 0 → ⊥
+below-empty low none = omega (arith, low, none)
+
+pub above-none : (n : ℕ) → (n ≡ 0 → ⊥) → 0 < n
+above-none zero some = absurd (some refl)
+above-none (suc n) some = omega arith
+
+pub told-empty : (n : ℕ) (told : Bool) → told ≡ eqb n 0 → told ≡ true → n ≡ 0
+told-empty zero told is said = refl
+told-empty (suc n) told is said = let other : eqb (suc n) 0 ≡ false = ne_eqb _ _ (omega arith) in absurd (cc (is, other, said))
+
+pub told-some : (n : ℕ) (told : Bool) → told ≡ eqb n 0 → told ≡ false → n ≡ 0 → ⊥
+told-some zero told is said none = let other : told ≡ true = is in absurd (cc (other, said))
+told-some (suc n) told is said none = absurd (cc none)
 
 pub empty-run : (offset size asked : ℕ) → offset < size → asked ≡ 0 → (offset < size) × (0 ≤ asked) × (offset + 0 ≤ size) × (0 < asked → 0 < 0)
 empty-run offset size asked inside none = (inside, omega (arith), omega (arith, inside), λ some. absurd (not-some some none))
@@ -85,6 +108,9 @@ module _ {D St : Type 0} (g : Ghosts D St) where
     idle = λ none runs. absurd (busy none);
     unchanged = λ h. elim h [ inl none ↦ absurd (busy none) | inr some ↦ absurd (cc (some, is)) ];
   }
+
+  pub busy-neither : (refusal : Option Fault) (nothing : Type 0) → refusal ≡ None → (nothing → ⊥) → nothing ⊎ IsSome refusal → ⊥
+  busy-neither refusal nothing is busy h = elim h [ inl none ↦ busy none | inr some ↦ absurd (cc (some, is)) ]
 
   -- What a resize does at once.
   pub resizes-failed : (first second : ℕ) (d : D) → IsFree (g.layer d) → barrier (g.layer d) ≡ Some Failed → Resizes g first second (Err Failed) d d
@@ -146,7 +172,64 @@ module _ {D St : Type 0} (g : Ghosts D St) where
   shrink-declined size true d is lt own = record { failed = tt; marks = tt; cause = λ safe below. own below }
   shrink-declined size false d is lt own = record { failed = tt; marks = tt; cause = λ safe below. (lt, is) }
 
+  -- What a write to a mapping does.
+  pub writes-nothing : (guest place : ℕ) (bytes : List ℕ) (d : D) → length bytes ≡ 0 → WritesMapped g guest place bytes (Ok tt) d d
+  writes-nothing guest place bytes d none = record {
+    mapped = λ seen some. absurd (not-some some none);
+    empty = λ _. refl;
+    like = like-same d;
+    ok = λ safe. record {
+      like = like-same d;
+      home = refl;
+      range = λ i low. absurd (below-empty low none);
+      others = λ p out. (refl, refl);
+    };
+    err = λ safe. tt;
+    room = λ safe whole. room_same g (λ _. ⊤) (λ _. ⊤) d;
+    stops = λ safe below. stops-same below (g.layer d).size (g.layer d).size (GivesBytes guest bytes) d;
+    went = went_same g ⊤ ⊤ d;
+    began = λ e call begun. begun;
+  }
+
+  pub writes-refused : (guest place : ℕ) (bytes : List ℕ) (e : Fault) (d : D) → WritesMapped g guest place bytes (Err e) d d
+  writes-refused guest place bytes e d = record {
+    mapped = λ seen. tt;
+    empty = λ _. refl;
+    like = like-same d;
+    ok = λ safe. tt;
+    err = λ safe mild. refl;
+    room = λ safe whole. room_same g (λ _. ⊤) (λ _. ⊤) d;
+    stops = λ safe below. stops-same below (g.layer d).size (g.layer d).size (GivesBytes guest bytes) d;
+    went = went_same g (IsMild e) (IsMild e) d;
+    began = λ e call begun. tt;
+  }
+
+  -- Why it is refused.
+  pub writing-failed : (guest place n : ℕ) (d : D) → barrier (g.layer d) ≡ Some Failed → WritingRefused g guest place n (Err Failed) d d
+  writing-failed guest place n d barred = record { failed = tt; marks = tt; cause = λ safe. inl barred }
+
+  pub writing-done : (guest place n : ℕ) (old new : D) → WritingRefused g guest place n (Ok tt) old new
+  writing-done guest place n old new = record { failed = tt; marks = tt; cause = λ safe. tt }
+
+  pub writing-outdated : (guest place n : ℕ) (old new : D) → 0 < n → (g.safe old → IsMappedAt (g.layer old) guest place n → ⊥)
+      → WritingRefused g guest place n (Err Outdated) old new
+  writing-outdated guest place n old new some unmapped = record { failed = tt; marks = tt; cause = λ safe. (some, unmapped safe) }
+
 module _ {D St B : Type 0} (g : Ghosts D St) (u : GhostsBelow B) where
+  -- What a preparation does of a driver that has failed.
+  pub prepares-failed : (asked : Asked) (d : D) (b : B) → barrier (g.layer d) ≡ Some Failed → Prepares g u asked (Err Failed) (d, b) (d, b)
+  prepares-failed asked d b barred = record {
+    ok = λ safe see. tt;
+    err = λ safe see mild. record { like = like-same g d; cell = refl; held = refl };
+    uncut = λ safe see. tt;
+    near = λ safe see. tt;
+    room = λ safe see whole. room_same g (λ _. ⊤) (λ _. ⊤) d;
+    stops = λ safe see. stops-same g (u.under b) (g.layer d).size (g.layer d).size GivesNone d;
+    went = went_same g ⊤ (⊤ × u.sees_under b) d;
+    began = λ e call begun part whole. begun;
+    refused = record { failed = tt; marks = tt; cause = λ safe see e call begun part over. inl barred };
+  }
+
   -- What a growth does.
   pub grows-idle : (size : ℕ) (mode : PreallocateMode) (d : D) (b : B) → size ≤ (g.layer d).size → Grows g u size mode (Ok tt) (d, b) (d, b)
   grows-idle size mode d b low = record {

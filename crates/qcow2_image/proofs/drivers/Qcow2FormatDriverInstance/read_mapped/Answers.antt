@@ -1,4 +1,6 @@
-use Rattle.std.proofs.Common.{ap, sym, subst, ◌∙◌, length, refl}
+use Rattle.std.proofs.Common.{ap, sym, subst, ◌∙◌, length, refl, Result}
+use Rattle.std.specs.Prelude.{⊤}
+use Rattle.imago_storage.specs.declared.fault.Fault.{Fault}
 use Rattle.imago_access.specs.Files.{WasNotCutOff}
 use Rattle.qcow2_image.specs.declared.qcow2.Qcow2.{Qcow2}
 use Rattle.qcow2_image.specs.Steps.{KeepsImage, failed_behind, failed_by}
@@ -6,6 +8,9 @@ use Rattle.qcow2_image.proofs.Leaks.{leaks-asked}
 use Rattle.qcow2_image.proofs.Lengths.{asked-long}
 use Rattle.qcow2_image.proofs.RequestsWithoutChanges.{read-faultless, settled-keeps, ok-whole}
 use Rattle.qcow2_image.proofs.Steps.{began-kept, looked-kept, marks-kept}
+use Rattle.imago_access.proofs.Looking.{looked_same}
+use Rattle.qcow2_image.specs.Seen.{layer_of}
+use Rattle.qcow2_image.proofs.CallsWithoutChanges.{failed-barrier, failed-runs, runs-barrier, failed-at_once, idle-at_once, busy-at_once, below-empty, told-empty, told-some}
 use Rattle.qcow2_image.proofs.drivers.Qcow2FormatDriverInstance.read_mapped.Goals as goal
 
 pub returns-clause-looked : goal.returns-clause-looked
@@ -59,3 +64,98 @@ returns-clause-no_shorter g c =
     let is = c.settle.ensures.marks in
     asked-long g.S.Storage c.args.self.now c.settle.new.self (g.S.Storage.state c.read-answer.new.self) c.read-answer.ensures.kept
     (ap (λ (x : Qcow2 g.row.S.Denot g.S.Storage). g.S.Storage.state x.tables.file.image) is)
+
+pub returns-then-self-clause-bytes : goal.returns-then-self-clause-bytes
+returns-then-self-clause-bytes g c = tt
+
+pub returns-then-self-clause-at_once : goal.returns-then-self-clause-at_once
+returns-then-self-clause-at_once g c = failed-at_once _ _ _ c.args.self.now (failed-barrier (layer_of g.S.Storage c.args.self.now) c.if-self.true) (failed-barrier (layer_of g.S.Storage c.args.self.now) c.if-self.true)
+
+pub returns-then-self-clause-looked : goal.returns-then-self-clause-looked
+returns-then-self-clause-looked g c = looked_same _ ⊤ c.args.self.now
+
+pub returns-then-self-clause-began : goal.returns-then-self-clause-began
+returns-then-self-clause-began g c = tt
+
+pub returns-then-self-clause-none : goal.returns-then-self-clause-none
+returns-then-self-clause-none g c = (refl, refl, refl, refl)
+
+pub returns-then-self-clause-overflow : goal.returns-then-self-clause-overflow
+returns-then-self-clause-overflow g c = λ runs _. absurd (failed-runs (layer_of g.S.Storage c.args.self.now) c.if-self.true runs)
+
+pub returns-then-self-clause-marks : goal.returns-then-self-clause-marks
+returns-then-self-clause-marks g c = tt
+
+pub returns-then-self-clause-cause : goal.returns-then-self-clause-cause
+returns-then-self-clause-cause g c = failed-barrier (layer_of g.S.Storage c.args.self.now) c.if-self.true
+
+pub returns-then-self-clause-leaks : goal.returns-then-self-clause-leaks
+returns-then-self-clause-leaks g c = λ _. refl
+
+pub returns-then-self-clause-marked : goal.returns-then-self-clause-marked
+returns-then-self-clause-marked g c = refl
+
+pub returns-then-storage-ne0-clause-at_once : goal.returns-then-storage-ne0-clause-at_once
+returns-then-storage-ne0-clause-at_once g c = idle-at_once _ _ _ _ c.args.self.now (runs-barrier (layer_of g.S.Storage c.args.self.now) c.if-self.false refl)
+
+pub returns-then-storage-ne0-clause-looked : goal.returns-then-storage-ne0-clause-looked
+returns-then-storage-ne0-clause-looked g c = looked_same _ ⊤ c.args.self.now
+
+pub returns-then-storage-ne0-clause-began : goal.returns-then-storage-ne0-clause-began
+returns-then-storage-ne0-clause-began g c = λ e call begun. begun
+
+pub returns-then-storage-ne0-clause-none : goal.returns-then-storage-ne0-clause-none
+returns-then-storage-ne0-clause-none g c = (refl, refl, refl, refl)
+
+pub returns-then-storage-ne0-clause-marks : goal.returns-then-storage-ne0-clause-marks
+returns-then-storage-ne0-clause-marks g c = tt
+
+pub returns-then-storage-ne0-clause-cause : goal.returns-then-storage-ne0-clause-cause
+returns-then-storage-ne0-clause-cause g c = tt
+
+pub returns-then-storage-ne0-clause-leaks : goal.returns-then-storage-ne0-clause-leaks
+returns-then-storage-ne0-clause-leaks g c = λ _. refl
+
+pub returns-then-storage-ne0-clause-marked : goal.returns-then-storage-ne0-clause-marked
+returns-then-storage-ne0-clause-marked g c = refl
+
+pub returns-then-is_empty-clause-at_once : goal.returns-then-is_empty-clause-at_once
+returns-then-is_empty-clause-at_once g c = idle-at_once _ _ _ _ c.args.self.now (runs-barrier (layer_of g.S.Storage c.args.self.now) c.if-self.false refl)
+
+pub returns-then-is_empty-clause-looked : goal.returns-then-is_empty-clause-looked
+returns-then-is_empty-clause-looked g c = looked_same _ ⊤ c.args.self.now
+
+pub returns-then-is_empty-clause-began : goal.returns-then-is_empty-clause-began
+returns-then-is_empty-clause-began g c = λ e call begun. begun
+
+pub returns-then-is_empty-clause-none : goal.returns-then-is_empty-clause-none
+returns-then-is_empty-clause-none g c = (refl, refl, refl, refl)
+
+pub returns-then-is_empty-clause-marks : goal.returns-then-is_empty-clause-marks
+returns-then-is_empty-clause-marks g c = tt
+
+pub returns-then-is_empty-clause-cause : goal.returns-then-is_empty-clause-cause
+returns-then-is_empty-clause-cause g c = tt
+
+pub returns-then-is_empty-clause-leaks : goal.returns-then-is_empty-clause-leaks
+returns-then-is_empty-clause-leaks g c = λ _. refl
+
+pub returns-then-is_empty-clause-marked : goal.returns-then-is_empty-clause-marked
+returns-then-is_empty-clause-marked g c = refl
+
+pub returns-clause-none : goal.returns-clause-none
+returns-clause-none g c =
+    let k = c.read-answer.ensures.kept in
+    rw (ap (λ (x : Qcow2 g.row.S.Denot g.S.Storage). g.S.Storage.state x.tables.file.image) c.settle.ensures.marks) (k.stop, k.past, k.bytes, k.refusals)
+
+pub returns-clause-marked : goal.returns-clause-marked
+returns-clause-marked g c =
+    ap (λ (x : Qcow2 g.row.S.Denot g.S.Storage). x.failed) c.settle.ensures.marks
+    ∙ ap (λ (r : Result Unit Fault). failed_behind failed_by r c.args.self.now.failed) (sym c.settle.ensures.same)
+
+pub returns-clause-at_once : goal.returns-clause-at_once
+returns-clause-at_once g c =
+    busy-at_once _ _ _ _ c.args.self.now _ (runs-barrier (layer_of g.S.Storage c.args.self.now) c.if-self.false refl) (told-some _ _ c.is_empty.ensures c.if-is_empty.false)
+
+pub returns-then-is_empty-clause-bytes : goal.returns-then-is_empty-clause-bytes
+returns-then-is_empty-clause-bytes g c = λ i low. absurd (below-empty low (told-empty _ _ c.is_empty.ensures c.if-is_empty.true))
