@@ -5,6 +5,9 @@ use Rattle.qcow2_image.proofs.RangeWrites.{marked-or-kept, noted, spared-looking
 use Rattle.qcow2_image.proofs.Lengths.{looked-long, written-long}
 use Rattle.qcow2_image.proofs.Steps.{keeps-as, marks-kept}
 use Rattle.qcow2_alloc.proofs.Faults.{handed-on}
+use Rattle.imago_storage.proofs.Composing.{same-mixed}
+use Rattle.qcow2_image.specs.Seen.{layer_of}
+use Rattle.qcow2_image.proofs.CallsWithoutChanges.{failed-barrier, failed-refusal, empty-refusal, failed-at_once, idle-at_once, refused-at_once, busy-at_once, writes-nothing, writes-refused, writing-failed, writing-done, writing-outdated, above-none}
 use Rattle.qcow2_image.proofs.drivers.Qcow2FormatDriverInstance.write_mapped.Goals as goal
 use Rattle.qcow2_image.proofs.LeaksByFile.{leaks-kept}
 
@@ -139,3 +142,86 @@ returns-in_err-write_at-clause-spares g c = rw (handed-on _ _ c.from_residual-in
 pub returns-in_err-is_mapped_at-clause-spares : goal.returns-in_err-is_mapped_at-clause-spares
 returns-in_err-is_mapped_at-clause-spares g c = rw (handed-on _ _ c.from_residual-in_err-is_mapped_at.ensures.1) (
     spared-looking g.S.Storage c.args.self.now c.is_mapped_at.new.self c.in_err-is_mapped_at.field-0.0 c.in_err-is_mapped_at.ensures.keeps)
+
+pub returns-then-self-clause-writes : goal.returns-then-self-clause-writes
+returns-then-self-clause-writes g c = writes-refused _ _ _ _ _ c.args.self.now
+
+pub returns-then-self-clause-at_once : goal.returns-then-self-clause-at_once
+returns-then-self-clause-at_once g c = failed-at_once _ _ _ c.args.self.now (failed-barrier (layer_of g.S.Storage c.args.self.now) c.if-self.true) (failed-refusal (layer_of g.S.Storage c.args.self.now) _ _ c.if-self.true)
+
+pub returns-then-self-clause-refused : goal.returns-then-self-clause-refused
+returns-then-self-clause-refused g c = writing-failed _ _ _ _ c.args.self.now (failed-barrier (layer_of g.S.Storage c.args.self.now) c.if-self.true)
+
+pub returns-then-self-clause-spares : goal.returns-then-self-clause-spares
+returns-then-self-clause-spares g c = λ _. inl refl
+
+pub returns-then-self-clause-file : goal.returns-then-self-clause-file
+returns-then-self-clause-file g c = λ _. same-mixed _ _ _ _ refl
+
+pub returns-then-self-clause-leaks : goal.returns-then-self-clause-leaks
+returns-then-self-clause-leaks g c = λ _ _ _. refl
+
+pub returns-then-length-eq0-clause-writes : goal.returns-then-length-eq0-clause-writes
+returns-then-length-eq0-clause-writes g c = writes-nothing _ _ _ _ c.args.self.now c.if-length-eq0.true
+
+pub returns-then-length-eq0-clause-at_once : goal.returns-then-length-eq0-clause-at_once
+returns-then-length-eq0-clause-at_once g c = idle-at_once _ _ _ _ c.args.self.now (empty-refusal (layer_of g.S.Storage c.args.self.now) _ _ c.if-self.false refl c.if-length-eq0.true)
+
+pub returns-then-length-eq0-clause-refused : goal.returns-then-length-eq0-clause-refused
+returns-then-length-eq0-clause-refused g c = writing-done _ _ _ _ _ _
+
+pub returns-then-length-eq0-clause-spares : goal.returns-then-length-eq0-clause-spares
+returns-then-length-eq0-clause-spares g c = tt
+
+pub returns-then-length-eq0-clause-file : goal.returns-then-length-eq0-clause-file
+returns-then-length-eq0-clause-file g c = λ _. same-mixed _ _ _ _ refl
+
+pub returns-then-length-eq0-clause-leaks : goal.returns-then-length-eq0-clause-leaks
+returns-then-length-eq0-clause-leaks g c = λ _ _ _. refl
+
+pub returns-in_err-check_change-clause-writes : goal.returns-in_err-check_change-clause-writes
+returns-in_err-check_change-clause-writes g c = rw (handed-on _ _ c.from_residual.ensures.1) (writes-refused _ _ _ _ c.in_err-check_change.field-0.0 c.args.self.now)
+
+pub returns-in_err-check_change-clause-at_once : goal.returns-in_err-check_change-clause-at_once
+returns-in_err-check_change-clause-at_once g c = rw (handed-on _ _ c.from_residual.ensures.1) (
+    refused-at_once _ _ _ c.in_err-check_change.field-0.0 c.args.self.now c.in_err-check_change.ensures.err c.if-length-eq0.false)
+
+pub returns-in_err-check_change-clause-spares : goal.returns-in_err-check_change-clause-spares
+returns-in_err-check_change-clause-spares g c = rw (handed-on _ _ c.from_residual.ensures.1) (λ _. inl refl)
+
+pub returns-in_err-check_change-clause-file : goal.returns-in_err-check_change-clause-file
+returns-in_err-check_change-clause-file g c = λ _. same-mixed _ _ _ _ refl
+
+pub returns-in_err-check_change-clause-leaks : goal.returns-in_err-check_change-clause-leaks
+returns-in_err-check_change-clause-leaks g c = λ _ _ _. refl
+
+pub returns-in_err-is_mapped_at-clause-at_once : goal.returns-in_err-is_mapped_at-clause-at_once
+returns-in_err-is_mapped_at-clause-at_once g c = busy-at_once _ _ _ _ c.args.self.now _ c.in_ok-check_change.ensures.ok c.if-length-eq0.false
+
+pub returns-in_err-is_mapped_at-clause-file : goal.returns-in_err-is_mapped_at-clause-file
+returns-in_err-is_mapped_at-clause-file g c = λ _. same-mixed _ _ _ _ c.in_err-is_mapped_at.ensures.keeps.tables.kept.bytes
+
+pub returns-then-not-branch-clause-at_once : goal.returns-then-not-branch-clause-at_once
+returns-then-not-branch-clause-at_once g c = busy-at_once _ _ _ _ c.args.self.now _ c.in_ok-check_change.ensures.ok c.if-length-eq0.false
+
+pub returns-then-not-branch-clause-refused : goal.returns-then-not-branch-clause-refused
+returns-then-not-branch-clause-refused g c =
+    writing-outdated _ _ _ _ c.args.self.now _ (above-none _ c.if-length-eq0.false) (λ safe. c.in_ok-is_mapped_at.ensures.no safe.seen c.if-not-branch.true)
+
+pub returns-then-not-branch-clause-spares : goal.returns-then-not-branch-clause-spares
+returns-then-not-branch-clause-spares g c = λ e. absurd (cc e)
+
+pub returns-then-not-branch-clause-file : goal.returns-then-not-branch-clause-file
+returns-then-not-branch-clause-file g c = λ _. same-mixed _ _ _ _ c.in_ok-is_mapped_at.ensures.keeps.tables.kept.bytes
+
+pub returns-in_err-write_at-clause-at_once : goal.returns-in_err-write_at-clause-at_once
+returns-in_err-write_at-clause-at_once g c = busy-at_once _ _ _ _ c.args.self.now _ c.in_ok-check_change.ensures.ok c.if-length-eq0.false
+
+pub returns-clause-at_once : goal.returns-clause-at_once
+returns-clause-at_once g c = busy-at_once _ _ _ _ c.args.self.now _ c.in_ok-check_change.ensures.ok c.if-length-eq0.false
+
+pub returns-clause-refused : goal.returns-clause-refused
+returns-clause-refused g c = writing-done _ _ _ _ _ _
+
+pub returns-clause-spares : goal.returns-clause-spares
+returns-clause-spares g c = tt
