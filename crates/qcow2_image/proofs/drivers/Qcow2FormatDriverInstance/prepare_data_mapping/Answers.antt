@@ -1,4 +1,4 @@
-use Rattle.std.proofs.Common.{◌≡◌, ℕ, ◌∙◌, Option, Some, None, Ok, Err, List, arith, rules}
+use Rattle.std.proofs.Common.{◌≡◌, refl, ℕ, ◌∙◌, Option, Some, None, Ok, Err, List, arith, rules}
 use Rattle.std.specs.Prelude.{⊤}
 use Rattle.imago_storage.specs.State.{StorageState}
 use Rattle.imago_storage.specs.declared.fault.Fault.{Fault}
@@ -14,6 +14,8 @@ use Rattle.qcow2_image.proofs.Preparations.DriverPreparations.{fresh-cut, fresh-
 use Rattle.qcow2_image.proofs.Preparations.RunPreparations.{part-why, prepares-mapped, prepares-refused}
 use Rattle.qcow2_image.proofs.Preparations.Reservations.{fresh-lacks, prepared-behind}
 use Rattle.qcow2_alloc.proofs.Faults.{handed-on}
+use Rattle.qcow2_image.specs.contracts.qcow2.Qcow2Seen.TheImpl.{ghosts}
+use Rattle.qcow2_image.proofs.CallsWithoutChanges.{failed-barrier, failed-refusal, empty-refusal, failed-at_once, idle-at_once, refused-at_once, busy-at_once, busy-neither, prepares-failed}
 use Rattle.qcow2_image.proofs.drivers.Qcow2FormatDriverInstance.prepare_data_mapping.Goals as goal
 use Rattle.qcow2_image.proofs.LeaksByFile.{leaks-kept}
 
@@ -197,3 +199,118 @@ returns-in-None-clause-leaks g c =
     let looked = rw c.in-None.is at c.in_ok-place.ensures.keeps in
     let fresh = prepared-behind st {T = Option (ℕ × ℕ)} u asked c.args.self.now c.home_run.new.self x None looked c.prepare_fresh.result c.prepare_fresh.new.self y c.prepare_fresh.ensures in
     λ safe whole. fresh.prepares.leaks safe (unspent-none st c.args.self.now.unspent c.requires.free) whole
+
+pub returns-then-self-clause-run : goal.returns-then-self-clause-run
+returns-then-self-clause-run g c = tt
+
+pub returns-then-self-clause-mine : goal.returns-then-self-clause-mine
+returns-then-self-clause-mine g c = tt
+
+pub returns-then-self-clause-empty : goal.returns-then-self-clause-empty
+returns-then-self-clause-empty g c = λ _. tt
+
+pub returns-then-self-clause-size : goal.returns-then-self-clause-size
+returns-then-self-clause-size g c = refl
+
+pub returns-then-self-clause-free : goal.returns-then-self-clause-free
+returns-then-self-clause-free g c = λ _. c.requires.free
+
+pub returns-then-self-clause-does : goal.returns-then-self-clause-does
+returns-then-self-clause-does g c = prepares-failed _ _ _ c.args.self.now _ (failed-barrier (layer_of g.S.Storage c.args.self.now) c.if-self.true)
+
+pub returns-then-self-clause-at_once : goal.returns-then-self-clause-at_once
+returns-then-self-clause-at_once g c = failed-at_once _ _ _ c.args.self.now (failed-barrier (layer_of g.S.Storage c.args.self.now) c.if-self.true) (failed-refusal (layer_of g.S.Storage c.args.self.now) _ _ c.if-self.true)
+
+pub returns-then-self-clause-unread : goal.returns-then-self-clause-unread
+returns-then-self-clause-unread g c = λ _. refl
+
+pub returns-then-self-clause-whole : goal.returns-then-self-clause-whole
+returns-then-self-clause-whole g c = λ _. tt
+
+pub returns-then-self-clause-part : goal.returns-then-self-clause-part
+returns-then-self-clause-part g c = tt
+
+pub returns-then-self-clause-reaches : goal.returns-then-self-clause-reaches
+returns-then-self-clause-reaches g c = tt
+
+pub returns-then-self-clause-limit : goal.returns-then-self-clause-limit
+returns-then-self-clause-limit g c = λ _ n is. absurd (cc is)
+
+pub returns-then-self-clause-full : goal.returns-then-self-clause-full
+returns-then-self-clause-full g c = λ _ _ n is. absurd (cc is)
+
+pub returns-then-self-clause-leaks : goal.returns-then-self-clause-leaks
+returns-then-self-clause-leaks g c = λ _ _ _. refl
+
+pub returns-then-length-eq0-clause-size : goal.returns-then-length-eq0-clause-size
+returns-then-length-eq0-clause-size g c = refl
+
+pub returns-then-length-eq0-clause-free : goal.returns-then-length-eq0-clause-free
+returns-then-length-eq0-clause-free g c = λ _. c.requires.free
+
+pub returns-then-length-eq0-clause-at_once : goal.returns-then-length-eq0-clause-at_once
+returns-then-length-eq0-clause-at_once g c = idle-at_once _ _ _ _ c.args.self.now (empty-refusal (layer_of g.S.Storage c.args.self.now) _ _ c.if-self.false refl c.if-length-eq0.true)
+
+pub returns-then-length-eq0-clause-unread : goal.returns-then-length-eq0-clause-unread
+returns-then-length-eq0-clause-unread g c = λ _. refl
+
+pub returns-then-length-eq0-clause-limit : goal.returns-then-length-eq0-clause-limit
+returns-then-length-eq0-clause-limit g c = λ _. tt
+
+pub returns-then-length-eq0-clause-full : goal.returns-then-length-eq0-clause-full
+returns-then-length-eq0-clause-full g c = λ _ _. tt
+
+pub returns-then-length-eq0-clause-leaks : goal.returns-then-length-eq0-clause-leaks
+returns-then-length-eq0-clause-leaks g c = λ _ _ _. refl
+
+pub returns-in_err-check_change-clause-run : goal.returns-in_err-check_change-clause-run
+returns-in_err-check_change-clause-run g c = rw (handed-on _ _ c.from_residual.ensures.1) tt
+
+pub returns-in_err-check_change-clause-mine : goal.returns-in_err-check_change-clause-mine
+returns-in_err-check_change-clause-mine g c = rw (handed-on _ _ c.from_residual.ensures.1) tt
+
+pub returns-in_err-check_change-clause-empty : goal.returns-in_err-check_change-clause-empty
+returns-in_err-check_change-clause-empty g c = rw (handed-on _ _ c.from_residual.ensures.1) (λ _. tt)
+
+pub returns-in_err-check_change-clause-size : goal.returns-in_err-check_change-clause-size
+returns-in_err-check_change-clause-size g c = refl
+
+pub returns-in_err-check_change-clause-free : goal.returns-in_err-check_change-clause-free
+returns-in_err-check_change-clause-free g c = λ _. c.requires.free
+
+pub returns-in_err-check_change-clause-at_once : goal.returns-in_err-check_change-clause-at_once
+returns-in_err-check_change-clause-at_once g c = rw (handed-on _ _ c.from_residual.ensures.1) (
+    refused-at_once _ _ _ c.in_err-check_change.field-0.0 c.args.self.now c.in_err-check_change.ensures.err c.if-length-eq0.false)
+
+pub returns-in_err-check_change-clause-unread : goal.returns-in_err-check_change-clause-unread
+returns-in_err-check_change-clause-unread g c = λ _. refl
+
+pub returns-in_err-check_change-clause-whole : goal.returns-in_err-check_change-clause-whole
+returns-in_err-check_change-clause-whole g c = rw (handed-on _ _ c.from_residual.ensures.1) (λ _. tt)
+
+pub returns-in_err-check_change-clause-part : goal.returns-in_err-check_change-clause-part
+returns-in_err-check_change-clause-part g c = rw (handed-on _ _ c.from_residual.ensures.1) tt
+
+pub returns-in_err-check_change-clause-reaches : goal.returns-in_err-check_change-clause-reaches
+returns-in_err-check_change-clause-reaches g c = rw (handed-on _ _ c.from_residual.ensures.1) tt
+
+pub returns-in_err-check_change-clause-leaks : goal.returns-in_err-check_change-clause-leaks
+returns-in_err-check_change-clause-leaks g c = λ _ _ _. refl
+
+pub returns-in_err-place-clause-at_once : goal.returns-in_err-place-clause-at_once
+returns-in_err-place-clause-at_once g c = busy-at_once _ _ _ _ c.args.self.now _ c.in_ok-check_change.ensures.ok c.if-length-eq0.false
+
+pub returns-in_err-place-clause-unread : goal.returns-in_err-place-clause-unread
+returns-in_err-place-clause-unread g c = λ _. refl
+
+pub returns-in-Some-clause-at_once : goal.returns-in-Some-clause-at_once
+returns-in-Some-clause-at_once g c = busy-at_once _ _ _ _ c.args.self.now _ c.in_ok-check_change.ensures.ok c.if-length-eq0.false
+
+pub returns-in-Some-clause-unread : goal.returns-in-Some-clause-unread
+returns-in-Some-clause-unread g c = λ _. refl
+
+pub returns-in-None-clause-at_once : goal.returns-in-None-clause-at_once
+returns-in-None-clause-at_once g c = busy-at_once _ _ _ _ c.args.self.now _ c.in_ok-check_change.ensures.ok c.if-length-eq0.false
+
+pub returns-in-None-clause-unread : goal.returns-in-None-clause-unread
+returns-in-None-clause-unread g c = λ h. absurd (busy-neither (ghosts g.row.S g.S.Storage g.S.Storage-dict g.S.Destruct-dict) _ _ c.in_ok-check_change.ensures.ok c.if-length-eq0.false h)
