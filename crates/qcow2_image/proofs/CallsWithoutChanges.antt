@@ -34,7 +34,8 @@ failed-refusal layer offset n failed = rw failed refl
 pub runs-barrier : (layer : Layer) → layer.failed ≡ false → layer.fixed.missing ≡ false → barrier layer ≡ None
 runs-barrier layer runs there = rw (runs, there) refl
 
-pub empty-refusal : (layer : Layer) (offset n : ℕ) → layer.failed ≡ false → layer.fixed.missing ≡ false → n ≡ 0 → own_refusal layer offset n ≡ None
+pub empty-refusal : (layer : Layer) (offset n : ℕ) → layer.failed ≡ false → layer.fixed.missing ≡ false → n ≡ 0
+    → own_refusal layer offset n ≡ None
 empty-refusal layer offset n runs there none = rw (runs, there, none) refl
 
 pub failed-runs : (layer : Layer) → layer.failed ≡ true → barrier layer ≡ None → ⊥
@@ -65,7 +66,8 @@ pub told-some : (n : ℕ) (told : Bool) → told ≡ eqb n 0 → told ≡ false 
 told-some zero told is said none = let other : told ≡ true = is in absurd (cc (other, said))
 told-some (suc n) told is said none = absurd (cc none)
 
-pub empty-run : (offset size asked : ℕ) → offset < size → asked ≡ 0 → (offset < size) × (0 ≤ asked) × (offset + 0 ≤ size) × (0 < asked → 0 < 0)
+pub empty-run : (offset size asked : ℕ) → offset < size → asked ≡ 0 → (offset < size) × (0 ≤ asked) × (offset + 0 ≤ size) × (0 < asked
+    → 0 < 0)
 empty-run offset size asked inside none = (inside, omega (arith), omega (arith, inside), λ some. absurd (not-some some none))
 
 module _ {D St : Type 0} (g : Ghosts D St) where
@@ -77,7 +79,8 @@ module _ {D St : Type 0} (g : Ghosts D St) where
       passes_none (Left below (g.layer d) (g.image d).bytes g.sound least most gives) (g.image d) (g.image d) refl (refl, refl, refl, refl)
 
   -- What a call does at once: of a driver that has failed, and where it has nothing to do.
-  pub failed-at_once : {T : Type 0} (refusal : Option Fault) (nothing : Type 0) (d : D) → barrier (g.layer d) ≡ Some Failed → refusal ≡ Some Failed
+  pub failed-at_once : {T : Type 0} (refusal : Option Fault) (nothing : Type 0) (d : D) → barrier (g.layer d) ≡ Some Failed
+      → refusal ≡ Some Failed
       → AtOnce {T = T} g refusal nothing (Err Failed) d d
   failed-at_once refusal nothing d barred is = record {
     refused = λ f told. let same : Some Failed ≡ Some f = sym is ∙ told in cc same;
@@ -85,7 +88,8 @@ module _ {D St : Type 0} (g : Ghosts D St) where
     unchanged = λ h. unchanged_same g d;
   }
 
-  pub idle-at_once : {T : Type 0} (refusal : Option Fault) (nothing : Type 0) (v : T) (d : D) → refusal ≡ None → AtOnce g refusal nothing (Ok v) d d
+  pub idle-at_once : {T : Type 0} (refusal : Option Fault) (nothing : Type 0) (v : T) (d : D) → refusal ≡ None
+      → AtOnce g refusal nothing (Ok v) d d
   idle-at_once refusal nothing v d is = record {
     refused = λ f told. absurd (cc (told, is));
     idle = λ none runs. refl;
@@ -101,7 +105,8 @@ module _ {D St : Type 0} (g : Ghosts D St) where
   }
 
   -- a call that isn't refused at once and has something to do may do anything
-  pub busy-at_once : {T : Type 0} (refusal : Option Fault) (nothing : Type 0) (r : Result T Fault) (old new : D) → refusal ≡ None → (nothing → ⊥)
+  pub busy-at_once : {T : Type 0} (refusal : Option Fault) (nothing : Type 0) (r : Result T Fault) (old new : D) → refusal ≡ None
+      → (nothing → ⊥)
       → AtOnce g refusal nothing r old new
   busy-at_once refusal nothing r old new is busy = record {
     refused = λ f told. absurd (cc (told, is));
@@ -113,7 +118,8 @@ module _ {D St : Type 0} (g : Ghosts D St) where
   busy-neither refusal nothing is busy h = elim h [ inl none ↦ busy none | inr some ↦ absurd (cc (some, is)) ]
 
   -- What a resize does at once.
-  pub resizes-failed : (first second : ℕ) (d : D) → IsFree (g.layer d) → barrier (g.layer d) ≡ Some Failed → Resizes g first second (Err Failed) d d
+  pub resizes-failed : (first second : ℕ) (d : D) → IsFree (g.layer d) → barrier (g.layer d) ≡ Some Failed
+      → Resizes g first second (Err Failed) d d
   resizes-failed first second d free barred = record {
     nothing = λ le. tt;
     free = free;
@@ -121,7 +127,8 @@ module _ {D St : Type 0} (g : Ghosts D St) where
     read_only = λ runs lt closed. absurd (cc (runs, barred));
   }
 
-  pub resizes-idle : (first second : ℕ) (d : D) → IsFree (g.layer d) → barrier (g.layer d) ≡ None → first ≤ second → Resizes g first second (Ok tt) d d
+  pub resizes-idle : (first second : ℕ) (d : D) → IsFree (g.layer d) → barrier (g.layer d) ≡ None → first ≤ second
+      → Resizes g first second (Ok tt) d d
   resizes-idle first second d free runs le = record {
     nothing = λ _. refl;
     free = free;

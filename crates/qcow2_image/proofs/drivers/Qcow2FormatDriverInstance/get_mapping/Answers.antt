@@ -50,7 +50,9 @@ pub returns-then-self-clause-there : goal.returns-then-self-clause-there
 returns-then-self-clause-there g c = tt
 
 pub returns-then-self-clause-at_once : goal.returns-then-self-clause-at_once
-returns-then-self-clause-at_once g c = failed-at_once _ _ _ c.args.self.now (failed-barrier (layer_of g.S.Storage c.args.self.now) c.if-self.true) (failed-barrier (layer_of g.S.Storage c.args.self.now) c.if-self.true)
+returns-then-self-clause-at_once g c =
+    failed-at_once _ _ _ c.args.self.now (failed-barrier (layer_of g.S.Storage c.args.self.now) c.if-self.true)
+    (failed-barrier (layer_of g.S.Storage c.args.self.now) c.if-self.true)
 
 pub returns-then-self-clause-looked : goal.returns-then-self-clause-looked
 returns-then-self-clause-looked g c = looked_same _ ⊤ c.args.self.now
@@ -95,7 +97,8 @@ pub returns-then-offset-size-clause-there : goal.returns-then-offset-size-clause
 returns-then-offset-size-clause-there g c = tt
 
 pub returns-then-offset-size-clause-at_once : goal.returns-then-offset-size-clause-at_once
-returns-then-offset-size-clause-at_once g c = idle-at_once _ _ _ _ c.args.self.now (runs-barrier (layer_of g.S.Storage c.args.self.now) c.if-self.false refl)
+returns-then-offset-size-clause-at_once g c =
+    idle-at_once _ _ _ _ c.args.self.now (runs-barrier (layer_of g.S.Storage c.args.self.now) c.if-self.false refl)
 
 pub returns-then-offset-size-clause-looked : goal.returns-then-offset-size-clause-looked
 returns-then-offset-size-clause-looked g c = looked_same _ ⊤ c.args.self.now
@@ -119,13 +122,15 @@ pub returns-then-offset-size-clause-reads : goal.returns-then-offset-size-clause
 returns-then-offset-size-clause-reads g c = kept_all_same (g.S.Storage.state c.args.self.now.tables.file.image ∷ [])
 
 pub returns-then-offset-size-clause-entry : goal.returns-then-offset-size-clause-entry
-returns-then-offset-size-clause-entry g c = λ _ inside _. absurd (not-inside inside (subst (λ (n : ℕ). n ≤ c.args.offset) c.size-size.ensures c.if-offset-size.true))
+returns-then-offset-size-clause-entry g c =
+    λ _ inside _. absurd (not-inside inside (subst (λ (n : ℕ). n ≤ c.args.offset) c.size-size.ensures c.if-offset-size.true))
 
 pub returns-then-offset-size-clause-leaks : goal.returns-then-offset-size-clause-leaks
 returns-then-offset-size-clause-leaks g c = λ _. refl
 
 pub returns-then-max_length-eq0-clause-run : goal.returns-then-max_length-eq0-clause-run
-returns-then-max_length-eq0-clause-run g c = empty-run _ _ _ (subst (λ (n : ℕ). c.args.offset < n) c.size-size.ensures c.if-offset-size.false) c.if-max_length-eq0.true
+returns-then-max_length-eq0-clause-run g c =
+    empty-run _ _ _ (subst (λ (n : ℕ). c.args.offset < n) c.size-size.ensures c.if-offset-size.false) c.if-max_length-eq0.true
 
 pub returns-then-max_length-eq0-clause-looks : goal.returns-then-max_length-eq0-clause-looks
 returns-then-max_length-eq0-clause-looks g c = λ _. record {
@@ -144,7 +149,8 @@ pub returns-then-max_length-eq0-clause-there : goal.returns-then-max_length-eq0-
 returns-then-max_length-eq0-clause-there g c = tt
 
 pub returns-then-max_length-eq0-clause-at_once : goal.returns-then-max_length-eq0-clause-at_once
-returns-then-max_length-eq0-clause-at_once g c = idle-at_once _ _ _ _ c.args.self.now (runs-barrier (layer_of g.S.Storage c.args.self.now) c.if-self.false refl)
+returns-then-max_length-eq0-clause-at_once g c =
+    idle-at_once _ _ _ _ c.args.self.now (runs-barrier (layer_of g.S.Storage c.args.self.now) c.if-self.false refl)
 
 pub returns-then-max_length-eq0-clause-looked : goal.returns-then-max_length-eq0-clause-looked
 returns-then-max_length-eq0-clause-looked g c = looked_same _ ⊤ c.args.self.now
@@ -195,4 +201,6 @@ pub returns-clause-reads : goal.returns-clause-reads
 returns-clause-reads g c = let t = c.run_from.ensures.keeps.tables in ((t.kept, t.later.faults), tt)
 
 pub returns-clause-at_once : goal.returns-clause-at_once
-returns-clause-at_once g c = busy-at_once _ _ _ _ c.args.self.now _ (runs-barrier (layer_of g.S.Storage c.args.self.now) c.if-self.false refl) c.if-max_length-eq0.false
+returns-clause-at_once g c =
+    busy-at_once _ _ _ _ c.args.self.now _
+    (runs-barrier (layer_of g.S.Storage c.args.self.now) c.if-self.false refl) c.if-max_length-eq0.false

@@ -216,10 +216,13 @@ pub returns-then-self-clause-free : goal.returns-then-self-clause-free
 returns-then-self-clause-free g c = λ _. c.requires.free
 
 pub returns-then-self-clause-does : goal.returns-then-self-clause-does
-returns-then-self-clause-does g c = prepares-failed _ _ _ c.args.self.now _ (failed-barrier (layer_of g.S.Storage c.args.self.now) c.if-self.true)
+returns-then-self-clause-does g c =
+    prepares-failed _ _ _ c.args.self.now _ (failed-barrier (layer_of g.S.Storage c.args.self.now) c.if-self.true)
 
 pub returns-then-self-clause-at_once : goal.returns-then-self-clause-at_once
-returns-then-self-clause-at_once g c = failed-at_once _ _ _ c.args.self.now (failed-barrier (layer_of g.S.Storage c.args.self.now) c.if-self.true) (failed-refusal (layer_of g.S.Storage c.args.self.now) _ _ c.if-self.true)
+returns-then-self-clause-at_once g c =
+    failed-at_once _ _ _ c.args.self.now (failed-barrier (layer_of g.S.Storage c.args.self.now) c.if-self.true)
+    (failed-refusal (layer_of g.S.Storage c.args.self.now) _ _ c.if-self.true)
 
 pub returns-then-self-clause-unread : goal.returns-then-self-clause-unread
 returns-then-self-clause-unread g c = λ _. refl
@@ -249,7 +252,9 @@ pub returns-then-length-eq0-clause-free : goal.returns-then-length-eq0-clause-fr
 returns-then-length-eq0-clause-free g c = λ _. c.requires.free
 
 pub returns-then-length-eq0-clause-at_once : goal.returns-then-length-eq0-clause-at_once
-returns-then-length-eq0-clause-at_once g c = idle-at_once _ _ _ _ c.args.self.now (empty-refusal (layer_of g.S.Storage c.args.self.now) _ _ c.if-self.false refl c.if-length-eq0.true)
+returns-then-length-eq0-clause-at_once g c =
+    idle-at_once _ _ _ _ c.args.self.now
+    (empty-refusal (layer_of g.S.Storage c.args.self.now) _ _ c.if-self.false refl c.if-length-eq0.true)
 
 pub returns-then-length-eq0-clause-unread : goal.returns-then-length-eq0-clause-unread
 returns-then-length-eq0-clause-unread g c = λ _. refl
@@ -313,4 +318,6 @@ pub returns-in-None-clause-at_once : goal.returns-in-None-clause-at_once
 returns-in-None-clause-at_once g c = busy-at_once _ _ _ _ c.args.self.now _ c.in_ok-check_change.ensures.ok c.if-length-eq0.false
 
 pub returns-in-None-clause-unread : goal.returns-in-None-clause-unread
-returns-in-None-clause-unread g c = λ h. absurd (busy-neither (ghosts g.row.S g.S.Storage g.S.Storage-dict g.S.Destruct-dict) _ _ c.in_ok-check_change.ensures.ok c.if-length-eq0.false h)
+returns-in-None-clause-unread g c =
+    λ h. absurd
+    (busy-neither (ghosts g.row.S g.S.Storage g.S.Storage-dict g.S.Destruct-dict) _ _ c.in_ok-check_change.ensures.ok c.if-length-eq0.false h)

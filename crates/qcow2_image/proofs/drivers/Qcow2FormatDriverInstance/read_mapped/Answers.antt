@@ -1,7 +1,6 @@
-use Rattle.std.proofs.Common.{ap, sym, subst, ◌∙◌, length, refl, Result}
+use Rattle.std.proofs.Common.{ap, sym, ◌∙◌, length, refl, Result}
 use Rattle.std.specs.Prelude.{⊤}
 use Rattle.imago_storage.specs.declared.fault.Fault.{Fault}
-use Rattle.imago_access.specs.Files.{WasNotCutOff}
 use Rattle.qcow2_image.specs.declared.qcow2.Qcow2.{Qcow2}
 use Rattle.qcow2_image.specs.Steps.{KeepsImage, failed_behind, failed_by}
 use Rattle.qcow2_image.proofs.Leaks.{leaks-asked}
@@ -69,7 +68,9 @@ pub returns-then-self-clause-bytes : goal.returns-then-self-clause-bytes
 returns-then-self-clause-bytes g c = tt
 
 pub returns-then-self-clause-at_once : goal.returns-then-self-clause-at_once
-returns-then-self-clause-at_once g c = failed-at_once _ _ _ c.args.self.now (failed-barrier (layer_of g.S.Storage c.args.self.now) c.if-self.true) (failed-barrier (layer_of g.S.Storage c.args.self.now) c.if-self.true)
+returns-then-self-clause-at_once g c =
+    failed-at_once _ _ _ c.args.self.now (failed-barrier (layer_of g.S.Storage c.args.self.now) c.if-self.true)
+    (failed-barrier (layer_of g.S.Storage c.args.self.now) c.if-self.true)
 
 pub returns-then-self-clause-looked : goal.returns-then-self-clause-looked
 returns-then-self-clause-looked g c = looked_same _ ⊤ c.args.self.now
@@ -96,7 +97,8 @@ pub returns-then-self-clause-marked : goal.returns-then-self-clause-marked
 returns-then-self-clause-marked g c = refl
 
 pub returns-then-storage-ne0-clause-at_once : goal.returns-then-storage-ne0-clause-at_once
-returns-then-storage-ne0-clause-at_once g c = idle-at_once _ _ _ _ c.args.self.now (runs-barrier (layer_of g.S.Storage c.args.self.now) c.if-self.false refl)
+returns-then-storage-ne0-clause-at_once g c =
+    idle-at_once _ _ _ _ c.args.self.now (runs-barrier (layer_of g.S.Storage c.args.self.now) c.if-self.false refl)
 
 pub returns-then-storage-ne0-clause-looked : goal.returns-then-storage-ne0-clause-looked
 returns-then-storage-ne0-clause-looked g c = looked_same _ ⊤ c.args.self.now
@@ -120,7 +122,8 @@ pub returns-then-storage-ne0-clause-marked : goal.returns-then-storage-ne0-claus
 returns-then-storage-ne0-clause-marked g c = refl
 
 pub returns-then-is_empty-clause-at_once : goal.returns-then-is_empty-clause-at_once
-returns-then-is_empty-clause-at_once g c = idle-at_once _ _ _ _ c.args.self.now (runs-barrier (layer_of g.S.Storage c.args.self.now) c.if-self.false refl)
+returns-then-is_empty-clause-at_once g c =
+    idle-at_once _ _ _ _ c.args.self.now (runs-barrier (layer_of g.S.Storage c.args.self.now) c.if-self.false refl)
 
 pub returns-then-is_empty-clause-looked : goal.returns-then-is_empty-clause-looked
 returns-then-is_empty-clause-looked g c = looked_same _ ⊤ c.args.self.now

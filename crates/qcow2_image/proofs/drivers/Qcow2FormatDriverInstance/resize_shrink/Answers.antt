@@ -13,7 +13,8 @@ pub returns-then-self-clause-shrinks : goal.returns-then-self-clause-shrinks
 returns-then-self-clause-shrinks g c = shrinks-refused _ _ _ _
 
 pub returns-then-self-clause-refused : goal.returns-then-self-clause-refused
-returns-then-self-clause-refused g c = shrink-failed _ _ c.args.self.now (failed-barrier (layer_of g.S.Storage c.args.self.now) c.if-self.true)
+returns-then-self-clause-refused g c =
+    shrink-failed _ _ c.args.self.now (failed-barrier (layer_of g.S.Storage c.args.self.now) c.if-self.true)
 
 pub returns-then-self-clause-same : goal.returns-then-self-clause-same
 returns-then-self-clause-same g c = refl
@@ -43,7 +44,8 @@ returns-clause-shrinks g c = shrinks-refused _ _ _ _
 
 pub returns-clause-refused : goal.returns-clause-refused
 returns-clause-refused g c = rw c.resize_refusal.ensures (
-    shrink-declined _ _ c.args.self.now.mode.writable c.args.self.now refl (subst (λ (n : ℕ). c.args.size < n) c.size.ensures c.if-size.false) (λ below safe. tt))
+    shrink-declined _ _ c.args.self.now.mode.writable c.args.self.now refl
+    (subst (λ (n : ℕ). c.args.size < n) c.size.ensures c.if-size.false) (λ below safe. tt))
 
 pub returns-clause-same : goal.returns-clause-same
 returns-clause-same g c = refl

@@ -147,10 +147,13 @@ pub returns-then-self-clause-writes : goal.returns-then-self-clause-writes
 returns-then-self-clause-writes g c = writes-refused _ _ _ _ _ c.args.self.now
 
 pub returns-then-self-clause-at_once : goal.returns-then-self-clause-at_once
-returns-then-self-clause-at_once g c = failed-at_once _ _ _ c.args.self.now (failed-barrier (layer_of g.S.Storage c.args.self.now) c.if-self.true) (failed-refusal (layer_of g.S.Storage c.args.self.now) _ _ c.if-self.true)
+returns-then-self-clause-at_once g c =
+    failed-at_once _ _ _ c.args.self.now (failed-barrier (layer_of g.S.Storage c.args.self.now) c.if-self.true)
+    (failed-refusal (layer_of g.S.Storage c.args.self.now) _ _ c.if-self.true)
 
 pub returns-then-self-clause-refused : goal.returns-then-self-clause-refused
-returns-then-self-clause-refused g c = writing-failed _ _ _ _ c.args.self.now (failed-barrier (layer_of g.S.Storage c.args.self.now) c.if-self.true)
+returns-then-self-clause-refused g c =
+    writing-failed _ _ _ _ c.args.self.now (failed-barrier (layer_of g.S.Storage c.args.self.now) c.if-self.true)
 
 pub returns-then-self-clause-spares : goal.returns-then-self-clause-spares
 returns-then-self-clause-spares g c = λ _. inl refl
@@ -165,7 +168,9 @@ pub returns-then-length-eq0-clause-writes : goal.returns-then-length-eq0-clause-
 returns-then-length-eq0-clause-writes g c = writes-nothing _ _ _ _ c.args.self.now c.if-length-eq0.true
 
 pub returns-then-length-eq0-clause-at_once : goal.returns-then-length-eq0-clause-at_once
-returns-then-length-eq0-clause-at_once g c = idle-at_once _ _ _ _ c.args.self.now (empty-refusal (layer_of g.S.Storage c.args.self.now) _ _ c.if-self.false refl c.if-length-eq0.true)
+returns-then-length-eq0-clause-at_once g c =
+    idle-at_once _ _ _ _ c.args.self.now
+    (empty-refusal (layer_of g.S.Storage c.args.self.now) _ _ c.if-self.false refl c.if-length-eq0.true)
 
 pub returns-then-length-eq0-clause-refused : goal.returns-then-length-eq0-clause-refused
 returns-then-length-eq0-clause-refused g c = writing-done _ _ _ _ _ _
@@ -180,7 +185,8 @@ pub returns-then-length-eq0-clause-leaks : goal.returns-then-length-eq0-clause-l
 returns-then-length-eq0-clause-leaks g c = λ _ _ _. refl
 
 pub returns-in_err-check_change-clause-writes : goal.returns-in_err-check_change-clause-writes
-returns-in_err-check_change-clause-writes g c = rw (handed-on _ _ c.from_residual.ensures.1) (writes-refused _ _ _ _ c.in_err-check_change.field-0.0 c.args.self.now)
+returns-in_err-check_change-clause-writes g c =
+    rw (handed-on _ _ c.from_residual.ensures.1) (writes-refused _ _ _ _ c.in_err-check_change.field-0.0 c.args.self.now)
 
 pub returns-in_err-check_change-clause-at_once : goal.returns-in_err-check_change-clause-at_once
 returns-in_err-check_change-clause-at_once g c = rw (handed-on _ _ c.from_residual.ensures.1) (
@@ -196,7 +202,8 @@ pub returns-in_err-check_change-clause-leaks : goal.returns-in_err-check_change-
 returns-in_err-check_change-clause-leaks g c = λ _ _ _. refl
 
 pub returns-in_err-is_mapped_at-clause-at_once : goal.returns-in_err-is_mapped_at-clause-at_once
-returns-in_err-is_mapped_at-clause-at_once g c = busy-at_once _ _ _ _ c.args.self.now _ c.in_ok-check_change.ensures.ok c.if-length-eq0.false
+returns-in_err-is_mapped_at-clause-at_once g c =
+    busy-at_once _ _ _ _ c.args.self.now _ c.in_ok-check_change.ensures.ok c.if-length-eq0.false
 
 pub returns-in_err-is_mapped_at-clause-file : goal.returns-in_err-is_mapped_at-clause-file
 returns-in_err-is_mapped_at-clause-file g c = λ _. same-mixed _ _ _ _ c.in_err-is_mapped_at.ensures.keeps.tables.kept.bytes

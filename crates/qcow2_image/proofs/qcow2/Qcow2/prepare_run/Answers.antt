@@ -104,7 +104,8 @@ pub kept_at-requires-clause-runs : goal.kept_at-requires-clause-runs
 kept_at-requires-clause-runs g c = c.in_ok-content.ensures.keeps.failed ∙ c.requires.runs
 
 pub reserve-requires-clause-near : goal.reserve-requires-clause-near
-reserve-requires-clause-near g c = rw (ap (λ (H : Header). H.fields.cluster_bits) c.in_ok-kept.ensures.keeps.tables.header) c.in_ok-kept.ensures.reach
+reserve-requires-clause-near g c =
+    rw (ap (λ (H : Header). H.fields.cluster_bits) c.in_ok-kept.ensures.keeps.tables.header) c.in_ok-kept.ensures.reach
 
 pub reserve-requires-clause-any : goal.reserve-requires-clause-any
 reserve-requires-clause-any g c = c.requires.any
