@@ -109,9 +109,10 @@ module _ (base base' : List ℕ) (requests requests' : List Request) (n n' : ℕ
   forgotten-resize_refused fault = forgotten (λ a b. ResizeRefused a b fault) (λ a b. ResizeRefused a b fault) (unless base requests n s s' _ _ (not_resized base requests n s s') fault)
 
 pub replayed-same : (base base' : List ℕ) (requests requests' : List Request) → base' ≡ base → requests' ≡ requests → (replay base' requests' ≡ replay base requests) × (files_before base' requests' ≡ files_before base requests)
-replayed-same base base' requests requests' same_base same_requests =
-    (ap (λ (b : List ℕ). replay b requests') same_base ∙ ap (replay base) same_requests,
-    ap (λ (b : List ℕ). files_before b requests') same_base ∙ ap (files_before base) same_requests)
+replayed-same base base' requests requests' same_base same_requests = (
+  ap (λ (b : List ℕ). replay b requests') same_base ∙ ap (replay base) same_requests,
+  ap (λ (b : List ℕ). files_before b requests') same_base ∙ ap (files_before base) same_requests,
+)
 
 -- What a refusal of the inner storage counts.
 
