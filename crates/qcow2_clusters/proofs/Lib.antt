@@ -14,8 +14,12 @@ pub mod ZeroClusterFills
 pub mod LoneTables
 pub mod ClusterNames
 pub mod RunNames
+pub mod ClearedWords
+pub mod ClearedRuns
 pub mod FewerWaiting
+pub mod SettingAtRest
 pub mod NamesAtRest
+pub mod ClearsAtRest
 pub mod TableNames
 pub mod TableCreation
 pub mod TableCopies

@@ -1,523 +1,120 @@
--- How guest clusters in a row come to name clusters in a row that were reserved, or kept for them: the search of their table, their words,
--- and what is written then.
-use Rattle.std.proofs.Common.{◌≡◌, ◌≢◌, ℕ, ◌+◌, ◌-◌, ◌*◌, ◌/◌, ◌%◌, ◌<◌, ◌≤◌, refl, arith, ap, sym, subst, ◌∙◌, true, List, length, Result, Ok, Err, inl, inr}
-use Rattle.std.specs.Prelude.{⊤, ◌++◌, IfErr, IsTrue, OnOk}
-use Rattle.std.specs.List.{AllByRecursion}
+-- How guest clusters in a row come to name clusters in a row that were reserved, or kept for them.
+use Rattle.std.proofs.Common.{◌≡◌, ◌≢◌, ℕ, ◌+◌, ◌-◌, ◌*◌, ◌/◌, ◌%◌, ◌<◌, ◌≤◌, refl, arith, ap, subst, inl, inr, true, Result, Ok, Err}
+use Rattle.std.specs.Prelude.{◌⊎◌, OnOk}
 use Rattle.imago_storage.specs.State.{StorageState}
-use Rattle.imago_storage.specs.Calls.{IsFaultless, Later}
 use Rattle.imago_storage.specs.declared.fault.Fault.{Fault}
 use Rattle.imago_storage.specs.declared.fault.Fault.TheVariants.{Memory}
-use Rattle.imago_storage.proofs.Composing.{keeps_on, later_both}
-use Rattle.qcow2_types.specs.Bytes.{Bytes, bytes_of}
-use Rattle.qcow2_types.specs.Entries.{entry}
-use Rattle.qcow2_types.specs.Header.{Header, cluster_size, words_of_cluster}
-use Rattle.qcow2_types.specs.Pending.{FreeEntry}
-use Rattle.qcow2_types.specs.Words.{data_at}
 use Rattle.qcow2_types.specs.Frames.{Same}
-use Rattle.qcow2_types.specs.References.{meets, structure}
+use Rattle.qcow2_types.specs.Header.{cluster_size, layout_of, words_of_cluster}
+use Rattle.qcow2_types.specs.Words.{Layout, data_at}
 use Rattle.qcow2_metadata.specs.Places.{IsInReach}
 use Rattle.qcow2_metadata.specs.Tables.{TableValue, table_in}
+use Rattle.qcow2_alloc.specs.declared.cache.CacheDependency.{CacheDependency}
 use Rattle.qcow2_alloc.specs.declared.cache.MetadataCaches.{MetadataCaches}
 use Rattle.qcow2_alloc.specs.declared.file.ImageFile.{ImageFile}
-use Rattle.qcow2_alloc.specs.Allocators.{TableUsed, UsesTable, metadata_of, table_of, mark_of}
-use Rattle.qcow2_alloc.specs.Caches.{HasRoomOf, cached_in, order_of, cached_file}
-use Rattle.qcow2_alloc.specs.Causes.{HasCause}
-use Rattle.qcow2_alloc.specs.Finding.{TableFound}
-use Rattle.qcow2_alloc.specs.Going.{AreBlocksInReach, AreTablesInReach, IsMild, WasNotCutOff, writing_causes}
-use Rattle.qcow2_alloc.specs.Memory.{Cached}
-use Rattle.qcow2_alloc.specs.Opening.{IsL1Of}
-use Rattle.qcow2_alloc.specs.Quiet.{IsQuiet, IsSound, IsUsed, Metadata, Quietly, in_memory, counted}
-use Rattle.qcow2_alloc.specs.Freeing.{IsMarked}
-use Rattle.qcow2_alloc.specs.Safety.{AreTablesClean, IsCachedTable}
-use Rattle.qcow2_alloc.proofs.Flushing.FlushRefusals.{never-refused, writing-implies}
-use Rattle.qcow2_alloc.proofs.Causes.{cause-weaker}
-use Rattle.qcow2_alloc.proofs.Memory.SafeLaws.{clean-memory}
-use Rattle.qcow2_alloc.proofs.Quiet.QuietFlushes.{going-quietly}
+use Rattle.qcow2_alloc.specs.Allocators.{UsesTable}
+use Rattle.qcow2_alloc.specs.Caches.{cached_file, order_of}
+use Rattle.qcow2_alloc.specs.Quiet.{IsQuiet, IsSound, IsUsed, Metadata}
 use Rattle.qcow2_alloc.proofs.Quiet.ShownDisks.{in-cluster}
-use Rattle.qcow2_alloc.proofs.Quiet.QuietSequences.{quietly-then}
-use Rattle.qcow2_alloc.proofs.Searching.FreeClusters.{clean-counts}
-use Rattle.qcow2_steps.proofs.QuietValues.{data-used, quiet-entries}
-use Rattle.qcow2_clusters.specs.Naming.{AreNameable, LeavesTable, Listed, NamesIn, NamesRun, NamesWords, given_for_run, listing, naming_run}
-use Rattle.qcow2_clusters.specs.Progress.{Kind, Progresses, both, handing}
-use Rattle.qcow2_clusters.specs.Rest.{AreEmpty, Clusters, HasEntries, IsReady, lent, nothing_cached, resting, storage}
+use Rattle.qcow2_steps.proofs.InvisibleClusters.{kept-used}
+use Rattle.qcow2_clusters.specs.Naming.{AreNameable, IsNameable, LeavesTable, NamesIn, NamesRun, given_for_run, listing, naming_run}
+use Rattle.qcow2_clusters.specs.Rest.{AreEmpty, Clusters, HasEntries, lent, resting}
+use Rattle.qcow2_clusters.specs.Setting.{Setting, SetsRun, StaysCached, cached_alone}
 use Rattle.qcow2_clusters.specs.Settling.{KeepsCachedTables, Settles}
-use Rattle.qcow2_clusters.specs.Room.{mark_in}
-use Rattle.qcow2_clusters.proofs.ProgressSums.{progresses-halted, progresses-in-memory, progresses-then, progresses-weaker, quiet-progresses, wider-both, wider-handing, wider-same}
-use Rattle.qcow2_clusters.proofs.EndsAtRest.{settled-cause, settled-faultless}
-use Rattle.qcow2_clusters.proofs.LoneTables.{found-alone, lone_table, never-full, only-read, refused-empty, used-alone, used-keys, used-one, used-read}
-use Rattle.qcow2_clusters.proofs.RunNames.{Standing, image, stands, words-layout}
-use Rattle.qcow2_clusters.proofs.ClusterNames.{table-fine, table-near}
-use Rattle.qcow2_clusters.proofs.StartsAtRest.{begun-quietly, l1-stays}
-use Rattle.qcow2_clusters.proofs.RoomAfterAllocations.{marked-as}
-use Rattle.qcow2_clusters.proofs.FewerWaiting.{fewer-sound}
-use Rattle.qcow2_clusters.proofs.Settlement.{kept-count, kept-keys}
+use Rattle.qcow2_clusters.proofs.RunNames.{stands}
+use Rattle.qcow2_clusters.proofs.SettingAtRest as set
+use Rattle.qcow2_clusters.proofs.SettingAtRest.{Stood, sets-by}
 
--- What is shown of a sound image in a storage that keeps what is written.
-progresses-ready : (ok : Type 0) (kind : Kind) (s : StorageState) (m : Metadata) (s' : StorageState) (m' : Metadata) → s'.shape ≡ s.shape → Later s s'
-    → (IsTrue s.shape.keeps → IsSound m → Progresses ok kind s m s' m') → Progresses ok kind s m s' m'
-progresses-ready ok kind s m s' m' shape later progress = record {
-  shape = shape;
-  later = later;
-  passes = λ keeps sound. (progress keeps sound).passes keeps sound;
-  holds = λ keeps sound. (progress keeps sound).holds keeps sound;
+-- What is to be named is used.
+nameable-used : (m : Metadata) (table guest x : ℕ) → IsSound m → IsNameable m table guest x → IsUsed m x
+nameable-used m table guest x sound able = elim able.own [
+  | inl reserved ↦ reserved.used
+  | inr kept ↦ kept-used m guest x sound kept
+]
+
+abbrev naming_setting : Metadata → (guest x n : ℕ) → Setting
+naming_setting m guest x n = record {
+  kind = naming_run m guest x n;
+  waiting = given_for_run m guest x n;
+  means = λ d. data_at (x + d) true;
 }
 
--- Where naming was refused, and nothing is cached, no table is left.
 pub leaves-none : {S : Type 0} (state : S → StorageState) (table guest x n : ℕ) (c : Clusters S) (fault : Fault) (result : Result Unit Fault)
     (c' : Clusters S) → OnOk result (result ≡ Err fault) → AreEmpty c'.caches → LeavesTable state table guest x n c result c'
-leaves-none state table guest x n c fault (Ok done) c' same empty = absurd (let bad : Ok done ≡ Err fault = same in cc)
-leaves-none state table guest x n c fault (Err e) c' same empty = record {
-  clean = subst AreTablesClean (sym empty) tt;
-  loose = subst (λ (k : Cached). AllByRecursion (λ e. e.1.pins ≡ 0) k.tables) (sym empty) tt;
-  alone = subst (λ (k : Cached). AllByRecursion (λ e. e.0 ≡ table) k.tables) (sym empty) tt;
-  there = tt;
-  none = ap (λ (k : Cached). k.tables) empty;
-  fit = λ ready able. tt;
-}
+leaves-none state table guest x n c fault result c' same empty =
+    let none = set.leaves-none state table (AreNameable n (resting state c) table guest x) c fault result c' same empty in
+    record { clean = none.clean; loose = none.loose; alone = none.alone; there = none.there; none = none.none; fit = none.fit }
 
 module _ {S : Type 0} (state : S → StorageState) (table guest x n : ℕ) (c c' : Clusters S) (mid : MetadataCaches S) (between : ImageFile S)
-    (done result : Result Unit Fault) where
-  abbrev Ready : Type 0
-  Ready = IsReady state c × AreNameable n (resting state c) table guest x
-
-  abbrev s0 : StorageState
-  s0 = storage state c
-
-  abbrev s1 : StorageState
-  s1 = state between.image
-
-  abbrev s2 : StorageState
-  s2 = storage state c'
-
+    (done result : Result Unit Fault) (rest : AreEmpty c.caches) (room : HasEntries c.caches) (any : 0 < n) (some : x ≢ 0)
+    (near : (d : ℕ) → d < n → IsInReach c.file.header.fields.cluster_bits (x + d))
+    (fits : guest % words_of_cluster c.file.header.fields + n ≤ words_of_cluster c.file.header.fields)
+    (allocator : c'.space.allocator ≡ c.space.allocator) (held : c'.space.to_free.held ≡ c.space.to_free.held)
+    (settles : Settles state done between mid result c'.file c'.caches) where
   abbrev m0 : Metadata
   m0 = resting state c
 
-  abbrev m2 : Metadata
-  m2 = resting state c'
+  abbrev able : Type 0
+  able = AreNameable n m0 table guest x
 
-  -- what the guest clusters give up
-  abbrev dropped : List FreeEntry
-  dropped = given_for_run m0 guest x n
+  abbrev Does : TableValue → Result Unit Fault → TableValue → Type 0
+  Does t r t' = NamesIn c.file.header.fields.cluster_bits (guest % words_of_cluster c.file.header.fields) x n (listing t c.space.to_free) r
+      (listing t' c'.space.to_free)
 
-  -- What came before the writes, and what holds then of a sound image.
-  pub record Begun : Type 0 where
-    pub shape : s1.shape ≡ s0.shape
-    pub later : Later s0 s1
-    pub faults : WasNotCutOff done → IsFaultless s0 s1
-    pub header : between.header ≡ c.file.header
-    pub long : length s1.bytes ≡ length s0.bytes
-    pub room : HasRoomOf c.caches mid
-    pub held : c'.space.to_free.held ≡ c.space.to_free.held
-    pub reach : WasNotCutOff done → Ready → AreTablesInReach (cached_in mid) × AreBlocksInReach (cached_in mid)
-    pub why : IfErr done (HasCause (writing_causes Ready s0.faults s1.faults))
-    pub waits : Ready → result ≡ Ok tt → c'.space.to_free.entries ≡ c.space.to_free.entries ++ dropped
-    pub progress : Ready → Progresses (result ≡ Ok tt) (naming_run m0 guest x n) s0 m0 s2 m2
-    pub l1 : Ready → result ≡ Ok tt → (l1 : TableValue) → IsL1Of m0.file c.file.header.fields l1 → IsL1Of m2.file c'.file.header.fields l1
-    pub marked : Ready → result ≡ Ok tt → IsMarked m0 (mark_in c) → IsMarked m2 (mark_in c')
-    pub named : Ready → result ≡ Ok tt → (d : ℕ) → d < n → entry m2.file c.file.header.fields (guest + d) ≡ data_at (x + d) true
-    pub used : Ready → result ≡ Ok tt → (d : ℕ) → IsUsed m0 d → Same m0.file m2.file (d * cluster_size c.file.header.fields) (cluster_size c.file.header.fields)
-    pub bytes : Ready → result ≡ Ok tt → (q : ℕ) → x ≤ q / cluster_size c.file.header.fields → q / cluster_size c.file.header.fields < x + n
-        → m2.file q ≡ m0.file q
+  refused : (t : TableValue) (fault : Fault) (t' : TableValue) → Does t (Err fault) t' → (fault ≡ Memory) ⊎ (t.layout ≡ layout_of c.file.header.fields → ⊥)
+  refused t fault t' does = elim does.err [
+    | inl memory ↦ inl memory
+    | inr damaged ↦ inr (λ same. damaged.1 (ap (λ (l : Layout). l.cluster_bits) same))
+  ]
 
-  module _ (settles : Settles state done between mid result c'.file c'.caches) where
-    behind : Later s1 s2
-    behind = (settles.quiet (table_of c'.space.allocator) c'.space.to_free.entries).later
+  stood-so : (t t' : TableValue) → IsSound m0 → able
+      → t ≡ table_in m0.file c.file.header.fields table (words_of_cluster c.file.header.fields) → Does t (Ok tt) t'
+      → let first = cached_alone m0 (order_of c.caches) table (listing t c.space.to_free) in
+      IsSound first → IsQuiet (λ _. 0) (λ _. 0) m0 first
+      → Stood state table guest n c c' mid between done result able (naming_setting m0 guest x n) (λ can d less. (can d less).under) (order_of c.caches) t t'
+  stood-so t t' sound can is does start quiet =
+      let stood = stands m0 table guest x sound some (order_of c.caches) t is c.space.to_free start quiet n can near fits n (omega arith)
+      (listing t' c'.space.to_free) does.ok.1 in
+      record { step = stood.step; waits = stood.waits; named = stood.named; layout = stood.layout }
 
-    why-refused : Begun → IfErr result (HasCause (writing_causes Ready s0.faults s2.faults))
-    why-refused begun = settled-cause state done between mid result c'.file c'.caches settles (λ count. HasCause (writing_causes Ready s0.faults count)) begun.why
-        (λ whole fault why. cause-weaker (writing-implies _ begun.later.faults (omega arith) (λ far ready. far (begun.reach whole ready))) fault why)
+  module _ (used : UsesTable state table Does (cached_file c.caches c.file) done (cached_file mid between)) where
+    set-so : SetsRun state guest n able (naming_setting m0 guest x n) c result c'
+    set-so = sets-by state table guest n c c' mid between done result able (naming_setting m0 guest x n) (λ can d less. (can d less).under) rest room any
+        Does refused stood-so allocator held settles used
 
-    succeeded : Begun → Ready → WasNotCutOff result → result ≡ Ok tt
-    succeeded begun ready whole = by result (why-refused begun) whole where
-      by : (r : Result Unit Fault) → IfErr r (HasCause (writing_causes Ready s0.faults s2.faults)) → WasNotCutOff r → r ≡ Ok tt
-      by (Ok v) why whole = refl
-      by (Err fault) why mild = absurd (never-refused Ready s0.faults s2.faults fault ready mild why)
+    -- Their bytes are kept: they are used.
+    bytes-kept : IsSound m0 → able → (r : Result Unit Fault)
+        → OnOk r ((d : ℕ) → IsUsed m0 d → Same m0.file (resting state c').file (d * cluster_size c.file.header.fields) (cluster_size c.file.header.fields))
+        → OnOk r ((q : ℕ) → x ≤ q / cluster_size c.file.header.fields → q / cluster_size c.file.header.fields < x + n → (resting state c').file q ≡ m0.file q)
+    bytes-kept sound can (Ok v) kept = λ q low high.
+        let k : ℕ = q / cluster_size c.file.header.fields in
+        let d : ℕ = k - x in
+        let at : x + d ≡ k = omega (arith, low) in
+        in-cluster c.file.header.fields m0.file (resting state c').file q
+        (kept k (subst (IsUsed m0) at (nameable-used m0 table (guest + d) (x + d) sound (can d (omega (arith, low, high))))))
+    bytes-kept sound can (Err fault) kept = tt
 
-    on-ok : (r : Result Unit Fault) (P : Type 0) → (r ≡ Ok tt → P) → OnOk r P
-    on-ok (Ok v) P from = from refl
-    on-ok (Err fault) P from = tt
-
-    pub names-begun : Begun → NamesRun state table guest x n c result c'
-    names-begun begun = record {
-      progress = λ able.
-          progresses-ready (result ≡ Ok tt) (naming_run m0 guest x n) s0 m0 s2 m2 ((settles.quiet (table_of c'.space.allocator) c'.space.to_free.entries).shape ∙ begun.shape)
-          (later_both s0 s1 s2 begun.later behind) (λ keeps sound. begun.progress (record { keeps = keeps; sound = sound }, able));
-      rests = record {
-        shape = (settles.quiet (table_of c'.space.allocator) c'.space.to_free.entries).shape ∙ begun.shape;
-        later = later_both s0 s1 s2 begun.later behind;
-        empty = settles.empty;
-        room = record { tables = settles.room.tables ∙ begun.room.tables; blocks = settles.room.blocks ∙ begun.room.blocks };
-        header = (c.file.header.fields.refcount_table_offset, c.file.header.fields.refcount_table_clusters, settles.header ∙ begun.header);
-        faults = settled-faultless state done between mid result c'.file c'.caches settles s0 begun.faults;
-      };
-      header = settles.header ∙ begun.header;
-      no_shorter = let first = begun.long in let second = settles.no_shorter in omega (arith, first, second);
-      held = begun.held;
-      l1 = λ able ready whole. begun.l1 (ready, able) (succeeded begun (ready, able) whole);
-      marked = λ able ready whole. begun.marked (ready, able) (succeeded begun (ready, able) whole);
-      waits = λ ready able. on-ok result _ (begun.waits (ready, able));
-      named = λ ready able. on-ok result _ (begun.named (ready, able));
-      bytes = λ ready able. on-ok result _ (begun.bytes (ready, able));
-      used = λ ready able. on-ok result _ (begun.used (ready, able));
-      cause = why-refused begun;
+    pub names-by : NamesRun state table guest x n c result c'
+    names-by = record {
+      progress = set-so.progress;
+      rests = set-so.rests;
+      header = set-so.header;
+      no_shorter = set-so.no_shorter;
+      held = set-so.held;
+      l1 = set-so.l1;
+      marked = set-so.marked;
+      waits = set-so.waits;
+      named = set-so.set;
+      bytes = λ ready can. bytes-kept ready.sound can result (set-so.used ready can);
+      used = set-so.used;
+      cause = set-so.cause;
     }
 
-  module _ (rest : AreEmpty c.caches) (room : HasEntries c.caches) (any : 0 < n) where
-    reach-of-none : AreTablesInReach (cached_in c.caches) × AreBlocksInReach (cached_in c.caches)
-    reach-of-none = subst (λ (k : Cached). AreTablesInReach k × AreBlocksInReach k) (sym rest) (tt, tt)
-
-    abbrev awake : Metadata
-    awake = record m0 { cached = cached_in c.caches; order = order_of c.caches }
-
-    abbrev found-as : MetadataCaches S → Metadata
-    found-as caches = record m0 { file = bytes_of s1.bytes; cached = cached_in caches; order = order_of c.caches }
-
-    -- The search only reads.
-    read-long : (answer : Result Unit Fault) (caches : MetadataCaches S) → TableFound state table c.caches c.file answer caches between
-        → length s1.bytes ≡ length s0.bytes
-    read-long answer caches found = ap (λ (l : List ℕ). length l) (only-read state table c.caches c.file rest answer caches between found).bytes
-
-    -- It leaves the disk as it is.
-    searched : (answer : Result Unit Fault) (caches : MetadataCaches S) → TableFound state table c.caches c.file answer caches between
-        → Quietly (WasNotCutOff answer) (λ _. 0) (λ _. 0) s0 m0 s1 (found-as caches)
-    searched answer caches found =
-        quietly-then ⊤ (WasNotCutOff answer) (λ _. 0) (λ _. 0) (λ _. 0) (λ _. 0) s0 m0 s0 awake s1 (found-as caches) tt (λ sound d named. refl)
-        (begun-quietly ⊤ s0 awake rest)
-        (going-quietly awake (WasNotCutOff answer) s0 s1 (cached_in caches) refl found.going)
-
-    -- It was refused.
-    module _ (fault : Fault) (found : TableFound state table c.caches c.file (Err fault) mid between) (is : done ≡ Err fault)
-        (held : c'.space.to_free.held ≡ c.space.to_free.held) (settles : Settles state done between mid result c'.file c'.caches) where
-      refused-why : HasCause (writing_causes Ready s0.faults s1.faults) fault
-      refused-why = cause-weaker (record {
-        before = omega arith;
-        after = omega arith;
-        damaged = λ wrong ready. wrong (
-          table-fine m0 table (guest + 0) (x + 0) ready.0.sound (ready.1 0 any) (bytes_of s1.bytes)
-              (ap bytes_of (only-read state table c.caches c.file rest (Err fault) mid between found).bytes),
-          reach-of-none.0,
-          reach-of-none.1,
-        );
-        counter = absurd;
-        full = λ full. absurd (never-full state table c.caches c.file rest room full);
-        limit = λ number. absurd;
-      }) fault found.cause
-
-      refused-cut : Ready → (result ≡ done) × (c'.file ≡ between)
-      refused-cut ready = settles.cut (λ whole. never-refused Ready s0.faults s1.faults fault ready (subst WasNotCutOff is whole) refused-why)
-
-      refused-never : Ready → result ≡ Ok tt → ⊥
-      refused-never ready ok = let bad : Ok tt ≡ Err fault = sym ok ∙ (refused-cut ready).0 ∙ is in absurd cc
-
-      refused-progress : Ready → Progresses (result ≡ Ok tt) (naming_run m0 guest x n) s0 m0 s2 m2
-      refused-progress ready =
-          subst (λ (f : ImageFile S). Progresses (result ≡ Ok tt) (naming_run m0 guest x n) s0 m0 (state f.image) m2) (sym (refused-cut ready).1)
-          (progresses-halted (IsMild fault) (result ≡ Ok tt) (handing (λ _. 0) (λ _. 0)) (naming_run m0 guest x n) s0 m0 s1 (found-as mid) m2
-          (wider-handing (λ _. 0) (λ _. 0) (naming_run m0 guest x n)) (λ keeps sound ok. refused-never ready ok)
-          (quiet-progresses (IsMild fault) (λ _. 0) (λ _. 0) s0 m0 s1 (found-as mid) (λ sound d named. refl) (searched (Err fault) mid found)))
-
-      refused-begun : Begun
-      refused-begun = record {
-        shape = found.going.shape;
-        later = found.going.later;
-        faults = λ whole. found.going.faults (subst WasNotCutOff is whole);
-        header = found.others.1;
-        long = read-long (Err fault) mid found;
-        room = record { tables = found.room.0; blocks = found.room.1 };
-        held = held;
-        reach = λ whole ready. subst (λ (k : Cached). AreTablesInReach k × AreBlocksInReach k) (sym (refused-empty state table c.caches c.file rest fault mid between found)) (tt, tt);
-        why = subst (λ r. IfErr r (HasCause (writing_causes Ready s0.faults s1.faults))) (sym is) refused-why;
-        waits = λ ready ok. absurd (refused-never ready ok);
-        progress = refused-progress;
-        l1 = λ ready ok. absurd (refused-never ready ok);
-        marked = λ ready ok. absurd (refused-never ready ok);
-        named = λ ready ok. absurd (refused-never ready ok);
-        bytes = λ ready ok. absurd (refused-never ready ok);
-        used = λ ready ok. absurd (refused-never ready ok);
-      }
-
-    -- What is done to the table that is found.
-    abbrev Does : TableValue → Result Unit Fault → TableValue → Type 0
-    Does t r t' = NamesIn c.file.header.fields.cluster_bits (guest % words_of_cluster c.file.header.fields) x n (listing t c.space.to_free) r
-        (listing t' c'.space.to_free)
-
-    -- The table was found.
-    module _ (answer : Result Unit Fault) (u : TableUsed state table Does (cached_file c.caches c.file) answer (cached_file mid between)) where
-      abbrev read : TableValue
-      read = table_in (bytes_of s1.bytes) c.file.header.fields table (words_of_cluster c.file.header.fields)
-
-      bytes-same : bytes_of s1.bytes ≡ bytes_of s0.bytes
-      bytes-same = ap bytes_of (only-read state table c.caches c.file rest (Ok tt) u.mid between u.found).bytes
-
-      is-read : u.value ≡ read
-      is-read = used-read state table c.caches c.file rest u.mid between u.found u.value u.there
-
-      is-file's : u.value ≡ table_in m0.file c.file.header.fields table (words_of_cluster c.file.header.fields)
-      is-file's = is-read ∙ ap (λ (b : Bytes). table_in b c.file.header.fields table (words_of_cluster c.file.header.fields)) bytes-same
-
-      left-alone : cached_in mid ≡ lone_table table u.value'
-      left-alone = used-alone state table c.caches c.file rest u.mid between u.value' mid u.found u.left
-
-      room-same : HasRoomOf c.caches mid
-      room-same = record {
-        tables = ap (λ (k : MetadataCaches S). k.l2.slots.cap) u.left ∙ u.found.room.0;
-        blocks = ap (λ (k : MetadataCaches S). k.rb.slots.cap) u.left ∙ u.found.room.1;
-      }
-
-      -- There was no memory to have something wait.
-      module _ (held : c'.space.to_free.held ≡ c.space.to_free.held) (is : done ≡ Err Memory)
-          (settles : Settles state done between mid result c'.file c'.caches) where
-        unput-cut : (result ≡ done) × (c'.file ≡ between)
-        unput-cut = settles.cut (λ whole. subst WasNotCutOff is whole)
-
-        unput-never : result ≡ Ok tt → ⊥
-        unput-never ok = let bad : Ok tt ≡ Err Memory = sym ok ∙ unput-cut.0 ∙ is in absurd cc
-
-        unput-progress : Progresses (result ≡ Ok tt) (naming_run m0 guest x n) s0 m0 s2 m2
-        unput-progress =
-            subst (λ (f : ImageFile S). Progresses (result ≡ Ok tt) (naming_run m0 guest x n) s0 m0 (state f.image) m2) (sym unput-cut.1)
-            (progresses-halted ⊤ (result ≡ Ok tt) (handing (λ _. 0) (λ _. 0)) (naming_run m0 guest x n) s0 m0 s1 (found-as u.mid) m2
-            (wider-handing (λ _. 0) (λ _. 0) (naming_run m0 guest x n)) (λ keeps sound ok. unput-never ok)
-            (quiet-progresses ⊤ (λ _. 0) (λ _. 0) s0 m0 s1 (found-as u.mid) (λ sound d named. refl) (searched (Ok tt) u.mid u.found)))
-
-        unput-begun : Begun
-        unput-begun = record {
-          shape = u.found.going.shape;
-          later = u.found.going.later;
-          faults = λ whole. u.found.going.faults tt;
-          header = u.found.others.1;
-          long = read-long (Ok tt) u.mid u.found;
-          room = room-same;
-          held = held;
-          reach = λ whole. absurd (subst WasNotCutOff is whole);
-          why = subst (λ r. IfErr r (HasCause (writing_causes Ready s0.faults s1.faults))) (sym is) tt;
-          waits = λ ready ok. absurd (unput-never ok);
-          progress = λ ready. unput-progress;
-          l1 = λ ready ok. absurd (unput-never ok);
-          marked = λ ready ok. absurd (unput-never ok);
-          named = λ ready ok. absurd (unput-never ok);
-          bytes = λ ready ok. absurd (unput-never ok);
-          used = λ ready ok. absurd (unput-never ok);
-        }
-
-      -- Its words were set.
-      module _ (held : c'.space.to_free.held ≡ c.space.to_free.held) (some : x ≢ 0)
-          (near : (d : ℕ) → d < n → IsInReach c.file.header.fields.cluster_bits (x + d))
-          (fits : guest % words_of_cluster c.file.header.fields + n ≤ words_of_cluster c.file.header.fields)
-          (names : NamesWords (guest % words_of_cluster c.file.header.fields) x n (listing u.value c.space.to_free) (listing u.value' c'.space.to_free))
-          (allocator : c'.space.allocator ≡ c.space.allocator) (is : done ≡ Ok tt)
-          (settles : Settles state done between mid result c'.file c'.caches) where
-        set-reach : Ready → AreTablesInReach (cached_in mid) × AreBlocksInReach (cached_in mid)
-        set-reach ready =
-            let bits : u.value'.layout.cluster_bits ≡ c.file.header.fields.cluster_bits =
-            ap (λ l. l.cluster_bits) (words-layout _ x n (listing u.value c.space.to_free) (listing u.value' c'.space.to_free) names)
-            ∙ ap (λ (t : TableValue). t.layout.cluster_bits) is-read in
-            subst (λ (k : Cached). AreTablesInReach k × AreBlocksInReach k) (sym left-alone)
-            (((λ modified. subst (λ b. IsInReach b table) (sym bits) (table-near m0 table (guest + 0) (x + 0) ready.0.sound (ready.1 0 any))), tt), tt)
-
-        module _ (ready : Ready) where
-          abbrev m1 : Metadata
-          m1 = metadata_of state between mid (table_of c'.space.allocator) c'.space.to_free.entries
-
-          -- the image with such a table cached alone, and such a list
-          abbrev cached-as : Listed → Metadata
-          cached-as = image m0 table guest x ready.0.sound some (order_of c.caches) u.value is-file's c.space.to_free
-
-          abbrev at-first : Metadata
-          at-first = cached-as (listing u.value c.space.to_free)
-
-          abbrev at-last : Metadata
-          at-last = cached-as (listing u.value' c'.space.to_free)
-
-          first-same : found-as u.mid ≡ at-first
-          first-same =
-              let alone : cached_in u.mid ≡ lone_table table u.value =
-              found-alone state table c.caches c.file rest u.mid between u.found ∙ ap (lone_table table) (sym is-read) in
-              λ k. record m0 { file = bytes-same k; cached = alone k; order = order_of c.caches }
-
-          last-same : at-last ≡ m1
-          last-same =
-              let header : c.file.header ≡ between.header = sym u.found.others.1 in
-              let order : order_of c.caches ≡ order_of mid = sym (ap order_of u.left ∙ u.found.others.0) in
-              let refcounts : table_of c.space.allocator ≡ table_of c'.space.allocator = ap table_of (sym allocator) in
-              λ k. record {
-                file = sym bytes-same k;
-                header = header k;
-                cached = sym left-alone k;
-                order = order k;
-                table = refcounts k;
-                pending = c'.space.to_free.entries;
-              }
-
-          first : IsSound at-first × IsQuiet (λ _. 0) (λ _. 0) m0 at-first
-          first = subst (λ (z : Metadata). IsSound z × IsQuiet (λ _. 0) (λ _. 0) m0 z) first-same
-              ((searched (Ok tt) u.mid u.found).holds ready.0.keeps ready.0.sound tt)
-
-          stood : Standing m0 table guest x ready.0.sound some (order_of c.caches) u.value is-file's c.space.to_free n n (listing u.value' c'.space.to_free)
-          stood = stands m0 table guest x ready.0.sound some (order_of c.caches) u.value is-file's c.space.to_free first.0 first.1 n ready.1 near fits n
-              (omega arith) (listing u.value' c'.space.to_free) names
-
-          set-sound : IsSound m1
-          set-sound = subst IsSound last-same stood.step.sound
-
-          settled : Quietly (WasNotCutOff result) (λ _. 0) (λ _. 0) s1 m1 s2 m2
-          settled = settles.quiet (table_of c'.space.allocator) c'.space.to_free.entries
-
-          last : result ≡ Ok tt → IsSound m2 × IsQuiet (λ _. 0) (λ _. 0) m1 m2
-          last ok = settled.holds (keeps_on s0 s1 u.found.going.shape ready.0.keeps) set-sound (subst WasNotCutOff (sym ok) tt)
-
-          -- The search, the words and what is written then, one behind the other.
-          set-progress : Progresses (result ≡ Ok tt) (naming_run m0 guest x n) s0 m0 s2 m2
-          set-progress =
-              let none : Kind = handing (λ _. 0) (λ _. 0) in
-              let wide : Kind = naming_run m0 guest x n in
-              let one = subst (λ (z : Metadata). Progresses ⊤ none s0 m0 s1 z) first-same
-              (quiet-progresses ⊤ (λ _. 0) (λ _. 0) s0 m0 s1 (found-as u.mid) (λ sound d named. refl) (searched (Ok tt) u.mid u.found)) in
-              let two = subst (Progresses ⊤ wide s1 at-first s1) last-same (progresses-in-memory ⊤ wide s1 at-first at-last (λ sound yes. stood.step)) in
-              let three = quiet-progresses (WasNotCutOff result) (λ _. 0) (λ _. 0) s1 m1 s2 m2 (λ sound d named. refl) settled in
-              let behind = progresses-then (WasNotCutOff result) ⊤ wide none s1 at-first s1 m1 s2 m2 tt two three in
-              let all = progresses-then (WasNotCutOff result) ⊤ none (both wide none) s0 m0 s1 at-first s2 m2 tt one behind in
-              progresses-weaker (WasNotCutOff result) (result ≡ Ok tt) (both none (both wide none)) wide s0 m0 s2 m2
-              (wider-both none (both wide none) wide (wider-handing (λ _. 0) (λ _. 0) wide)
-              (wider-both wide none wide (wider-same wide) (wider-handing (λ _. 0) (λ _. 0) wide)))
-              (λ ok. subst WasNotCutOff (sym ok) tt) (λ d. omega arith) (λ d. omega arith) all
-
-          set-l1 : result ≡ Ok tt → (l1 : TableValue) → IsL1Of m0.file c.file.header.fields l1 → IsL1Of m2.file c'.file.header.fields l1
-          set-l1 ok l1 of =
-              let both = last ok in
-              l1-stays m1.file m2.file m1.header m2.header l1 both.1.shows.moved both.1.shows.l1
-              (subst (λ (m : Metadata). IsL1Of m.file m.header.fields l1) last-same of)
-
-          -- As much is counted as before: no block is cached.
-          counts-before : (d : ℕ) → counted m1 d ≡ counted m0 d
-          counts-before d = subst (λ (m : Metadata). counted m d ≡ counted m0 d) last-same
-              (clean-counts at-last stood.step.sound tt d ∙ sym (clean-counts m0 ready.0.sound tt d))
-
-          set-counts : result ≡ Ok tt → (d : ℕ) → counted m2 d ≡ counted m0 d
-          set-counts ok d =
-              settles.counts (table_of c'.space.allocator) c'.space.to_free.entries (keeps_on s0 s1 u.found.going.shape ready.0.keeps) set-sound
-              (subst WasNotCutOff (sym ok) tt) d
-              ∙ counts-before d
-
-          -- What is written then leaves what was used: it would where nothing more waited, too.
-          abbrev spared : Metadata
-          spared = metadata_of state between mid (table_of c'.space.allocator) c.space.to_free.entries
-
-          spared-used : (d : ℕ) → IsUsed m0 d → IsUsed spared d
-          spared-used d used = record {
-            apart = subst (λ (H : Header). structure (bytes_of s1.bytes) H.fields (meets H.fields d) ≡ 0) (sym u.found.others.1)
-                (subst (λ (b : Bytes). structure b c.file.header.fields (meets c.file.header.fields d) ≡ 0) (sym bytes-same) used.apart);
-            taken = let same : counted spared d ≡ counted m0 d = counts-before d in let more = used.taken in omega (arith, same, more);
-          }
-
-          set-used : result ≡ Ok tt → (d : ℕ) → IsUsed m0 d → Same m0.file m2.file (d * cluster_size c.file.header.fields) (cluster_size c.file.header.fields)
-          set-used ok d used =
-              let sound : IsSound spared = fewer-sound m1 c.space.to_free.entries dropped stood.waits set-sound in
-              let quiet = ((settles.quiet (table_of c'.space.allocator) c.space.to_free.entries).holds
-              (keeps_on s0 s1 u.found.going.shape ready.0.keeps) sound (subst WasNotCutOff (sym ok) tt)).1 in
-              subst (λ (b : Bytes). Same b m2.file (d * cluster_size c.file.header.fields) (cluster_size c.file.header.fields)) bytes-same
-              (subst (λ (H : Header). Same (bytes_of s1.bytes) m2.file (d * cluster_size H.fields) (cluster_size H.fields)) u.found.others.1
-              (quiet.kept d (spared-used d used) refl))
-
-          set-marked : result ≡ Ok tt → IsMarked m0 (mark_in c) → IsMarked m2 (mark_in c')
-          set-marked ok marked = subst (IsMarked m2) (sym (ap mark_of allocator)) (marked-as m0 m2 (mark_in c) (set-counts ok) marked)
-
-          set-named : result ≡ Ok tt → (d : ℕ) → d < n → entry m2.file c.file.header.fields (guest + d) ≡ data_at (x + d) true
-          set-named ok d less =
-              let both = last ok in
-              let same : entry (in_memory m2) m2.header.fields (guest + d) ≡ entry (in_memory m1) m1.header.fields (guest + d) =
-              quiet-entries m1 m2 (λ _. 0) (λ _. 0) set-sound both.0 both.1 (guest + d) in
-              let clean : in_memory m2 ≡ m2.file = clean-memory m2.file m2.header.fields nothing_cached tt tt in
-              ap (λ (b : Bytes). entry b c.file.header.fields (guest + d)) (sym clean)
-              ∙ ap (λ (H : Header). entry (in_memory m2) H.fields (guest + d)) (sym (settles.header ∙ u.found.others.1))
-              ∙ same
-              ∙ ap (λ (m : Metadata). entry (in_memory m) m.header.fields (guest + d)) (sym last-same)
-              ∙ stood.named d less
-
-          -- What is written then leaves what is used.
-          set-bytes : result ≡ Ok tt → (q : ℕ) → x ≤ q / cluster_size c.file.header.fields → q / cluster_size c.file.header.fields < x + n
-              → m2.file q ≡ m0.file q
-          set-bytes ok q low high =
-              let d : ℕ = q / cluster_size c.file.header.fields - x in
-              let at : x + d ≡ q / cluster_size c.file.header.fields = omega (arith, low) in
-              let quiet : IsQuiet (λ _. 0) (λ _. 0) at-last m2 = subst (λ m. IsQuiet (λ _. 0) (λ _. 0) m m2) (sym last-same) (last ok).1 in
-              let used : IsUsed at-last (q / cluster_size c.file.header.fields) = subst (IsUsed at-last) at
-              (data-used at-last stood.step.sound (guest + d) (x + d) true (stood.named d (omega (arith, low, high)))) in
-              in-cluster c.file.header.fields m0.file m2.file q (quiet.kept (q / cluster_size c.file.header.fields) used refl)
-
-        set-begun : Begun
-        set-begun = record {
-          shape = u.found.going.shape;
-          later = u.found.going.later;
-          faults = λ whole. u.found.going.faults tt;
-          header = u.found.others.1;
-          long = read-long (Ok tt) u.mid u.found;
-          room = room-same;
-          held = held;
-          reach = λ whole. set-reach;
-          why = subst (λ r. IfErr r (HasCause (writing_causes Ready s0.faults s1.faults))) (sym is) tt;
-          waits = λ ready ok. (stood ready).waits;
-          progress = set-progress;
-          l1 = set-l1;
-          marked = set-marked;
-          named = set-named;
-          bytes = set-bytes;
-          used = set-used;
-        }
-
-    -- Of the two calls.
-    module _ (some : x ≢ 0) (near : (d : ℕ) → d < n → IsInReach c.file.header.fields.cluster_bits (x + d))
-        (fits : guest % words_of_cluster c.file.header.fields + n ≤ words_of_cluster c.file.header.fields)
-        (allocator : c'.space.allocator ≡ c.space.allocator) (held : c'.space.to_free.held ≡ c.space.to_free.held)
-        (settles : Settles state done between mid result c'.file c'.caches) where
-      begun-by : (named : Result Unit Fault) → done ≡ named → UsesTable state table Does (cached_file c.caches c.file) named (cached_file mid between) → Begun
-      begun-by named is (inl r) = refused-begun r.0 r.2 (is ∙ r.1) held settles
-      begun-by (Ok v) is (inr u) = set-begun (Ok v) u held some near fits u.used.ok.1 allocator is settles
-      begun-by (Err fault) is (inr u) = elim u.used.err [
-        | inl memory ↦ unput-begun (Err fault) u held (is ∙ ap (λ e. Err e) memory) settles
-        -- The table that is found is one of this image.
-        | inr damaged ↦ absurd (damaged.1 (ap (λ (t : TableValue). t.layout.cluster_bits)
-            (used-read state table c.caches c.file rest u.mid between u.found u.value u.there)))
-      ]
-
-      pub names-by : UsesTable state table Does (cached_file c.caches c.file) done (cached_file mid between) → NamesRun state table guest x n c result c'
-      names-by used = names-begun settles (begun-by done refl used)
-
-      -- What is written in the end is a sound image, where that succeeds.
-      abbrev to-write : Metadata
-      to-write = metadata_of state between mid (table_of c'.space.allocator) c'.space.to_free.entries
-
-      sound-so : (named : Result Unit Fault) → done ≡ named → UsesTable state table Does (cached_file c.caches c.file) named (cached_file mid between)
-          → Ready → result ≡ Ok tt → IsTrue s1.shape.keeps × IsSound to-write
-      sound-so named is (inl r) ready ok = absurd (refused-never r.0 r.2 (is ∙ r.1) held settles ready ok)
-      sound-so (Ok v) is (inr u) ready ok = (
-        keeps_on s0 s1 u.found.going.shape ready.0.keeps,
-        set-sound (Ok v) u held some near fits u.used.ok.1 allocator is settles ready,
-      )
-      sound-so (Err fault) is (inr u) ready ok = elim u.used.err [
-        | inl memory ↦ absurd (unput-never (Err fault) u held (is ∙ ap (λ e. Err e) memory) settles ok)
-        | inr damaged ↦ absurd (damaged.1 (ap (λ (t : TableValue). t.layout.cluster_bits)
-            (used-read state table c.caches c.file rest u.mid between u.found u.value u.there)))
-      ]
-
-      -- So the table that stays cached then is the file's.
-      pub keeps-by : (new : MetadataCaches S) → KeepsCachedTables state between mid result c'.file new
-          → UsesTable state table Does (cached_file c.caches c.file) done (cached_file mid between)
-          → LeavesTable state table guest x n c result (lent c'.file new c'.space)
-      keeps-by new kept used = record {
-        clean = kept.clean;
-        loose = kept.loose;
-        alone = kept-keys state between mid c'.file new table result kept (used-keys state table c.caches c.file rest Does done mid between used);
-        there = on-ok settles result _ (λ ok.
-            let whole : Ok tt ≡ done = subst (λ r. OnOk r (r ≡ done)) ok settles.ok in
-            let same = subst (λ r. OnOk r (length (cached_in new).tables ≡ length (cached_in mid).tables)) ok
-            (kept-count state between mid c'.file new result kept) in
-            same ∙ used-one state table c.caches c.file rest Does tt mid between
-            (subst (λ r. UsesTable state table Does (cached_file c.caches c.file) r (cached_file mid between)) (sym whole) used));
-        none = kept.none;
-        fit = λ ready able. on-ok settles result _ (λ ok.
-            let both = sound-so done refl used (ready, able) ok in
-            subst (λ r. OnOk r (Fitting new)) ok (kept.fit (table_of c'.space.allocator) c'.space.to_free.entries both.0 both.1));
-      } where
-        Fitting : MetadataCaches S → Type 0
-        Fitting caches = AllByRecursion (λ e. IsCachedTable m2.file c'.file.header.fields e.0 e.1.value) (cached_in caches).tables
+  pub keeps-by : (new : MetadataCaches S) → KeepsCachedTables state between mid result c'.file new
+      → UsesTable state table Does (cached_file c.caches c.file) done (cached_file mid between)
+      → LeavesTable state table guest x n c result (lent c'.file new c'.space)
+  keeps-by new kept used =
+      let stays : StaysCached state table able c result (lent c'.file new c'.space) =
+      set.keeps-by state table guest n c c' mid between done result able (naming_setting m0 guest x n) (λ can d less. (can d less).under) rest room any
+      Does refused stood-so allocator held settles new kept used in
+      record { clean = stays.clean; loose = stays.loose; alone = stays.alone; there = stays.there; none = stays.none; fit = stays.fit }

@@ -6,6 +6,8 @@ pub mod Sparing
 pub mod Storing
 pub mod Filling
 pub mod Naming
+pub mod Setting
+pub mod Clearing
 pub mod Freeing
 pub mod MakingTables
 pub mod Lengthening

@@ -5,6 +5,7 @@
 //! Each call says what the image becomes, and which files a stop of the machine may leave in it.
 #![tactic(auto)]
 
+mod clearing;
 mod filling;
 mod freeing;
 mod lengthening;
@@ -14,6 +15,7 @@ mod settling;
 mod space;
 mod storing;
 
+pub use clearing::{Clearing, clear_run, clearing_words};
 pub use filling::fill;
 pub use freeing::free_waiting;
 pub use lengthening::lengthen_l1;

@@ -17,7 +17,7 @@ use qcow2_metadata::{L2Table, Table};
 use qcow2_types::{ClusterCount, ClustersToFreeEntry, GuestCluster, HostCluster};
 
 // Puts what a word named on the list of clusters to free. It is refused where there is no memory for it.
-fn put_off(
+pub(crate) fn put_off(
     to_free: &mut ClustersToFreeList,
     named: Option<ClustersToFreeEntry>,
 ) -> Result<(), Fault>
