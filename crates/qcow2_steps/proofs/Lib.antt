@@ -11,3 +11,4 @@ pub mod Steps
 pub mod TableCopySteps
 pub mod NewTables
 pub mod LongerL1
+pub mod SizeSteps

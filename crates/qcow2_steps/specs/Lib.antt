@@ -4,3 +4,4 @@ pub mod Data
 pub mod Advancing
 pub mod NewTables
 pub mod LongerL1
+pub mod Sizes

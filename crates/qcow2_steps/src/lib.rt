@@ -6,4 +6,5 @@ pub mod advancing;
 pub mod data;
 pub mod longer_l1;
 pub mod new_tables;
+pub mod sizes;
 pub mod words;

@@ -1,0 +1,39 @@
+-- The header names another size of the disk, of an image at rest.
+use Rattle.std.specs.Prelude.{◌≡◌, ℕ, true, Ok, List, []}
+use Rattle.qcow2_types.specs.Bytes.{Bytes}
+use Rattle.qcow2_types.specs.Counts.{count}
+use Rattle.qcow2_types.specs.Entries.{entry}
+use Rattle.qcow2_types.specs.Frames.{Outside}
+use Rattle.qcow2_types.specs.Header.{Header, header_of}
+use Rattle.qcow2_types.specs.Pending.{FreeEntry}
+use Rattle.qcow2_types.specs.References.{refs}
+use Rattle.qcow2_types.specs.Switched.{sized, with_size}
+use Rattle.qcow2_metadata.specs.Tables.{TableValue}
+use Rattle.qcow2_alloc.specs.declared.cache.CacheDependency.TheVariants.{Unset}
+use Rattle.qcow2_alloc.specs.Quiet.{IsSound, Metadata}
+use Rattle.qcow2_steps.specs.Values.{own_value}
+
+-- an image of which nothing is cached
+abbrev pub rested : Bytes → Header → TableValue → List FreeEntry → Metadata
+rested f H table pending = record {
+  file = f;
+  header = H;
+  cached = record { tables = []; blocks = [] };
+  order = Unset;
+  table = table;
+  pending = pending;
+}
+
+-- x is the file with the header that names this size, in other first bytes.
+pub record NamesSize (f : Bytes) (H : Header) (n : ℕ) (x : Bytes) : Type 0 where
+  pub loads : header_of true x ≡ Ok (with_size H n)
+  pub outside : Outside f x 0 64
+
+-- Such a file shows what it did at each place, each word means what it did, and each cluster is counted and named as often; the image is
+-- sound.
+pub record KeepsAllButSize (f : Bytes) (H : Header) (n : ℕ) (x : Bytes) (table : TableValue) (pending : List FreeEntry) : Type 0 where
+  pub sound : IsSound (rested x (with_size H n) table pending)
+  pub values : (p : ℕ) → own_value x x (sized H.fields n) p ≡ own_value f f H.fields p
+  pub words : (guest : ℕ) → entry x (sized H.fields n) guest ≡ entry f H.fields guest
+  pub counts : (c : ℕ) → count x (sized H.fields n) c ≡ count f H.fields c
+  pub names : (c : ℕ) → refs x (sized H.fields n) c ≡ refs f H.fields c
