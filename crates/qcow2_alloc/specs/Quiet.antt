@@ -116,6 +116,10 @@ pub record IsQuiet (handed taken : ℕ → ℕ) (old new : Metadata) : Type 0 wh
 abbrev pub one_at : ℕ → ℕ → ℕ
 one_at c d = if d == c then 1 else 0
 
+-- so many at cluster c, and none elsewhere
+abbrev pub many_at : (c by : ℕ) → ℕ → ℕ
+many_at c by d = if d == c then by else 0
+
 -- the bytes of the image's file are those of its storage
 abbrev pub IsIn : StorageState → Metadata → Type 0
 IsIn s m = m.file ≡ bytes_of s.bytes

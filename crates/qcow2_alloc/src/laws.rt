@@ -40,7 +40,7 @@ ghost use Rattle.qcow2_alloc.specs.Memory.{Cached, memory};
 ghost use Rattle.qcow2_alloc.specs.Safety.{Safe, IsLeft, IsCalm, AreTablesClean, AreBlocksClean, IsSettled};
 ghost use Rattle.qcow2_alloc.specs.Going.{Going, Always, WasNotCutOff, AreTablesInReach, AreBlocksInReach, writing_causes};
 ghost use Rattle.qcow2_alloc.specs.Opening.{IsL1Of, opened};
-ghost use Rattle.qcow2_alloc.specs.Quiet.{IsTableOf, Metadata, metadata_in, covers_metadata, in_memory, counted, referenced, named_at_all, waiting, waiting_metadata, one_at, IsUsed, IsSound, ShowsEither, IsQuiet, IsIn, Quietly};
+ghost use Rattle.qcow2_alloc.specs.Quiet.{IsTableOf, Metadata, metadata_in, covers_metadata, in_memory, counted, referenced, named_at_all, waiting, waiting_metadata, one_at, IsUsed, IsSound, ShowsEither, IsQuiet, IsIn, Quietly, many_at};
 ghost use Rattle.qcow2_alloc.specs.MakingRoom.{CountsTheSame, IsReadyBlock, BlockNamed, with_block, formerly, newly_counted, IsReadyTable, TableSwitched, with_table, newly, run_of, rank, IsGrownTable};
 ghost use Rattle.qcow2_alloc.specs.FreeList.{entry_at, tail_of, shortened, covers, listed};
 
@@ -298,6 +298,14 @@ pub fn taking_back_a_cluster()
     ensures { (m : Metadata) (key c n : ℕ) (cached' : Cached) → IsSound m → SetsCounter m.file m.header.fields m.cached key c n cached'
         → counted m c ≡ n + 1 → named_at_all m c + waiting m c ≤ n
         → IsSound (record m { cached = cached' }) × IsQuiet (λ _. 0) (one_at c) m (record m { cached = cached' }) }
+{}
+
+/// A cluster that leaks may be counted down by all that it leaks: its counter is lowered, where what names it and what waits to free it is
+/// still covered.
+pub fn counting_down_what_leaks()
+    ensures { (m : Metadata) (key c n by : ℕ) (cached' : Cached) → IsSound m → SetsCounter m.file m.header.fields m.cached key c n cached'
+        → counted m c ≡ n + by → named_at_all m c + waiting m c ≤ n
+        → IsSound (record m { cached = cached' }) × IsQuiet (λ _. 0) (many_at c by) m (record m { cached = cached' }) }
 {}
 
 /// How many entries of metadata have a cluster, as the list of clusters to free changes; and a run of one cluster more.

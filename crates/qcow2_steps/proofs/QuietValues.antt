@@ -158,3 +158,18 @@ quiet-left gives m x H sound shows = subst (MayBeLeft gives m x) (sym shows.move
         | inr memory ↦ inr (inl memory)
       ];
     }
+
+-- Where no word waits in memory, what a word names has the bytes that it had, taken or not.
+module _ (m m' : Metadata) (handed taken : ℕ → ℕ) (sound : IsSound m) (sound' : IsSound m') (quiet : IsQuiet handed taken m m')
+    (clean : (guest : ℕ) → entry m'.file m'.header.fields guest ≡ entry (in_memory m') m'.header.fields guest) where
+  file-entry : (guest : ℕ) → entry m'.file (with_reftable m.header.fields quiet.shows.moved.0 quiet.shows.moved.1) guest ≡ entry (in_memory m) m.header.fields guest
+  file-entry guest =
+      ap (λ (H : Header). entry m'.file H.fields guest) (sym quiet.shows.moved.2) ∙ clean guest ∙ quiet-entries m m' handed taken sound sound' quiet guest
+
+  pub clean-values : (p : ℕ) → memory_value m' p ≡ memory_value m p
+  clean-values p =
+      ap (own_value_by m'.file m'.header.fields p) (ap (λ s. entry (in_memory m') m'.header.fields (p / s)) (ap (λ (H : Header). cluster_size H.fields) quiet.shows.moved.2) ∙ quiet-entries m m' handed taken sound sound' quiet (p / cluster_size m.header.fields))
+      ∙ ap (λ (H : Header). own_value_by m'.file H.fields p (entry (in_memory m) m.header.fields (p / cluster_size m.header.fields))) quiet.shows.moved.2
+      ∙ value-same m.file m'.file m.header.fields p (entry (in_memory m) m.header.fields (p / cluster_size m.header.fields)) (λ d copied is.
+      byte-there m sound m'.file quiet.shows.moved.0 quiet.shows.moved.1 (subst (ShowsEither m m'.file) quiet.shows.moved.2 quiet.shows) p d copied
+      (file-entry (p / cluster_size m.header.fields) ∙ is))

@@ -26,7 +26,7 @@ use Rattle.qcow2_steps.specs.Words.{ChangesWord, DropsNames, GivesWord, IsOfOthe
 use Rattle.qcow2_steps.proofs.StepSums.{advances-then, advances-weaker}
 use Rattle.qcow2_steps.proofs.DataRuns.{beside-sound, beside-used, beside-words}
 use Rattle.qcow2_steps.proofs.Headers.{header-counts, header-same}
-use Rattle.qcow2_steps.proofs.QuietValues.{quiet-entries, quiet-left, quiet-values}
+use Rattle.qcow2_steps.proofs.QuietValues.{clean-values, quiet-entries, quiet-left, quiet-values}
 use Rattle.qcow2_steps.proofs.WordSteps.{dropped-owed, dropped-sound, named-sound, used-after}
 use Rattle.qcow2_steps.proofs.WriteValues.{written-memory, written-stops}
 
@@ -37,6 +37,23 @@ quiet-advances m m' handed taken sound sound' quiet spared = record {
   header = header-counts m.header m'.header quiet.shows.moved;
   file = quiet-left (λ p v. ⊥) m m'.file m'.header sound quiet.shows;
   memory = λ p. inl (quiet-values m m' handed taken sound sound' quiet spared p);
+  words = λ guest. inl (quiet-entries m m' handed taken sound sound' quiet guest);
+  used = used-then m m' handed taken quiet sound sound';
+  waits = quiet.waits;
+  names = λ c used none. quiet-names-no-more m m' handed taken quiet c (quiet.apart c used none);
+  kept = λ p used none. inr (in-cluster m.header.fields m.file m'.file p (quiet.kept (p / cluster_size m.header.fields) used none));
+  law = quiet.law;
+}
+
+-- The same whatever is taken, where no word waits in memory.
+pub clean-advances : (m m' : Metadata) (handed taken : ℕ → ℕ) → IsSound m → IsSound m' → IsQuiet handed taken m m'
+    → ((guest : ℕ) → entry m'.file m'.header.fields guest ≡ entry (in_memory m') m'.header.fields guest)
+    → Advances (λ p v. ⊥) (λ q. ⊥) (λ guest. ⊥) handed taken m m'
+clean-advances m m' handed taken sound sound' quiet clean = record {
+  sound = sound';
+  header = header-counts m.header m'.header quiet.shows.moved;
+  file = quiet-left (λ p v. ⊥) m m'.file m'.header sound quiet.shows;
+  memory = λ p. inl (clean-values m m' handed taken sound sound' quiet clean p);
   words = λ guest. inl (quiet-entries m m' handed taken sound sound' quiet guest);
   used = used-then m m' handed taken quiet sound sound';
   waits = quiet.waits;

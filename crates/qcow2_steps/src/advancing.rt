@@ -5,12 +5,13 @@ ghost use Rattle.std.specs.Prelude.{◌≡◌, ◌⊎◌, ◌+◌, ◌<◌, ◌�
 ghost use Rattle.imago_storage.specs.Disk.{Value};
 ghost use Rattle.imago_storage.specs.Steps.{IsIn};
 ghost use Rattle.qcow2_types.specs.Bytes.{Bytes};
+ghost use Rattle.qcow2_types.specs.Entries.{entry};
 ghost use Rattle.qcow2_types.specs.Header.{Header};
 ghost use Rattle.qcow2_types.specs.Pending.{FreeEntry};
 ghost use Rattle.qcow2_types.specs.Words.{Mapping, data_at};
 ghost use Rattle.qcow2_alloc.specs.FreeList.{covers};
 ghost use Rattle.qcow2_alloc.specs.Memory.{Cached};
-ghost use Rattle.qcow2_alloc.specs.Quiet.{Metadata, IsQuiet, IsSound, ShowsEither, counted, covers_metadata, named_at_all, one_at, referenced, waiting};
+ghost use Rattle.qcow2_alloc.specs.Quiet.{Metadata, IsQuiet, IsSound, ShowsEither, counted, covers_metadata, in_memory, named_at_all, one_at, referenced, waiting};
 ghost use Rattle.qcow2_steps.specs.Advancing.{Advances, MayBeLeft};
 ghost use Rattle.qcow2_steps.specs.Data.{AreNamedFor, GivesData, IsHiddenIn, WritesBeside};
 ghost use Rattle.qcow2_steps.specs.Words.{DropsNames, GivesWord, IsOfWord, IsReserved, NamesCluster, names_at};
@@ -54,6 +55,9 @@ pub fn steps_add_up<First: Step, Second: Step>()
 pub fn what_is_quiet_advances()
     ensures quietly { (m m' : Metadata) (handed taken : ℕ → ℕ) → IsSound m → IsSound m' → IsQuiet handed taken m m'
         → ((c : ℕ) → 0 < referenced m c → taken c ≡ 0) → Advances (λ p v. ⊥) (λ q. ⊥) (λ guest. ⊥) handed taken m m' }
+    ensures clean { (m m' : Metadata) (handed taken : ℕ → ℕ) → IsSound m → IsSound m' → IsQuiet handed taken m m'
+        → ((guest : ℕ) → entry m'.file m'.header.fields guest ≡ entry (in_memory m') m'.header.fields guest)
+        → Advances (λ p v. ⊥) (λ q. ⊥) (λ guest. ⊥) handed taken m m' }
     ensures stops { (m : Metadata) (x : Bytes) (H : Header) → IsSound m → ShowsEither m x H → MayBeLeft (λ p v. ⊥) m x H }
 {}
 

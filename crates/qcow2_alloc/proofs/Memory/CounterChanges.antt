@@ -377,3 +377,15 @@ counter-lowered f H cached cached' order key c n safe sets more covers =
     allows Unset enough both = (enough, let le = both.1.lowered c in omega (arith, le, more))
     allows L2DependsOnRb enough first = enough
     allows RbDependsOnL2 enough first = (enough, let le = first.lowered c in omega (arith, le, more))
+
+-- The same to any number that isn't above.
+pub counter-lowered-to : (f : Bytes) (H : Header) (cached cached' : Cached) (order : CacheDependency) (key c n : ℕ) → Safe f H cached order → SetsCounter f H.fields cached key c n cached' → n ≤ count (memory f H.fields cached) H.fields c
+    → IsStillCovered order f (memory f H.fields cached) H.fields c n → CounterChanged f H order cached c n cached'
+counter-lowered-to f H cached cached' order key c n safe sets less covers =
+    let fits = count-fits f H cached order key c sets.block safe sets.caches in
+    counter-sets f H cached cached' order key c n safe sets (omega (arith, fits, less)) (allows order covers safe.ordered)
+  where
+    allows : (o : CacheDependency) → IsStillCovered o f (memory f H.fields cached) H.fields c n → IsOrdered o f (memory f H.fields cached) H.fields → AllowsCount o f (memory f H.fields cached) H.fields c n
+    allows Unset enough both = (enough, let le = both.1.lowered c in omega (arith, le, less))
+    allows L2DependsOnRb enough first = enough
+    allows RbDependsOnL2 enough first = (enough, let le = first.lowered c in omega (arith, le, less))

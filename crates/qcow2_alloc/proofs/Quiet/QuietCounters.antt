@@ -14,8 +14,8 @@ use Rattle.qcow2_alloc.specs.Changes.{SetsCounter, CounterChanged, IsStillCovere
 use Rattle.qcow2_alloc.specs.FreeList.{listed}
 use Rattle.qcow2_alloc.specs.Memory.{Cached}
 use Rattle.qcow2_alloc.specs.Safety.{Safe}
-use Rattle.qcow2_alloc.specs.Quiet.{Metadata, metadata_in, in_memory, counted, referenced, named_at_all, waiting, waiting_metadata, one_at, IsSound, IsQuiet}
-use Rattle.qcow2_alloc.proofs.Memory.CounterChanges.{counter-raised, counter-lowered}
+use Rattle.qcow2_alloc.specs.Quiet.{Metadata, metadata_in, in_memory, counted, referenced, named_at_all, waiting, waiting_metadata, one_at, IsSound, IsQuiet, many_at}
+use Rattle.qcow2_alloc.proofs.Memory.CounterChanges.{counter-raised, counter-lowered, counter-lowered-to}
 use Rattle.qcow2_alloc.proofs.Memory.MemoryWords.{places-in-memory}
 use Rattle.qcow2_alloc.proofs.Quiet.ShownDisks.{file-shows}
 
@@ -151,3 +151,21 @@ hand-out-quiet m key c cached' sound order sets none =
     let raised = counter-raised m.file m.header m.cached cached' key c (subst (λ o. Safe m.file m.header m.cached o) order sound.safe) sets none in
     let quiet = raise-quiet m c cached' sound (subst (λ o. CounterChanged m.file m.header o m.cached c 1 cached') (sym order) raised.0) none in
     (quiet.0, quiet.1, raised.1)
+
+here-many : (c by : ℕ) → many_at c by c ≡ by
+here-many c by = grind (arith, nat_tests)
+
+away-many : (c by d : ℕ) → d ≢ c → many_at c by d ≡ 0
+away-many c by d apart = grind (arith, nat_tests)
+
+-- It is lowered by any number, where what names it and what waits to free it is still covered.
+pub leaked-quiet : (m : Metadata) (key c n by : ℕ) (cached' : Cached) → IsSound m → SetsCounter m.file m.header.fields m.cached key c n cached' → counted m c ≡ n + by → named_at_all m c + waiting m c ≤ n
+    → IsSound (record m { cached = cached' }) × IsQuiet (λ _. 0) (many_at c by) m (record m { cached = cached' })
+leaked-quiet m key c n by cached' sound sets more enough =
+    let places : SamePlaces m.file (in_memory m) m.header.fields = places-in-memory m.file m.header sound.safe.consistent m.cached sound.safe.tables sound.safe.blocks in
+    let le = refs-cached m.file (in_memory m) m.header.fields c places in
+    let covers : IsStillCovered m.order m.file (in_memory m) m.header.fields c n = unnamed-covered m c n sound (omega (arith, enough)) in
+    let changed = counter-lowered-to m.file m.header m.cached cached' m.order key c n sound.safe sets (omega (arith, more)) covers in
+    let here = here-many c by in
+    counter-quiet m c n cached' m.pending (λ _. 0) (many_at c by) sound changed (omega (arith, more, here)) (λ d apart. omega (arith, away-many c by d apart))
+    (omega (arith, le, enough)) (λ d. omega arith) (λ d. omega arith)
